@@ -1,0 +1,1 @@
+// Lists and buffers: what the definitions of all other crates are written with. No functions.
