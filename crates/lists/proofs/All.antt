@@ -126,3 +126,8 @@ in-dec n (x ∷ xs) = decide (ℕ-discrete n x) (in-dec n xs)
     decide (yes e) d = yes (here e)
     decide (no f) (yes i) = yes (there i)
     decide (no f) (no g) = no (neither f g)
+
+-- a list without members is empty
+pub in-none : {A : Type 0} (xs : List A) → ((a : A) → In a xs → ⊥) → xs ≡ []
+in-none [] f = refl
+in-none (x ∷ xs) f = absurd (f x (here refl))

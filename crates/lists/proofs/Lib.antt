@@ -1,2 +1,6 @@
 pub mod All
+pub mod Distinct
+pub mod First
+pub mod Keep
 pub mod Over
+pub mod Rows

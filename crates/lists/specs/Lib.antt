@@ -1,3 +1,5 @@
 pub mod All
 pub mod Choice
+pub mod Distinct
 pub mod Over
+pub mod Rows

@@ -1,0 +1,38 @@
+-- The law of `first`: it lies in the range or at its end, what lies before it does not pass, and it passes where it is not the end.
+use Prim.Native.Nat.{ℕ, zero, suc, _+_, _≤_, _<_}
+use mathlib.Core.Path.{_≡_, refl, sym, _∙_, subst}
+use mathlib.Core.Bool.{Bool, true, false, true≢false}
+use mathlib.Core.Logic.{_⊎_, inl, inr, ⊎-elim}
+use native.Mathlib.Omega.{arith}
+use native.Mathlib.Nat.{eq-or-lt-of-le}
+use lib.Dec.{ltb}
+use borrow.Author.Tests.{ltb-true, ltb-false}
+use Rattle.lists.specs.Rows.{first}
+
+pub record Least (P : ℕ → Bool) (n i k : ℕ) : Type 0 where
+  pub from : i ≤ k
+  pub to : k ≤ i + n
+  pub before : (j : ℕ) → i ≤ j → j < k → P j ≡ false
+  pub passes : k < i + n → P k ≡ true
+
+pub first-least : (P : ℕ → Bool) (n i : ℕ) → Least P n i (first P n i)
+unfolding first
+first-least P zero i = record { from = omega arith; to = omega arith; before = λ j h l. absurd (omega arith); passes = λ h. absurd (omega arith) }
+first-least P (suc n) i = go (P i) refl (first-least P n (suc i))
+  where
+    go : (b : Bool) → P i ≡ b → Least P n (suc i) (first P n (suc i)) → Least P (suc n) i (elim b [ true ↦ i | false ↦ first P n (suc i) ])
+    go true e h = record { from = omega arith; to = omega arith; before = λ j g l. absurd (omega arith); passes = λ l. e }
+    go false e h = record {
+      from = omega (arith, h .from);
+      to = omega (arith, h .to);
+      before = λ j g l. ⊎-elim (λ (q : i ≡ j). subst (λ x. P x ≡ false) q e) (λ (q : i < j). h .before j q l) (eq-or-lt-of-le g);
+      passes = λ l. h .passes (omega arith);
+    }
+
+-- whatever passes comes no earlier
+pub least-at-most : {P : ℕ → Bool} {n i k : ℕ} → Least P n i k → (j : ℕ) → i ≤ j → P j ≡ true → k ≤ j
+least-at-most {k} h j g e = go (ltb j k) refl
+  where
+    go : (b : Bool) → ltb j k ≡ b → k ≤ j
+    go true l = absurd (true≢false (sym e ∙ h .before j g (ltb-true j k l)))
+    go false l = ltb-false j k l
