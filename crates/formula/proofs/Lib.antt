@@ -1,0 +1,12 @@
+pub mod Truth
+pub mod Values
+pub mod Order
+pub mod Division
+pub mod WellDefined
+pub mod Mentions
+pub mod AfterValues
+pub mod Override
+pub mod Sort
+pub mod Choose
+pub mod Examples
+pub mod NoDivision

@@ -1,0 +1,61 @@
+-- A tree's value has the tree's type, whatever its operands are: by cases on the operator.
+use mathlib.Core.Path.{_≡_, refl, sym, ap}
+use mathlib.Core.Bool.{Bool, true, false, cond}
+use Prim.Native.Nat.{ℕ}
+use Rattle.formula.specs.Values.{ValueType, integer, Value, AnyValue, wrap, asValue}
+use Rattle.formula.specs.Tree.{Constant, literal, TRUE, FALSE, top, bottom, Unary, bool, negation, logicalNot, Binary, plus, minus, times}
+use Rattle.formula.specs.Tree.{equal, less, atMost, iff, Division, quotient, remainder, Tree, constant, identifier, after, unary, binary}
+use Rattle.formula.specs.Tree.{division, connective}
+use Rattle.formula.specs.Evaluate.{Env, evaluate, constantValue, unaryValue, binaryValue, divisionDefined, divisionValue, totalDivision}
+use Rattle.formula.specs.Sort.{constantType, unaryType, binaryType, treeType}
+use Rattle.formula.proofs.Values.{as-value-wrap}
+
+-- v is a value of the type t
+abbrev pub HasType : ValueType → AnyValue → Type 0
+HasType t v = v ≡ wrap t (asValue t v)
+
+wrap-type : (t : ValueType) (v : Value t) → HasType t (wrap t v)
+wrap-type t v = ap (wrap t) (sym (as-value-wrap t v))
+
+constant-type : (c : Constant) → HasType (constantType c) (constantValue c)
+constant-type (literal w) = refl
+constant-type TRUE = refl
+constant-type FALSE = refl
+constant-type top = refl
+constant-type bottom = refl
+
+unary-type : (o : Unary) (v : AnyValue) → HasType (unaryType o) (unaryValue o v)
+unary-type bool v = refl
+unary-type negation v = refl
+unary-type logicalNot v = refl
+
+binary-type : (o : Binary) (v w : AnyValue) → HasType (binaryType o) (binaryValue o v w)
+binary-type plus v w = refl
+binary-type minus v w = refl
+binary-type times v w = refl
+binary-type equal v w = refl
+binary-type less v w = refl
+binary-type atMost v w = refl
+binary-type iff v w = refl
+
+division-type : (o : Division) (v w : AnyValue) → HasType integer (totalDivision o v w)
+division-type o v w = either (divisionDefined o v w) (divisionValue o v w) _ (value o) refl
+  where
+    value : (o : Division) → HasType integer (divisionValue o v w)
+    value quotient = refl
+    value remainder = refl
+
+    either : (d : Bool) (x y : AnyValue) → HasType integer x → HasType integer y → HasType integer (cond d x y)
+    either true x y e f = e
+    either false x y e f = f
+
+pub evaluate-type : {type : ℕ → ValueType} (ρ : Env type) (t : Tree) →
+    evaluate ρ t ≡ wrap (treeType type t) (asValue (treeType type t) (evaluate ρ t))
+unfolding evaluate
+evaluate-type ρ (constant c) = constant-type c
+evaluate-type {type} ρ (identifier x) = wrap-type (type x) (ρ .present x)
+evaluate-type {type} ρ (after x) = wrap-type (type x) (ρ .after x)
+evaluate-type ρ (unary o t) = unary-type o (evaluate ρ t)
+evaluate-type ρ (binary o t u) = binary-type o (evaluate ρ t) (evaluate ρ u)
+evaluate-type ρ (division o t u) = division-type o (evaluate ρ t) (evaluate ρ u)
+evaluate-type ρ (connective o t u) = refl

@@ -1,0 +1,8 @@
+pub mod Values
+pub mod Tree
+pub mod Evaluate
+pub mod WellDefined
+pub mod AfterValues
+pub mod Mentions
+pub mod Sort
+pub mod Formula

@@ -1,0 +1,1 @@
+// The meaning of formulas: definitions and laws; nothing runs here.
