@@ -1,0 +1,1 @@
+// 01, Rows: a table's rows as numbers. No functions yet.
