@@ -1,0 +1,2 @@
+pub mod Described
+pub mod Roles

@@ -1,0 +1,104 @@
+-- The machines that a table describes.
+use mathlib.Core.Bool.{Bool, true, false, cond, _&&_}
+use mathlib.Core.List.{List, map}
+use Prim.Native.Nat.{ℕ, zero, suc}
+use lib.Dec.{ltb, eqb}
+use Rattle.lists.specs.Rows.{first, numbers, keep}
+use Rattle.table.specs.Table.{Table, tagged, section, count, kindOf, typeOf, operatorOf, leftOf, rightOf, machineNumber, classOf, refinedBy, isAction}
+use Rattle.formula.specs.Values.{ValueType, integer, boolean}
+use Rattle.formula.specs.Tree.{literal, bottom, Tree, constant, identifier, after, unary, binary, division, connective}
+use Rattle.machine.specs.Machine.{Kind, constantKind, abstractVariable, concreteVariable, abstractParameter, concreteParameter}
+use Rattle.machine.specs.Machine.{Action, unassigned, becomesEqual, becomesSuchThat, Witness, Machine}
+use Rattle.machine.specs.Machine.{Role, abstractInitialisation, abstractOrdinary, concreteInitialisation, refining, convergent}
+use Rattle.machine.specs.Operator.{Operator, literalOf, identifierOf, afterOf, constantOf, unaryOf, binaryOf, divisionOf, connectiveOf, unknown, operatorNumbered}
+
+-- 01: "type: 1 integer, 2 boolean"
+unfoldable pub typeNumbered : ℕ → ValueType
+typeNumbered n = elim (eqb n 2) [ true ↦ boolean | false ↦ integer ]
+
+-- 01: "kind: 1 constant, 2 abstract variable, 3 concrete variable, 4 abstract parameter, 5 concrete parameter"
+unfoldable pub kindNumbered : ℕ → Kind
+kindNumbered n =
+    elim (eqb n 1) [
+      | true ↦ constantKind
+      | false ↦
+          elim (eqb n 2) [
+            | true ↦ abstractVariable
+            | false ↦
+                elim (eqb n 3) [
+                  | true ↦ concreteVariable
+                  | false ↦
+                      elim (eqb n 4) [ true ↦ abstractParameter | false ↦ concreteParameter ]
+                ]
+          ]
+    ]
+
+-- 01: "machine: 1 abstract, 2 concrete; class: 0 initialisation, 1 ordinary, 2 convergent"; the abstract initialisation is event 1
+unfoldable pub roleNumbered : ℕ → ℕ → ℕ → Role
+roleNumbered machine class refined =
+    elim (eqb machine 1) [
+      | true ↦ elim (eqb class 0) [ true ↦ abstractInitialisation | false ↦ abstractOrdinary ]
+      | false ↦ elim (eqb class 0) [ true ↦ concreteInitialisation 1 | false ↦ elim (eqb class 1) [ true ↦ refining refined | false ↦ convergent ] ]
+    ]
+
+-- a node of an operator, its column b and the trees of its operands
+abbrev pub node : Operator → ℕ → Tree → Tree → Tree
+node literalOf b l r = constant (literal b)
+node identifierOf b l r = identifier b
+node afterOf b l r = after b
+node (constantOf c) b l r = constant c
+node (unaryOf o) b l r = unary o l
+node (binaryOf o) b l r = binary o l r
+node (divisionOf o) b l r = division o l r
+node (connectiveOf o) b l r = connective o l r
+node unknown b l r = constant bottom
+
+-- "Operands have smaller numbers than their node": whether x is an earlier node than n
+abbrev pub earlier : ℕ → ℕ → Bool
+earlier n x = ltb 0 x && ltb x n
+
+module _ (t : Table) where
+  -- the tree of a node, to a depth, for which its number is enough; an operand that is no earlier node counts as ⊥
+  unfoldable pub treeTo : ℕ → ℕ → Tree
+  treeTo zero n = constant bottom
+  treeTo (suc depth) n =
+      let l : Tree = elim (earlier n (leftOf t n)) [ true ↦ treeTo depth (leftOf t n) | false ↦ constant bottom ] in
+      let r : Tree = elim (earlier n (rightOf t n)) [ true ↦ treeTo depth (rightOf t n) | false ↦ constant bottom ] in
+      node (operatorNumbered (operatorOf t n)) (leftOf t n) l r
+
+  unfoldable pub treeOf : ℕ → Tree
+  treeOf n = treeTo n n
+
+  -- the rows 51 and 52 that set a variable of an event, and the first of them
+  abbrev pub sets : ℕ → ℕ → ℕ → Bool
+  sets e x i = isAction t i && (eqb (t .a i) e && eqb (t .b i) x)
+
+  unfoldable pub actionOf : ℕ → ℕ → Action
+  actionOf e x =
+      let i = first (sets e x) (t .size) 0 in
+      elim (ltb i (t .size)) [ true ↦ elim (tagged t 51 i) [ true ↦ becomesEqual (t .c i) | false ↦ becomesSuchThat (t .c i) ] | false ↦ unassigned ]
+
+  -- the rows of a section that belong to an event
+  unfoldable pub belonging : ℕ → ℕ → List ℕ
+  belonging k e = keep (λ i. eqb (t .a i) e) (section t k)
+
+  unfoldable pub identifiersOf : ℕ → List ℕ
+  identifiersOf kind = keep (λ x. eqb (kindOf t x) kind) (numbers (count t 10) 1)
+
+  unfoldable pub machineOf : Machine
+  machineOf = record {
+    type = λ x. typeNumbered (typeOf t x);
+    kind = λ x. kindNumbered (kindOf t x);
+    tree = treeOf;
+    abstractVariables = identifiersOf 2;
+    concreteVariables = identifiersOf 3;
+    axioms = map (t .a) (section t 30);
+    abstractInvariants = map (t .a) (section t 31);
+    concreteInvariants = map (t .a) (section t 32);
+    variants = map (t .a) (section t 70);
+    events = numbers (count t 40) 1;
+    role = λ e. roleNumbered (machineNumber t e) (classOf t e) (refinedBy t e);
+    guards = λ e. map (t .b) (belonging 50 e);
+    action = actionOf;
+    witnesses = λ e. map (λ i. record { target = t .b i; root = t .c i }) (belonging 60 e);
+  }

@@ -1,0 +1,1 @@
+// The machines that a table describes. No functions yet.
