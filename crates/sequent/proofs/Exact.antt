@@ -1,0 +1,328 @@
+-- The list has exactly the required sequents, for every machine: each place of the list is traced to a row of the table, and each row to a place.
+-- The hypotheses of both are equal, role by role (`base-same` and the equations after it); the rest follows membership through ++, map and flatMap.
+use mathlib.Core.Path.{_≡_, refl, sym, ap, ap₂, subst, _∙_}
+use mathlib.Core.Bool.{Bool, true, false, cond}
+use mathlib.Core.List.{List, [], _∷_, _++_, map, append-nil, append-assoc}
+use mathlib.Core.Logic.{_⊎_, _↔_, inl, inr, ⊎-elim}
+use Prim.Native.Nat.{ℕ}
+use Rattle.lists.specs.All.{In, here, there}
+use Rattle.lists.specs.Choice.{pick}
+use Rattle.lists.proofs.All.{in-nil, in-cons, in-left, in-right, in-either, in-map, in-unmap, in-flat, in-unflat}
+use Rattle.machine.specs.Machine.{Action, unassigned, becomesEqual, becomesSuchThat, Witness, Machine}
+use Rattle.machine.specs.Machine.{Role, abstractInitialisation, abstractOrdinary, concreteInitialisation, refining, convergent}
+use Rattle.sequent.specs.Entry.{Entry, written, defined, moves, feasible, natural, decreases, variable}
+use Rattle.sequent.specs.Sequent.{Sequent}
+use Rattle.sequent.specs.Listed.{sequent, WD, FIS, NAT, VAR, inOrder, actionWD, actionFIS, matching, refined}
+use Rattle.sequent.specs.Listed.{allWritten, base, variables, invariants, guarded, moved, witnessEntries, witnessHypotheses, witnessSequents}
+use Rattle.sequent.specs.Listed.{parameterWitnesses, invHypotheses, variantSequents, eventSequents, formulas, sequents}
+use Rattle.sequent.specs.Listed.{grd as grdOf, sim as simOf, inv as invOf}
+use Rattle.sequent.proofs.Parts.{guardWDs, actionWDs, actionFISs, ofWitnesses, grds, sims, nats, vars}
+use Rattle.sequent.proofs.Parts.{fromInvs, fromSims, fromGrds, fromWitnesses, fromFISs, fromActions, eventSequents-parts}
+use Rattle.sequent.specs.Required.{MatchedBy, by-initialisation, by-refined}
+use Rattle.sequent.specs.Required.{asWritten, baseOf, ownVariables, ownInvariants, baseGuards, movesOf, witnessesOf}
+use Rattle.sequent.specs.Required.{Required, wd-formula, wd-variant, wd-guard, wd-action, fis, wd-witness, wfis, grd, sim, inv, inv-convergent, nat, var}
+
+-- a property of sequents depends on their hypotheses only as a list
+under : (P : Sequent → Type 0) {k e i : ℕ} {hs gs : List Entry} {g : Entry} → hs ≡ gs → P (sequent k e i hs g) → P (sequent k e i gs g)
+under P {k} {e} {i} {g = g} h p = subst (λ hs. P (sequent k e i hs g)) h p
+
+pub in-one : {A : Type 0} {a x : A} → In a (x ∷ []) → a ≡ x
+in-one i = ⊎-elim (λ p. p) (λ j. absurd (in-nil j)) (in-cons i)
+
+abbrev IsConvergent : Role → Type 0
+IsConvergent abstractInitialisation = ⊥
+IsConvergent abstractOrdinary = ⊥
+IsConvergent (concreteInitialisation f) = ⊥
+IsConvergent (refining f) = ⊥
+IsConvergent convergent = Unit
+
+other : {ro : Role} → ¬ IsConvergent ro → ¬ (ro ≡ convergent)
+other f p = f (subst IsConvergent (sym p) tt)
+
+-- "those before it": a place of `inOrder` is a place of its formulas
+pub inOrder-split : (e : ℕ) (hs : List Entry) (rs : List ℕ) {s : Sequent} → In s (inOrder e hs rs)
+    → (before : List ℕ) × (r : ℕ) × (rest : List ℕ) × (rs ≡ before ++ (r ∷ rest)) × (s ≡ sequent WD e r (hs ++ asWritten before) (defined r))
+unfolding inOrder
+inOrder-split e hs [] i = absurd (in-nil i)
+inOrder-split e hs (r ∷ rs) {s} i = ⊎-elim first (λ j. later (inOrder-split e (hs ++ (written r ∷ [])) rs j)) (in-cons i)
+  where
+    Place : List Entry → List ℕ → Type 0
+    Place hs rs = (before : List ℕ) × (q : ℕ) × (rest : List ℕ) × (rs ≡ before ++ (q ∷ rest)) × (s ≡ sequent WD e q (hs ++ asWritten before) (defined q))
+
+    first : s ≡ sequent WD e r hs (defined r) → Place hs (r ∷ rs)
+    first p = ([], r, rs, refl, under (λ t. s ≡ t) (sym (append-nil hs)) p)
+
+    later : Place (hs ++ (written r ∷ [])) rs → Place hs (r ∷ rs)
+    later (before, q, rest, p, t) =
+        (r ∷ before, q, rest, ap {B = List ℕ} (λ qs. r ∷ qs) p, under (λ t. s ≡ t) (append-assoc hs (written r ∷ []) (asWritten before)) t)
+
+inOrder-at : (e : ℕ) (hs : List Entry) (before : List ℕ) (r : ℕ) (rest : List ℕ)
+    → In (sequent WD e r (hs ++ asWritten before) (defined r)) (inOrder e hs (before ++ (r ∷ rest)))
+unfolding inOrder
+inOrder-at e hs [] r rest = here (under (λ t. t ≡ sequent WD e r hs (defined r)) (sym (append-nil hs)) refl)
+inOrder-at e hs (q ∷ before) r rest =
+    there (under (λ t. In t (inOrder e (hs ++ (written q ∷ [])) (before ++ (r ∷ rest)))) (append-assoc hs (written q ∷ []) (asWritten before))
+    (inOrder-at e (hs ++ (written q ∷ [])) before r rest))
+
+-- the actions that have a root, and those that have FIS
+pub actionWD-root : {e : ℕ} {hs : List Entry} (a : Action) {s : Sequent} → In s (actionWD e hs a)
+    → (r : ℕ) × ((a ≡ becomesEqual r) ⊎ (a ≡ becomesSuchThat r)) × (s ≡ sequent WD e r hs (defined r))
+actionWD-root unassigned i = absurd (in-nil i)
+actionWD-root (becomesEqual r) i = (r, inl refl, in-one i)
+actionWD-root (becomesSuchThat r) i = (r, inr refl, in-one i)
+
+actionWD-at : {e : ℕ} {hs : List Entry} {a : Action} {r : ℕ} → (a ≡ becomesEqual r) ⊎ (a ≡ becomesSuchThat r)
+    → In (sequent WD e r hs (defined r)) (actionWD e hs a)
+actionWD-at {e} {hs} {r = r} (inl p) = subst (λ a. In (sequent WD e r hs (defined r)) (actionWD e hs a)) (sym p) (here refl)
+actionWD-at {e} {hs} {r = r} (inr p) = subst (λ a. In (sequent WD e r hs (defined r)) (actionWD e hs a)) (sym p) (here refl)
+
+pub actionFIS-such : {e x : ℕ} {hs : List Entry} (a : Action) {s : Sequent} → In s (actionFIS e x hs a)
+    → (r : ℕ) × (a ≡ becomesSuchThat r) × (s ≡ sequent FIS e x hs (feasible e x))
+actionFIS-such unassigned i = absurd (in-nil i)
+actionFIS-such (becomesEqual r) i = absurd (in-nil i)
+actionFIS-such (becomesSuchThat r) i = (r, refl, in-one i)
+
+actionFIS-at : {e x : ℕ} {hs : List Entry} {a : Action} {r : ℕ} → a ≡ becomesSuchThat r → In (sequent FIS e x hs (feasible e x)) (actionFIS e x hs a)
+actionFIS-at {e} {x} {hs} p = subst (λ a. In (sequent FIS e x hs (feasible e x)) (actionFIS e x hs a)) (sym p) (here refl)
+
+-- the abstract event of a role
+refined-role : (ro : Role) {f : ℕ} → In f (refined ro) → ro ≡ refining f
+refined-role abstractInitialisation i = absurd (in-nil i)
+refined-role abstractOrdinary i = absurd (in-nil i)
+refined-role (concreteInitialisation f) i = absurd (in-nil i)
+refined-role (refining f) i = ap refining (sym (in-one i))
+refined-role convergent i = absurd (in-nil i)
+
+refined-at : {ro : Role} {f : ℕ} → ro ≡ refining f → In f (refined ro)
+refined-at {f = f} p = subst (λ ro. In f (refined ro)) (sym p) (here refl)
+
+matching-role : (ro : Role) {f : ℕ} → In f (matching ro) → MatchedBy f ro
+matching-role abstractInitialisation i = absurd (in-nil i)
+matching-role abstractOrdinary i = absurd (in-nil i)
+matching-role (concreteInitialisation f) i = subst (λ g. MatchedBy g (concreteInitialisation f)) (sym (in-one i)) by-initialisation
+matching-role (refining f) i = subst (λ g. MatchedBy g (refining f)) (sym (in-one i)) by-refined
+matching-role convergent i = absurd (in-nil i)
+
+matching-at : {ro : Role} {f : ℕ} → MatchedBy f ro → In f (matching ro)
+matching-at by-initialisation = here refl
+matching-at by-refined = here refl
+
+module _ (m : Machine) where
+  base-same : (ro : Role) → baseOf m ro ≡ base m ro
+  base-same abstractInitialisation = append-nil (asWritten (m .axioms))
+  base-same abstractOrdinary = ap (λ hs. asWritten (m .axioms) ++ hs) (append-nil (asWritten (m .abstractInvariants)))
+  base-same (concreteInitialisation f) = append-nil (asWritten (m .axioms))
+  base-same (refining f) = refl
+  base-same convergent = refl
+
+  variables-same : (ro : Role) → ownVariables m ro ≡ variables m ro
+  variables-same abstractInitialisation = refl
+  variables-same abstractOrdinary = refl
+  variables-same (concreteInitialisation f) = refl
+  variables-same (refining f) = refl
+  variables-same convergent = refl
+
+  invariants-same : (ro : Role) → ownInvariants m ro ≡ invariants m ro
+  invariants-same abstractInitialisation = refl
+  invariants-same abstractOrdinary = refl
+  invariants-same (concreteInitialisation f) = refl
+  invariants-same (refining f) = refl
+  invariants-same convergent = refl
+
+  inv-hypotheses : (ro : Role) (e : ℕ)
+      → ((ro ≡ convergent) × (invHypotheses m ro e ≡ moved m ro e ++ map (moves e) (m .abstractVariables)))
+      ⊎ ((¬ (ro ≡ convergent)) × (invHypotheses m ro e ≡ moved m ro e ++ witnessEntries m (m .witnesses e)))
+  inv-hypotheses abstractInitialisation e = inr (other (λ x. x), refl)
+  inv-hypotheses abstractOrdinary e = inr (other (λ x. x), refl)
+  inv-hypotheses (concreteInitialisation f) e = inr (other (λ x. x), refl)
+  inv-hypotheses (refining f) e = inr (other (λ x. x), refl)
+  inv-hypotheses convergent e = inl (refl, refl)
+
+  variant-role : (ro : Role) {e : ℕ} {s : Sequent} → In s (variantSequents m ro e)
+      → (ro ≡ convergent) × (r : ℕ) × In r (m .variants)
+      × ((s ≡ sequent NAT e r (guarded m ro e) (natural r)) ⊎ (s ≡ sequent VAR e r (moved m ro e) (decreases r)))
+  variant-role abstractInitialisation i = absurd (in-nil i)
+  variant-role abstractOrdinary i = absurd (in-nil i)
+  variant-role (concreteInitialisation f) i = absurd (in-nil i)
+  variant-role (refining f) i = absurd (in-nil i)
+  variant-role convergent {e} {s} i =
+      ⊎-elim
+      (λ j. let (r, k, p) = in-unmap _ (m .variants) j in (refl, r, k, inl p))
+      (λ j. let (r, k, p) = in-unmap _ (m .variants) j in (refl, r, k, inr p))
+      (in-either (nats m convergent e) i)
+
+  -- the hypotheses of an event's sequents, required and listed
+  module _ (e : ℕ) where
+    abbrev role : Role
+    role = m .role e
+
+    guarded-same : baseGuards m e ≡ guarded m role e
+    guarded-same = ap (λ hs. hs ++ asWritten (m .guards e)) (base-same role)
+
+    moved-same : baseGuards m e ++ movesOf m e ≡ moved m role e
+    moved-same = ap₂ (λ (hs : List Entry) (gs : List Entry). hs ++ gs) guarded-same (ap (map (moves e)) (variables-same role))
+
+    witness-same : (w : Witness) → baseGuards m e ++ pick (variable m (w .target)) (movesOf m e) [] ≡ witnessHypotheses m role e w
+    witness-same w = by-target (variable m (w .target))
+      where
+        by-target : (v : Bool) → baseGuards m e ++ pick v (movesOf m e) [] ≡ cond v (moved m role e) (guarded m role e)
+        by-target true = moved-same
+        by-target false = append-nil (baseGuards m e) ∙ guarded-same
+
+  -- a sequent is required if its hypotheses are those of a required one, written another way; likewise listed
+  required-as : {k e i : ℕ} {hs gs : List Entry} {g : Entry} {s : Sequent} → s ≡ sequent k e i gs g → hs ≡ gs → Required m (sequent k e i hs g) → Required m s
+  required-as p h q = subst (Required m) (sym p) (under (Required m) h q)
+
+  listed-as : {k e i : ℕ} {hs gs : List Entry} {g : Entry} → hs ≡ gs → In (sequent k e i gs g) (sequents m) → In (sequent k e i hs g) (sequents m)
+  listed-as h i = under (λ t. In t (sequents m)) (sym h) i
+
+  -- every listed sequent of an event is required
+  module _ {e : ℕ} (at : In e (m .events)) {s : Sequent} where
+    guard-required : In s (guardWDs m (m .role e) e) → Required m s
+    guard-required i =
+        let (before, r, rest, p, q) = inOrder-split e (base m (m .role e)) (m .guards e) i in
+        required-as q (ap (λ hs. hs ++ asWritten before) (base-same (m .role e))) (wd-guard before rest at p)
+
+    action-required : In s (actionWDs m (m .role e) e) → Required m s
+    action-required i =
+        let (x, j, k) = in-unflat _ (variables m (m .role e)) i in
+        let (r, a, p) = actionWD-root (m .action e x) k in
+        required-as p (guarded-same e) (wd-action at (subst (In x) (sym (variables-same (m .role e))) j) a)
+
+    feasible-required : In s (actionFISs m (m .role e) e) → Required m s
+    feasible-required i =
+        let (x, j, k) = in-unflat _ (variables m (m .role e)) i in
+        let (r, a, p) = actionFIS-such (m .action e x) k in
+        required-as p (guarded-same e) (fis at (subst (In x) (sym (variables-same (m .role e))) j) a)
+
+    witness-required : In s (ofWitnesses m (m .role e) e) → Required m s
+    witness-required i =
+        let (w, j, k) = in-unflat (witnessSequents m (m .role e) e) (m .witnesses e) i in
+        ⊎-elim
+        (λ p. required-as p (witness-same e w) (wd-witness at j))
+        (λ l. required-as (in-one l) (witness-same e w) (wfis at j))
+        (in-cons k)
+
+    grd-required : In s (grds m (m .role e) e) → Required m s
+    grd-required i =
+        let (f, j, k) = in-unflat (grdOf m (m .role e) e) (refined (m .role e)) i in
+        let (r, l, p) = in-unmap _ (m .guards f) k in
+        required-as p (ap (λ hs. hs ++ witnessEntries m (parameterWitnesses m e)) (guarded-same e)) (grd at (refined-role (m .role e) j) l)
+
+    sim-required : In s (sims m (m .role e) e) → Required m s
+    sim-required i =
+        let (f, j, k) = in-unflat (simOf m (m .role e) e) (matching (m .role e)) i in
+        let (x, l, p) = in-unmap _ (m .abstractVariables) k in
+        required-as p (ap (λ hs. hs ++ witnessesOf m e) (moved-same e)) (sim at (matching-role (m .role e) j) l)
+
+    inv-required : In s (invOf m (m .role e) e) → Required m s
+    inv-required i =
+        let (r, j, p) = in-unmap _ (invariants m (m .role e)) i in
+        let own : In r (ownInvariants m (m .role e)) = subst (In r) (sym (invariants-same (m .role e))) j in
+        ⊎-elim
+        (λ c. required-as p (ap (λ hs. hs ++ map (moves e) (m .abstractVariables)) (moved-same e) ∙ sym (c .1)) (inv-convergent at (c .0) own))
+        (λ c. required-as p (ap (λ hs. hs ++ witnessesOf m e) (moved-same e) ∙ sym (c .1)) (inv at (c .0) own))
+        (inv-hypotheses (m .role e) e)
+
+    variant-required : In s (variantSequents m (m .role e) e) → Required m s
+    variant-required i =
+        let (c, r, j, k) = variant-role (m .role e) i in
+        ⊎-elim
+        (λ p. required-as p (guarded-same e) (nat at c j))
+        (λ p. required-as p (moved-same e) (var at c j))
+        k
+
+    event-required : In s (eventSequents m e (m .role e)) → Required m s
+    event-required i =
+        ⊎-elim guard-required (λ i. ⊎-elim action-required (λ i. ⊎-elim feasible-required (λ i. ⊎-elim witness-required
+        (λ i. ⊎-elim grd-required (λ i. ⊎-elim sim-required (λ i. ⊎-elim inv-required variant-required
+        (in-either (invOf m (m .role e) e) i)) (in-either (sims m (m .role e) e) i)) (in-either (grds m (m .role e) e) i))
+        (in-either (ofWitnesses m (m .role e) e) i)) (in-either (actionFISs m (m .role e) e) i)) (in-either (actionWDs m (m .role e) e) i))
+        (in-either (guardWDs m (m .role e) e) (subst (In s) (eventSequents-parts m (m .role e) e) i))
+
+  pub listed-required : {s : Sequent} → In s (sequents m) → Required m s
+  unfolding sequents
+  listed-required {s} i =
+      ⊎-elim
+      (λ j. let (before, r, rest, p, q) = inOrder-split 0 [] (formulas m) j in subst (Required m) (sym q) (wd-formula before rest p))
+      (λ j. ⊎-elim
+      (λ k. let (r, l, p) = in-unmap _ (m .variants) k in subst (Required m) (sym p) (wd-variant l))
+      (λ k. let (e, l, n) = in-unflat _ (m .events) k in event-required l n)
+      (in-either (map (λ r. sequent WD 0 r (allWritten m (formulas m)) (defined r)) (m .variants)) j))
+      (in-either (inOrder 0 [] (formulas m)) i)
+
+  -- every required sequent of an event is listed
+  module _ {e : ℕ} (at : In e (m .events)) {s : Sequent} where
+    event-listed : In s (eventSequents m e (m .role e)) → In s (sequents m)
+    unfolding sequents
+    event-listed i =
+        in-right (inOrder 0 [] (formulas m))
+        (in-right (map (λ r. sequent WD 0 r (allWritten m (formulas m)) (defined r)) (m .variants)) (in-flat (λ e. eventSequents m e (m .role e)) at i))
+
+    guards-listed : In s (guardWDs m (m .role e) e ++ fromActions m (m .role e) e) → In s (sequents m)
+    guards-listed i = event-listed (subst (In s) (sym (eventSequents-parts m (m .role e) e)) i)
+
+    actions-listed : In s (fromActions m (m .role e) e) → In s (sequents m)
+    actions-listed i = guards-listed (in-right (guardWDs m (m .role e) e) i)
+
+    fiss-listed : In s (fromFISs m (m .role e) e) → In s (sequents m)
+    fiss-listed i = actions-listed (in-right (actionWDs m (m .role e) e) i)
+
+    witnesses-listed : In s (fromWitnesses m (m .role e) e) → In s (sequents m)
+    witnesses-listed i = fiss-listed (in-right (actionFISs m (m .role e) e) i)
+
+    grds-listed : In s (fromGrds m (m .role e) e) → In s (sequents m)
+    grds-listed i = witnesses-listed (in-right (ofWitnesses m (m .role e) e) i)
+
+    sims-listed : In s (fromSims m (m .role e) e) → In s (sequents m)
+    sims-listed i = grds-listed (in-right (grds m (m .role e) e) i)
+
+    invs-listed : In s (fromInvs m (m .role e) e) → In s (sequents m)
+    invs-listed i = sims-listed (in-right (sims m (m .role e) e) i)
+
+    variants-listed : In s (variantSequents m (m .role e) e) → In s (sequents m)
+    variants-listed i = invs-listed (in-right (invOf m (m .role e) e) i)
+
+  variants-at : {ro : Role} (e : ℕ) {s : Sequent} → ro ≡ convergent → In s (nats m ro e ++ vars m ro e) → In s (variantSequents m ro e)
+  variants-at e {s} c i =
+      subst (λ ro. In s (variantSequents m ro e)) (sym c) (subst (λ ro. In s (nats m ro e ++ vars m ro e)) c i)
+
+  pub required-listed : {s : Sequent} → Required m s → In s (sequents m)
+  unfolding sequents
+  required-listed (wd-formula before {r} rest p) =
+      in-left _ (subst (λ rs. In (sequent WD 0 r (asWritten before) (defined r)) (inOrder 0 [] rs)) (sym p) (inOrder-at 0 [] before r rest))
+  required-listed (wd-variant i) = in-right (inOrder 0 [] (formulas m)) (in-left _ (in-map _ i))
+  required-listed (wd-guard {e} before {r} rest at p) =
+      listed-as (ap (λ hs. hs ++ asWritten before) (base-same (m .role e)))
+      (guards-listed at (in-left _
+      (subst (λ rs. In (sequent WD e r (base m (m .role e) ++ asWritten before) (defined r)) (inOrder e (base m (m .role e)) rs)) (sym p)
+      (inOrder-at e (base m (m .role e)) before r rest))))
+  required-listed (wd-action {e} {x} at i a) =
+      listed-as (guarded-same e) (actions-listed at (in-left _ (in-flat _ (subst (In x) (variables-same (m .role e)) i) (actionWD-at a))))
+  required-listed (fis {e} {x} at i a) =
+      listed-as (guarded-same e) (fiss-listed at (in-left _ (in-flat _ (subst (In x) (variables-same (m .role e)) i) (actionFIS-at a))))
+  required-listed (wd-witness {e} {w} at i) =
+      listed-as (witness-same e w) (witnesses-listed at (in-left _ (in-flat (witnessSequents m (m .role e) e) i (here refl))))
+  required-listed (wfis {e} {w} at i) =
+      listed-as (witness-same e w) (witnesses-listed at (in-left _ (in-flat (witnessSequents m (m .role e) e) i (there (here refl)))))
+  required-listed (grd {e} at c i) =
+      listed-as (ap (λ hs. hs ++ witnessEntries m (parameterWitnesses m e)) (guarded-same e))
+      (grds-listed at (in-left _ (in-flat (grdOf m (m .role e) e) (refined-at c) (in-map _ i))))
+  required-listed (sim {e} at c i) =
+      listed-as (ap (λ hs. hs ++ witnessesOf m e) (moved-same e))
+      (sims-listed at (in-left _ (in-flat (simOf m (m .role e) e) (matching-at c) (in-map _ i))))
+  required-listed (inv {e} {r} at c i) =
+      listed-as
+      (ap (λ hs. hs ++ witnessesOf m e) (moved-same e) ∙ ⊎-elim (λ k. absurd (c (k .0))) (λ k. sym (k .1)) (inv-hypotheses (m .role e) e))
+      (invs-listed at (in-left _ (in-map _ (subst (In r) (invariants-same (m .role e)) i))))
+  required-listed (inv-convergent {e} {r} at c i) =
+      listed-as
+      (ap (λ hs. hs ++ map (moves e) (m .abstractVariables)) (moved-same e)
+      ∙ ⊎-elim (λ k. sym (k .1)) (λ k. absurd (k .0 c)) (inv-hypotheses (m .role e) e))
+      (invs-listed at (in-left _ (in-map _ (subst (In r) (invariants-same (m .role e)) i))))
+  required-listed (nat {e} at c i) = listed-as (guarded-same e) (variants-listed at (variants-at e c (in-left _ (in-map _ i))))
+  required-listed (var {e} at c i) =
+      listed-as (moved-same e) (variants-listed at (variants-at e c (in-right (nats m (m .role e) e) (in-map _ i))))
+
+  pub listed-exactly : {s : Sequent} → In s (sequents m) ↔ Required m s
+  listed-exactly = (listed-required, required-listed)

@@ -1,0 +1,57 @@
+-- Names for the parts of an event's sequents, in the list's order, for the laws that go part by part.
+use mathlib.Core.Path.{_≡_, refl}
+use mathlib.Core.List.{List, _++_, map, flatMap}
+use Prim.Native.Nat.{ℕ}
+use Rattle.machine.specs.Machine.{Role, Machine}
+use Rattle.sequent.specs.Entry.{natural, decreases}
+use Rattle.sequent.specs.Sequent.{Sequent}
+use Rattle.sequent.specs.Listed.{sequent, NAT, VAR, inOrder, actionWD, actionFIS, matching, refined, base, variables, guarded, moved}
+use Rattle.sequent.specs.Listed.{witnessSequents, grd, sim, inv, variantSequents, eventSequents}
+
+module _ (m : Machine) (ro : Role) (e : ℕ) where
+  abbrev pub guardWDs : List Sequent
+  guardWDs = inOrder e (base m ro) (m .guards e)
+
+  abbrev pub actionWDs : List Sequent
+  actionWDs = flatMap (λ x. actionWD e (guarded m ro e) (m .action e x)) (variables m ro)
+
+  abbrev pub actionFISs : List Sequent
+  actionFISs = flatMap (λ x. actionFIS e x (guarded m ro e) (m .action e x)) (variables m ro)
+
+  abbrev pub ofWitnesses : List Sequent
+  ofWitnesses = flatMap (witnessSequents m ro e) (m .witnesses e)
+
+  abbrev pub grds : List Sequent
+  grds = flatMap (grd m ro e) (refined ro)
+
+  abbrev pub sims : List Sequent
+  sims = flatMap (sim m ro e) (matching ro)
+
+  abbrev pub nats : List Sequent
+  nats = map (λ r. sequent NAT e r (guarded m ro e) (natural r)) (m .variants)
+
+  abbrev pub vars : List Sequent
+  vars = map (λ r. sequent VAR e r (moved m ro e) (decreases r)) (m .variants)
+
+  -- what stands from a part on
+  abbrev pub fromInvs : List Sequent
+  fromInvs = inv m ro e ++ variantSequents m ro e
+
+  abbrev pub fromSims : List Sequent
+  fromSims = sims ++ fromInvs
+
+  abbrev pub fromGrds : List Sequent
+  fromGrds = grds ++ fromSims
+
+  abbrev pub fromWitnesses : List Sequent
+  fromWitnesses = ofWitnesses ++ fromGrds
+
+  abbrev pub fromFISs : List Sequent
+  fromFISs = actionFISs ++ fromWitnesses
+
+  abbrev pub fromActions : List Sequent
+  fromActions = actionWDs ++ fromFISs
+
+  pub eventSequents-parts : eventSequents m e ro ≡ guardWDs ++ fromActions
+  unfolding eventSequents
+  eventSequents-parts = refl

@@ -1,0 +1,4 @@
+pub mod Entry
+pub mod Sequent
+pub mod Listed
+pub mod Required

@@ -1,0 +1,171 @@
+-- 01, Sequents: the hypotheses and goals of each kind, and the order of the list.
+use mathlib.Core.Bool.{Bool, true, false, not, cond}
+use mathlib.Core.List.{List, [], _∷_, _++_, map, flatMap}
+use Prim.Native.Nat.{ℕ}
+use Rattle.lists.specs.Rows.{keep}
+use Rattle.machine.specs.Machine.{Action, unassigned, becomesEqual, becomesSuchThat, Witness, Machine}
+use Rattle.machine.specs.Machine.{Role, abstractInitialisation, abstractOrdinary, concreteInitialisation, refining, convergent}
+use Rattle.sequent.specs.Entry.{Entry, written, primed, defined, moves, feasible, witnessed, natural, decreases, variable}
+use Rattle.sequent.specs.Sequent.{Sequent}
+
+abbrev pub sequent : ℕ → ℕ → ℕ → List Entry → Entry → Sequent
+sequent k e i hs g = record { kind = k; event = e; item = i; hypotheses = hs; goal = g }
+
+-- 01, the numbers of the kinds: 1 WD, 2 INV, 3 FIS, 4 GRD, 5 SIM, 6 WFIS, 7 NAT, 8 VAR
+abbrev pub WD : ℕ
+WD = 1
+
+abbrev pub INV : ℕ
+INV = 2
+
+abbrev pub FIS : ℕ
+FIS = 3
+
+abbrev pub GRD : ℕ
+GRD = 4
+
+abbrev pub SIM : ℕ
+SIM = 5
+
+abbrev pub WFIS : ℕ
+WFIS = 6
+
+abbrev pub NAT : ℕ
+NAT = 7
+
+abbrev pub VAR : ℕ
+VAR = 8
+
+-- "WD of axiom, invariant: those before it", "WD of guard: base, earlier guards": each formula under the hypotheses and those before it
+unfoldable pub inOrder : ℕ → List Entry → List ℕ → List Sequent
+inOrder e hs [] = []
+inOrder e hs (r ∷ rs) = sequent WD e r hs (defined r) ∷ inOrder e (hs ++ (written r ∷ [])) rs
+
+-- "WD of action: base, guards"
+abbrev pub actionWD : ℕ → List Entry → Action → List Sequent
+actionWD e hs unassigned = []
+actionWD e hs (becomesEqual r) = sequent WD e r hs (defined r) ∷ []
+actionWD e hs (becomesSuchThat r) = sequent WD e r hs (defined r) ∷ []
+
+-- "FIS (52 only): base, guards"
+abbrev pub actionFIS : ℕ → ℕ → List Entry → Action → List Sequent
+actionFIS e x hs unassigned = []
+actionFIS e x hs (becomesEqual r) = []
+actionFIS e x hs (becomesSuchThat r) = sequent FIS e x hs (feasible e x) ∷ []
+
+-- the abstract event that an event's steps are matched by, and the one that it refines
+abbrev pub matching : Role → List ℕ
+matching abstractInitialisation = []
+matching abstractOrdinary = []
+matching (concreteInitialisation f) = f ∷ []
+matching (refining f) = f ∷ []
+matching convergent = []
+
+abbrev pub refined : Role → List ℕ
+refined abstractInitialisation = []
+refined abstractOrdinary = []
+refined (concreteInitialisation f) = []
+refined (refining f) = f ∷ []
+refined convergent = []
+
+module _ (m : Machine) where
+  abbrev pub allWritten : List ℕ → List Entry
+  allWritten rs = map written rs
+
+  -- "Base hypotheses: the axioms; then, except for initialisations, the abstract invariants and, for concrete events, the concrete ones."
+  abbrev pub base : Role → List Entry
+  base abstractInitialisation = allWritten (m .axioms)
+  base abstractOrdinary = allWritten (m .axioms) ++ allWritten (m .abstractInvariants)
+  base (concreteInitialisation f) = allWritten (m .axioms)
+  base (refining f) = allWritten (m .axioms) ++ (allWritten (m .abstractInvariants) ++ allWritten (m .concreteInvariants))
+  base convergent = allWritten (m .axioms) ++ (allWritten (m .abstractInvariants) ++ allWritten (m .concreteInvariants))
+
+  -- the variables and the invariants of an event's own machine
+  abbrev pub variables : Role → List ℕ
+  variables abstractInitialisation = m .abstractVariables
+  variables abstractOrdinary = m .abstractVariables
+  variables (concreteInitialisation f) = m .concreteVariables
+  variables (refining f) = m .concreteVariables
+  variables convergent = m .concreteVariables
+
+  abbrev pub invariants : Role → List ℕ
+  invariants abstractInitialisation = m .abstractInvariants
+  invariants abstractOrdinary = m .abstractInvariants
+  invariants (concreteInitialisation f) = m .concreteInvariants
+  invariants (refining f) = m .concreteInvariants
+  invariants convergent = m .concreteInvariants
+
+  -- "base, guards"
+  abbrev pub guarded : Role → ℕ → List Entry
+  guarded ro e = base ro ++ allWritten (m .guards e)
+
+  -- "'Moves' means form 4 of the event for its machine's variables in identifier order."
+  abbrev pub moved : Role → ℕ → List Entry
+  moved ro e = guarded ro e ++ map (moves e) (variables ro)
+
+  abbrev pub witnessEntries : List Witness → List Entry
+  witnessEntries ws = map (λ w. written (w .root)) ws
+
+  -- "base, guards, and moves for a variable witness"
+  abbrev pub witnessHypotheses : Role → ℕ → Witness → List Entry
+  witnessHypotheses ro e w = cond (variable m (w .target)) (moved ro e) (guarded ro e)
+
+  -- "each witness's WD then WFIS"
+  abbrev pub witnessSequents : Role → ℕ → Witness → List Sequent
+  witnessSequents ro e w =
+      sequent WD e (w .root) (witnessHypotheses ro e w) (defined (w .root))
+      ∷ (sequent WFIS e (w .target) (witnessHypotheses ro e w) (witnessed e (w .target)) ∷ [])
+
+  -- "GRD, each abstract guard: base, guards, parameter witnesses"
+  abbrev pub parameterWitnesses : ℕ → List Witness
+  parameterWitnesses e = keep (λ w. not (variable m (w .target))) (m .witnesses e)
+
+  abbrev pub grd : Role → ℕ → ℕ → List Sequent
+  grd ro e f = map (λ r. sequent GRD e r (guarded ro e ++ witnessEntries (parameterWitnesses e)) (written r)) (m .guards f)
+
+  -- "SIM, each abstract variable: base, guards, moves, witnesses", goal "4 of the abstract event"
+  abbrev pub sim : Role → ℕ → ℕ → List Sequent
+  sim ro e f = map (λ x. sequent SIM e x (moved ro e ++ witnessEntries (m .witnesses e)) (moves f x)) (m .abstractVariables)
+
+  -- "INV: base, guards, moves, witnesses; for a convergent event form 4 of each abstract variable instead of witnesses"
+  abbrev pub invHypotheses : Role → ℕ → List Entry
+  invHypotheses abstractInitialisation e = moved abstractInitialisation e ++ witnessEntries (m .witnesses e)
+  invHypotheses abstractOrdinary e = moved abstractOrdinary e ++ witnessEntries (m .witnesses e)
+  invHypotheses (concreteInitialisation f) e = moved (concreteInitialisation f) e ++ witnessEntries (m .witnesses e)
+  invHypotheses (refining f) e = moved (refining f) e ++ witnessEntries (m .witnesses e)
+  invHypotheses convergent e = moved convergent e ++ map (moves e) (m .abstractVariables)
+
+  abbrev pub inv : Role → ℕ → List Sequent
+  inv ro e = map (λ r. sequent INV e r (invHypotheses ro e) (primed r)) (invariants ro)
+
+  -- "NAT; VAR (convergent): base, guards; VAR also moves"
+  abbrev pub variantSequents : Role → ℕ → List Sequent
+  variantSequents abstractInitialisation e = []
+  variantSequents abstractOrdinary e = []
+  variantSequents (concreteInitialisation f) e = []
+  variantSequents (refining f) e = []
+  variantSequents convergent e =
+      map (λ r. sequent NAT e r (guarded convergent e) (natural r)) (m .variants)
+      ++ map (λ r. sequent VAR e r (moved convergent e) (decreases r)) (m .variants)
+
+  -- "event by event: WD of guards, of actions by variable, FIS by variable, each witness's WD then WFIS, GRD, SIM, INV, NAT, VAR"
+  unfoldable pub eventSequents : ℕ → Role → List Sequent
+  eventSequents e ro =
+      inOrder e (base ro) (m .guards e)
+      ++ (flatMap (λ x. actionWD e (guarded ro e) (m .action e x)) (variables ro)
+      ++ (flatMap (λ x. actionFIS e x (guarded ro e) (m .action e x)) (variables ro)
+      ++ (flatMap (witnessSequents ro e) (m .witnesses e)
+      ++ (flatMap (grd ro e) (refined ro)
+      ++ (flatMap (sim ro e) (matching ro)
+      ++ (inv ro e
+      ++ variantSequents ro e))))))
+
+  -- "Order: WD of axioms, invariants, variant; then event by event"
+  abbrev pub formulas : List ℕ
+  formulas = m .axioms ++ (m .abstractInvariants ++ m .concreteInvariants)
+
+  unfoldable pub sequents : List Sequent
+  sequents =
+      inOrder 0 [] formulas
+      ++ (map (λ r. sequent WD 0 r (allWritten formulas) (defined r)) (m .variants)
+      ++ flatMap (λ e. eventSequents e (m .role e)) (m .events))

@@ -1,0 +1,116 @@
+-- The sequents that the published obligations require of a machine and its refinement: 01's table "Sequents" row by row, with the hypotheses and goals of
+-- document 004. A relation: it says which sequents there are, of which events, and nothing of how a list of them is made.
+use mathlib.Core.Path.{_≡_}
+use mathlib.Core.Bool.{Bool, true, false, not}
+use mathlib.Core.List.{List, [], _∷_, _++_, map}
+use mathlib.Core.Logic.{_⊎_}
+use Prim.Native.Nat.{ℕ}
+use Rattle.lists.specs.All.{In}
+use Rattle.lists.specs.Choice.{pick}
+use Rattle.lists.specs.Rows.{keep}
+use Rattle.machine.specs.Machine.{becomesEqual, becomesSuchThat, Witness, Machine}
+use Rattle.machine.specs.Machine.{Role, abstractInitialisation, abstractOrdinary, concreteInitialisation, refining, convergent}
+use Rattle.sequent.specs.Entry.{Entry, written, primed, defined, moves, feasible, witnessed, natural, decreases, variable}
+use Rattle.sequent.specs.Sequent.{Sequent}
+use Rattle.sequent.specs.Listed.{sequent, WD, INV, FIS, GRD, SIM, WFIS, NAT, VAR}
+
+abbrev pub isInitialisation : Role → Bool
+isInitialisation abstractInitialisation = true
+isInitialisation abstractOrdinary = false
+isInitialisation (concreteInitialisation f) = true
+isInitialisation (refining f) = false
+isInitialisation convergent = false
+
+abbrev pub isConcrete : Role → Bool
+isConcrete abstractInitialisation = false
+isConcrete abstractOrdinary = false
+isConcrete (concreteInitialisation f) = true
+isConcrete (refining f) = true
+isConcrete convergent = true
+
+-- 01, The run: an initialisation is matched by the abstract initialisation, "a concrete ordinary step .. by a step of the event it refines"
+pub data MatchedBy (f : ℕ) : Role → Type 0 where
+  by-initialisation : MatchedBy f (concreteInitialisation f)
+  by-refined : MatchedBy f (refining f)
+
+abbrev pub asWritten : List ℕ → List Entry
+asWritten rs = map written rs
+
+module _ (m : Machine) where
+  -- axioms and invariants "in tag order"
+  abbrev pub axiomsInvariants : List ℕ
+  axiomsInvariants = m .axioms ++ (m .abstractInvariants ++ m .concreteInvariants)
+
+  -- "the axioms; then, except for initialisations, the abstract invariants and, for concrete events, the concrete ones"
+  abbrev pub baseOf : Role → List Entry
+  baseOf ro =
+      asWritten (m .axioms)
+      ++ pick (isInitialisation ro) [] (asWritten (m .abstractInvariants) ++ pick (isConcrete ro) (asWritten (m .concreteInvariants)) [])
+
+  abbrev pub ownVariables : Role → List ℕ
+  ownVariables ro = pick (isConcrete ro) (m .concreteVariables) (m .abstractVariables)
+
+  abbrev pub ownInvariants : Role → List ℕ
+  ownInvariants ro = pick (isConcrete ro) (m .concreteInvariants) (m .abstractInvariants)
+
+  -- "base, guards"
+  abbrev pub baseGuards : ℕ → List Entry
+  baseGuards e = baseOf (m .role e) ++ asWritten (m .guards e)
+
+  -- "'Moves' means form 4 of the event for its machine's variables in identifier order."
+  abbrev pub movesOf : ℕ → List Entry
+  movesOf e = map (moves e) (ownVariables (m .role e))
+
+  abbrev pub witnessesOf : ℕ → List Entry
+  witnessesOf e = map (λ w. written (w .root)) (m .witnesses e)
+
+  abbrev pub parameterWitnessesOf : ℕ → List Entry
+  parameterWitnessesOf e = map (λ w. written (w .root)) (keep (λ w. not (variable m (w .target))) (m .witnesses e))
+
+-- "SIM, GRD and witnesses belong to the concrete initialisation (no GRD) and ordinary concrete events": no other event of an accepted table has witnesses.
+pub data Required (m : Machine) : Sequent → Type 0 where
+  -- "1 WD of axiom, invariant | those before it, in tag order | 3 | root"
+  wd-formula : (before : List ℕ) {r : ℕ} (rest : List ℕ) → axiomsInvariants m ≡ before ++ (r ∷ rest)
+      → Required m (sequent WD 0 r (asWritten before) (defined r))
+  -- "WD of variant | axioms, all invariants | 3 | root"
+  wd-variant : {r : ℕ} → In r (m .variants)
+      → Required m (sequent WD 0 r (asWritten (axiomsInvariants m)) (defined r))
+  -- "WD of guard | base, earlier guards | 3 | root"
+  wd-guard : {e : ℕ} (before : List ℕ) {r : ℕ} (rest : List ℕ) → In e (m .events) → m .guards e ≡ before ++ (r ∷ rest)
+      → Required m (sequent WD e r (baseOf m (m .role e) ++ asWritten before) (defined r))
+  -- "WD of action | base, guards | 3 | root"
+  wd-action : {e x r : ℕ} → In e (m .events) → In x (ownVariables m (m .role e)) → (m .action e x ≡ becomesEqual r) ⊎ (m .action e x ≡ becomesSuchThat r)
+      → Required m (sequent WD e r (baseGuards m e) (defined r))
+  -- "3 FIS (52 only) | base, guards | 5 | variable"
+  fis : {e x r : ℕ} → In e (m .events) → In x (ownVariables m (m .role e)) → m .action e x ≡ becomesSuchThat r
+      → Required m (sequent FIS e x (baseGuards m e) (feasible e x))
+  -- "WD of witness | base, guards, and moves for a variable witness | 3 | root"
+  wd-witness : {e : ℕ} {w : Witness} → In e (m .events) → In w (m .witnesses e)
+      → Required m (sequent WD e (w .root) (baseGuards m e ++ pick (variable m (w .target)) (movesOf m e) []) (defined (w .root)))
+  -- "6 WFIS | base, guards, and moves for a variable witness | 6 | identifier"
+  wfis : {e : ℕ} {w : Witness} → In e (m .events) → In w (m .witnesses e)
+      → Required m (sequent WFIS e (w .target) (baseGuards m e ++ pick (variable m (w .target)) (movesOf m e) []) (witnessed e (w .target)))
+  -- "4 GRD, each abstract guard | base, guards, parameter witnesses | 1 | root"
+  grd : {e f r : ℕ} → In e (m .events) → m .role e ≡ refining f → In r (m .guards f)
+      → Required m (sequent GRD e r (baseGuards m e ++ parameterWitnessesOf m e) (written r))
+  -- "5 SIM, each abstract variable | base, guards, moves, witnesses | 4 of the abstract event | variable"
+  sim : {e f x : ℕ} → In e (m .events) → MatchedBy f (m .role e) → In x (m .abstractVariables)
+      → Required m (sequent SIM e x ((baseGuards m e ++ movesOf m e) ++ witnessesOf m e) (moves f x))
+  -- "2 INV, own machine's invariants | base, guards, moves, witnesses | 2 | root"
+  inv : {e r : ℕ} → In e (m .events) → ¬ (m .role e ≡ convergent) → In r (ownInvariants m (m .role e))
+      → Required m (sequent INV e r ((baseGuards m e ++ movesOf m e) ++ witnessesOf m e) (primed r))
+  -- "for a convergent event form 4 of each abstract variable instead of witnesses"
+  inv-convergent : {e r : ℕ} → In e (m .events) → m .role e ≡ convergent → In r (ownInvariants m (m .role e))
+      → Required m (sequent INV e r ((baseGuards m e ++ movesOf m e) ++ map (moves e) (m .abstractVariables)) (primed r))
+  -- "7 NAT (convergent) | base, guards | 7 | root"
+  nat : {e r : ℕ} → In e (m .events) → m .role e ≡ convergent → In r (m .variants)
+      → Required m (sequent NAT e r (baseGuards m e) (natural r))
+  -- "8 VAR (convergent) | base, guards; VAR also moves | 8 | root"
+  var : {e r : ℕ} → In e (m .events) → m .role e ≡ convergent → In r (m .variants)
+      → Required m (sequent VAR e r (baseGuards m e ++ movesOf m e) (decreases r))
+
+-- the numbers of row 80: "kind, event or 0, item"
+pub record SameHeader (s t : Sequent) : Type 0 where
+  pub kind : s .kind ≡ t .kind
+  pub event : s .event ≡ t .event
+  pub item : s .item ≡ t .item
