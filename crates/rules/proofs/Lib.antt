@@ -1,0 +1,14 @@
+pub mod Accepted
+pub mod Events
+pub mod Identifiers
+pub mod Missing
+pub mod Obeys
+pub mod Once
+pub mod Operators
+pub mod References
+pub mod Separate
+pub mod Sight
+pub mod Sorts
+pub mod Tags
+pub mod Twice
+pub mod Uses

@@ -1,0 +1,6 @@
+pub mod Decoded
+pub mod Tags
+pub mod Sorts
+pub mod Sight
+pub mod Rules
+pub mod Verdict

@@ -1,0 +1,247 @@
+-- 01, Refusals 3 to 12: for each number, whether a row offends, or something is missing.
+use Prim.Native.Nat.{ℕ, zero, suc, _+_, _-_}
+use mathlib.Core.Bool.{Bool, true, false, not, _&&_, _||_, Bool·beq}
+use lib.Dec.{ltb, leb, eqb}
+use Rattle.lists.specs.Rows.{oneIf, countBelow, someBelow}
+use Rattle.table.specs.Table.{Table, tagged, count, named, rowOf, numberIn, isAction, kindOf, typeOf, ownerOf, machineNumber, classOf, refinedBy}
+use Rattle.rules.specs.Tags.{columnsUsed, mostRows}
+use Rattle.rules.specs.Sorts.{Shape, value, anIdentifier, aVariable, none, one, two, unknown, shapeOf, operandSort, operandCount, sortOf, fitting}
+use Rattle.rules.specs.Sight.{hasKind, seesOnly}
+
+module _ (t : Table) where
+  -- 3 tag: "unknown, falling, or unused column not 0"
+  unfoldable pub tagOffends : ℕ → Bool
+  tagOffends i =
+      eqb (columnsUsed (t .tag i)) 0
+      || ((ltb 0 i && ltb (t .tag i) (t .tag (i - 1)))
+      || ((ltb (columnsUsed (t .tag i)) 2 && not (eqb (t .b i) 0))
+      || (ltb (columnsUsed (t .tag i)) 3 && not (eqb (t .c i) 0))))
+
+  -- 4 full: "a row above its limit"; 51 and 52 are counted together
+  abbrev pub countedWith : ℕ → ℕ → Bool
+  countedWith i j = eqb (t .tag j) (t .tag i) || (isAction t i && isAction t j)
+
+  unfoldable pub fullOffends : ℕ → Bool
+  fullOffends i = leb (mostRows (t .tag i)) (countBelow (countedWith i) i)
+
+  -- 5 event: "bad machine, class or refined event; machines out of order; class 0 anywhere but first of its machine"
+  abbrev pub isEvent : ℕ → ℕ → Bool
+  isEvent machine i = tagged t 40 i && eqb (t .a i) machine
+
+  abbrev pub goodMachine : ℕ → Bool
+  goodMachine i = eqb (t .a i) 1 || eqb (t .a i) 2
+
+  -- "class: 0 initialisation, 1 ordinary, 2 convergent (concrete only)"
+  abbrev pub goodClass : ℕ → Bool
+  goodClass i = ltb (t .b i) 2 || (eqb (t .b i) 2 && eqb (t .a i) 2)
+
+  -- "refined event (abstract, class 1) of a concrete ordinary one, else 0"
+  abbrev pub abstractOrdinaryEvent : ℕ → Bool
+  abstractOrdinaryEvent f = named t 40 f && (eqb (machineNumber t f) 1 && eqb (classOf t f) 1)
+
+  abbrev pub goodRefined : ℕ → Bool
+  goodRefined i =
+      elim (eqb (t .a i) 2 && eqb (t .b i) 1) [ true ↦ abstractOrdinaryEvent (t .c i) | false ↦ eqb (t .c i) 0 ]
+
+  -- an abstract event after a concrete one; an initialisation after another event of its machine
+  abbrev pub outOfOrder : ℕ → Bool
+  outOfOrder i = (eqb (t .a i) 1 && someBelow (isEvent 2) i) || (eqb (t .b i) 0 && someBelow (isEvent (t .a i)) i)
+
+  unfoldable pub eventOffends : ℕ → Bool
+  eventOffends i = tagged t 40 i && not (goodMachine i && (goodClass i && (goodRefined i && not (outOfOrder i))))
+
+  -- 6 identifier: "bad kind, type or owner (owner: own machine, class not 0)"
+  abbrev pub ownerEvent : ℕ → ℕ → Bool
+  ownerEvent machine e = named t 40 e && (eqb (machineNumber t e) machine && not (eqb (classOf t e) 0))
+
+  abbrev pub goodOwner : ℕ → Bool
+  goodOwner i =
+      elim (eqb (t .a i) 4) [
+        | true ↦ ownerEvent 1 (t .c i)
+        | false ↦
+            elim (eqb (t .a i) 5) [ true ↦ ownerEvent 2 (t .c i) | false ↦ eqb (t .c i) 0 ]
+      ]
+
+  unfoldable pub identifierOffends : ℕ → Bool
+  identifierOffends i =
+      tagged t 10 i && not ((leb 1 (t .a i) && leb (t .a i) 5) && ((eqb (t .b i) 1 || eqb (t .b i) 2) && goodOwner i))
+
+  -- 7 reference: "unknown operator, nonzero unused node column, or a number that names nothing fitting"
+  -- "operands: an earlier node"
+  abbrev pub earlierNode : ℕ → ℕ → Bool
+  earlierNode i n = leb 1 n && ltb n (numberIn t 20 i)
+
+  abbrev pub namedVariable : ℕ → Bool
+  namedVariable x = named t 10 x && (hasKind t 2 x || hasKind t 3 x)
+
+  abbrev pub goodColumns : Shape → ℕ → Bool
+  goodColumns value i = eqb (t .c i) 0
+  goodColumns anIdentifier i = named t 10 (t .b i) && eqb (t .c i) 0
+  goodColumns aVariable i = namedVariable (t .b i) && eqb (t .c i) 0
+  goodColumns none i = eqb (t .b i) 0 && eqb (t .c i) 0
+  goodColumns one i = earlierNode i (t .b i) && eqb (t .c i) 0
+  goodColumns two i = earlierNode i (t .b i) && earlierNode i (t .c i)
+  goodColumns unknown i = false
+
+  -- "guards: class not 0"
+  abbrev pub guardEvent : ℕ → Bool
+  guardEvent e = named t 40 e && not (eqb (classOf t e) 0)
+
+  -- actions: "event, variable of its machine"
+  abbrev pub actionTarget : ℕ → ℕ → Bool
+  actionTarget e x = named t 40 e && (named t 10 x && hasKind t (1 + machineNumber t e) x)
+
+  -- "witnesses: class 0 or 1, with an abstract variable or a parameter of the refined event"
+  abbrev pub witnessTarget : ℕ → ℕ → Bool
+  witnessTarget e x =
+      (named t 40 e && (eqb (machineNumber t e) 2 && ltb (classOf t e) 2))
+      && (named t 10 x && (hasKind t 2 x || (hasKind t 4 x && eqb (ownerOf t x) (refinedBy t e))))
+
+  -- the root that a row names; 0 where it names none
+  unfoldable pub rootAt : ℕ → ℕ
+  rootAt i =
+      elim (tagged t 30 i || (tagged t 31 i || (tagged t 32 i || tagged t 70 i))) [
+        | true ↦ t .a i
+        | false ↦
+            elim (tagged t 50 i) [
+              | true ↦ t .b i
+              | false ↦
+                  elim (isAction t i || tagged t 60 i) [ true ↦ t .c i | false ↦ 0 ]
+            ]
+      ]
+
+  abbrev pub namesRoot : ℕ → Bool
+  namesRoot i = ltb 20 (t .tag i) && not (tagged t 40 i)
+
+  abbrev pub goodTarget : ℕ → Bool
+  goodTarget i =
+      elim (tagged t 50 i) [
+        | true ↦ guardEvent (t .a i)
+        | false ↦
+            elim (isAction t i) [
+              | true ↦ actionTarget (t .a i) (t .b i)
+              | false ↦
+                  elim (tagged t 60 i) [ true ↦ witnessTarget (t .a i) (t .b i) | false ↦ true ]
+            ]
+      ]
+
+  unfoldable pub referenceOffends : ℕ → Bool
+  referenceOffends i =
+      (tagged t 20 i && not (goodColumns (shapeOf (t .a i)) i))
+      || (namesRoot i && not (goodTarget i && named t 20 (rootAt i)))
+
+  -- 8 sort: "operand or root of the wrong sort"; "= (both integer or both boolean)"
+  abbrev pub goodOperands : ℕ → ℕ → Bool
+  goodOperands zero i = true
+  goodOperands (suc zero) i = fitting t (operandSort (t .a i)) (t .b i)
+  goodOperands (suc (suc n)) i =
+      fitting t (operandSort (t .a i)) (t .b i)
+      && (fitting t (operandSort (t .a i)) (t .c i) && (not (eqb (t .a i) 20) || eqb (sortOf t (t .b i)) (sortOf t (t .c i))))
+
+  -- "Roots are predicates, but 51 takes the variable's type and 70 an integer."
+  unfoldable pub rootSort : ℕ → ℕ
+  rootSort i = elim (tagged t 51 i) [ true ↦ typeOf t (t .b i) | false ↦ elim (tagged t 70 i) [ true ↦ 1 | false ↦ 3 ] ]
+
+  unfoldable pub sortOffends : ℕ → Bool
+  sortOffends i =
+      (tagged t 20 i && not (goodOperands (operandCount (shapeOf (t .a i))) i))
+      || (namesRoot i && not (eqb (sortOf t (rootAt i)) (rootSort i)))
+
+  -- 9 use: "a node without its one use", as an operand or a root
+  abbrev pub usesAt : ℕ → ℕ → ℕ
+  usesAt n i =
+      elim (tagged t 20 i) [
+        | true ↦ oneIf (ltb 0 (operandCount (shapeOf (t .a i))) && eqb (t .b i) n) + oneIf (ltb 1 (operandCount (shapeOf (t .a i))) && eqb (t .c i) n)
+        | false ↦ oneIf (namesRoot i && eqb (rootAt i) n)
+      ]
+
+  unfoldable pub usesTo : ℕ → ℕ → ℕ
+  usesTo n zero = 0
+  usesTo n (suc i) = usesTo n i + usesAt n i
+
+  unfoldable pub useOffends : ℕ → Bool
+  useOffends i = tagged t 20 i && not (eqb (usesTo (numberIn t 20 i) (t .size)) 1)
+
+  -- 10 sight: "a formula mentions what it may not"
+  unfoldable pub sightOffends : ℕ → Bool
+  sightOffends i = namesRoot i && not (seesOnly t i (rootAt i))
+
+  -- 11 twice: "second action or witness for one target"
+  abbrev pub sameTarget : ℕ → ℕ → Bool
+  sameTarget i j = ((isAction t i && isAction t j) || (tagged t 60 i && tagged t 60 j)) && (eqb (t .a j) (t .a i) && eqb (t .b j) (t .b i))
+
+  unfoldable pub twiceOffends : ℕ → Bool
+  twiceOffends i = someBelow (sameTarget i) i
+
+  -- the row i offends against the check of a number from 3 to 11
+  unfoldable pub offends : ℕ → ℕ → Bool
+  offends check i =
+      elim (eqb check 3) [
+        | true ↦ tagOffends i
+        | false ↦
+            elim (eqb check 4) [
+              | true ↦ fullOffends i
+              | false ↦
+                  elim (eqb check 5) [
+                    | true ↦ eventOffends i
+                    | false ↦
+                        elim (eqb check 6) [
+                          | true ↦ identifierOffends i
+                          | false ↦
+                              elim (eqb check 7) [
+                                | true ↦ referenceOffends i
+                                | false ↦
+                                    elim (eqb check 8) [
+                                      | true ↦ sortOffends i
+                                      | false ↦
+                                          elim (eqb check 9) [
+                                            | true ↦ useOffends i
+                                            | false ↦
+                                                elim (eqb check 10) [
+                                                  | true ↦ sightOffends i
+                                                  | false ↦
+                                                      elim (eqb check 11) [ true ↦ twiceOffends i | false ↦ false ]
+                                                ]
+                                          ]
+                                    ]
+                              ]
+                        ]
+                  ]
+            ]
+      ]
+
+  -- 12 missing
+  -- "an initialisation of either machine"
+  abbrev pub initialises : ℕ → ℕ → Bool
+  initialises machine i = isEvent machine i && eqb (t .b i) 0
+
+  -- an action, or a witness, for the target x of the event e
+  abbrev pub assigned : ℕ → ℕ → Bool
+  assigned e x = someBelow (λ i. isAction t i && (eqb (t .a i) e && eqb (t .b i) x)) (t .size)
+
+  abbrev pub hasWitness : ℕ → ℕ → Bool
+  hasWitness e x = someBelow (λ i. tagged t 60 i && (eqb (t .a i) e && eqb (t .b i) x)) (t .size)
+
+  -- "an initial action for a variable": what the event at row i lacks for the identifier at row j
+  abbrev pub lacksAction : ℕ → ℕ → Bool
+  lacksAction i j = (eqb (t .b i) 0 && eqb (t .a j) (1 + t .a i)) && not (assigned (numberIn t 40 i) (numberIn t 10 j))
+
+  -- "a witness (at concrete classes 0 and 1: for each abstract variable, assigned or not, and each parameter of the refined event)"
+  abbrev pub lacksWitness : ℕ → ℕ → Bool
+  lacksWitness i j =
+      ((eqb (t .a i) 2 && ltb (t .b i) 2) && (eqb (t .a j) 2 || (eqb (t .a j) 4 && eqb (t .c j) (t .c i))))
+      && not (hasWitness (numberIn t 40 i) (numberIn t 10 j))
+
+  abbrev pub eventLacks : ℕ → Bool
+  eventLacks i = tagged t 40 i && someBelow (λ j. tagged t 10 j && (lacksAction i j || lacksWitness i j)) (t .size)
+
+  -- "a variant without convergent events or the reverse"
+  abbrev pub convergentEvent : ℕ → Bool
+  convergentEvent i = tagged t 40 i && eqb (t .b i) 2
+
+  unfoldable pub missing : Bool
+  missing =
+      not (someBelow (initialises 1) (t .size))
+      || (not (someBelow (initialises 2) (t .size))
+      || (someBelow eventLacks (t .size)
+      || not (Bool·beq (someBelow convergentEvent (t .size)) (someBelow (tagged t 70) (t .size)))))

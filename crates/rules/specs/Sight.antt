@@ -1,0 +1,62 @@
+-- 01, Rows: "A formula may mention": what the formula whose root a row names may mention, of identifiers and of after values.
+use Prim.Native.Nat.{ℕ, _+_}
+use mathlib.Core.Bool.{Bool, true, false, not, _&&_, _||_}
+use lib.Dec.{eqb}
+use Rattle.formula.specs.Mentions.{mentions}
+use Rattle.table.specs.Table.{Table, tagged, isAction, kindOf, ownerOf, machineNumber, classOf}
+use Rattle.machine.specs.Described.{treeOf}
+
+module _ (t : Table) where
+  abbrev pub hasKind : ℕ → ℕ → Bool
+  hasKind k x = eqb (kindOf t x) k
+
+  -- the variables of an event's machine, at present: "No formula of an initialisation, its witnesses included, mentions a present variable value."
+  abbrev pub presentVariable : ℕ → ℕ → Bool
+  presentVariable e x = hasKind (1 + machineNumber t e) x && not (eqb (classOf t e) 0)
+
+  -- "the event's own parameters"
+  abbrev pub ownParameter : ℕ → ℕ → Bool
+  ownParameter e x = (hasKind 4 x || hasKind 5 x) && eqb (ownerOf t x) e
+
+  -- "guard and action, constants, the event's own parameters and its machine's variables"
+  abbrev pub eventSees : ℕ → ℕ → Bool
+  eventSees e x = hasKind 1 x || (ownParameter e x || presentVariable e x)
+
+  -- the row's formula may mention the identifier x
+  unfoldable pub mayMention : ℕ → ℕ → Bool
+  mayMention i x =
+      elim (tagged t 30 i) [
+        | true ↦ hasKind 1 x
+        | false ↦
+            elim (tagged t 31 i) [
+              | true ↦ hasKind 1 x || hasKind 2 x
+              | false ↦
+                  elim (tagged t 32 i) [
+                    | true ↦ hasKind 1 x || (hasKind 2 x || hasKind 3 x)
+                    | false ↦
+                        elim (tagged t 70 i) [
+                          | true ↦ hasKind 1 x || hasKind 3 x
+                          | false ↦
+                              elim (tagged t 60 i) [
+                                | true ↦ eventSees (t .a i) x || (hasKind 4 x && eqb x (t .b i))
+                                | false ↦
+                                    eventSees (t .a i) x
+                              ]
+                        ]
+                  ]
+            ]
+      ]
+
+  -- the row's formula may mention the after value of x: "52 also the after value it sets"; "variable witness, the same with concrete after values, and its
+  -- own after value in place of the identifier"
+  unfoldable pub mayMentionAfter : ℕ → ℕ → Bool
+  mayMentionAfter i x =
+      elim (tagged t 52 i) [
+        | true ↦ eqb x (t .b i)
+        | false ↦
+            elim (tagged t 60 i) [ true ↦ hasKind 2 (t .b i) && (hasKind 3 x || eqb x (t .b i)) | false ↦ false ]
+      ]
+
+  -- the formula at a root mentions only that
+  unfoldable pub seesOnly : ℕ → ℕ → Bool
+  seesOnly i root = mentions (mayMention i) (mayMentionAfter i) (treeOf t root)

@@ -1,0 +1,30 @@
+-- 01, Rows: the table of tags: which of the columns a, b, c a tag uses, and how many rows it may have.
+use Prim.Native.Nat.{ℕ}
+use mathlib.Core.Bool.{Bool, true, false}
+use mathlib.Core.List.{List, [], _∷_}
+use lib.Dec.{eqb}
+
+pub record Tag : Type 0 where
+  pub tag : ℕ
+  pub columns : ℕ
+  pub most : ℕ
+
+abbrev is : ℕ → ℕ → ℕ → Tag
+is t c m = record { tag = t; columns = c; most = m }
+
+-- 10 identifier, 20 node, 30 axiom, 31 abstract invariant, 32 concrete invariant, 40 event, 50 guard, 51 becomes equal and 52 becomes such
+-- that ("128 together"), 60 witness, 70 variant
+abbrev pub tags : List Tag
+tags =
+    is 10 3 64 ∷ is 20 3 512 ∷ is 30 1 16 ∷ is 31 1 16 ∷ is 32 1 16 ∷ is 40 3 32 ∷ is 50 2 64 ∷ is 51 3 128 ∷ is 52 3 128 ∷ is 60 3 128 ∷ is 70 1 1 ∷ []
+
+-- an unknown tag uses no column and has no row
+abbrev pub find : List Tag → ℕ → Tag
+find [] n = is n 0 0
+find (t ∷ ts) n = elim (eqb (t .tag) n) [ true ↦ t | false ↦ find ts n ]
+
+unfoldable pub columnsUsed : ℕ → ℕ
+columnsUsed n = find tags n .columns
+
+unfoldable pub mostRows : ℕ → ℕ
+mostRows n = find tags n .most
