@@ -1,0 +1,167 @@
+-- A table that meets every rule describes well-formed machines: what its formulas mention and how its events belong together.
+use Prim.Native.Nat.{ℕ, _+_, _<_}
+use mathlib.Core.Path.{_≡_, refl, sym, ap, ap₂, _∙_, subst, subst₂}
+use mathlib.Core.Bool.{Bool, true, false, not, _&&_, _||_}
+use mathlib.Core.List.{List, [], _∷_, map}
+use mathlib.Core.Logic.{_⊎_, inl, inr}
+use native.Mathlib.Omega.{arith}
+use lib.Dec.{T, eqb, eqb→eq}
+use borrow.Author.Tests.{eqb-false}
+use Rattle.lists.specs.All.{In, here, there}
+use Rattle.lists.proofs.All.{all-in, all-map, in-nil, in-cons, in-map, in-unmap, in-none}
+use Rattle.table.specs.Table.{Table, named, section, kindOf, typeOf, machineNumber, classOf, refinedBy}
+use Rattle.table.proofs.Sections.{section-row, row-section, named-bounds}
+use Rattle.formula.specs.Values.{integer}
+use Rattle.formula.specs.Sort.{treeType}
+use Rattle.formula.proofs.Truth.{and-split, or-cases, true-test}
+use Rattle.machine.specs.Machine.{Witness, unassigned}
+use Rattle.machine.specs.Machine.{Role, abstractInitialisation, abstractOrdinary, concreteInitialisation, refining, convergent}
+use Rattle.machine.specs.Described.{typeNumbered, kindNumbered, roleNumbered, treeOf, actionOf, belonging, identifiersOf, machineOf}
+use Rattle.machine.proofs.Described.{SetBy, action-row, belonging-row, identifier-named, event-named, named-event}
+use Rattle.machine.proofs.Roles.{RoleSays}
+use Rattle.sequent.specs.Entry.{witnessRoot}
+use Rattle.sequent.specs.Listed.{variables}
+use Rattle.rules.specs.Sight.{hasKind}
+use Rattle.rules.specs.Rules.{guardEvent, actionTarget}
+use Rattle.rules.proofs.Obeys.{Obeys}
+use Rattle.rules.proofs.Events.{event-says, event-refines, first-event, concrete-initialisation}
+use Rattle.rules.proofs.Identifiers.{isType}
+use Rattle.rules.proofs.References.{rootTag, targetTest, root-row}
+use Rattle.rules.proofs.Sorts.{sort-type, root-sort}
+use Rattle.rules.proofs.Twice.{witness-once}
+use Rattle.rules.proofs.Missing.{convergent-variant}
+use Rattle.run.proofs.WellFormed.{kinds, WellFormed}
+use Rattle.run.proofs.AcceptedSight.{roleIn, kind-seen, formulas-see, guards-see, variable-kind, action-sees, witness-target, witness-hidden, witness-sees}
+
+-- the root of a witness whose target no other witness has
+witness-root : (ws : List Witness) (w : Witness) → In w ws → ((v : Witness) → In v ws → v .target ≡ w .target → v .root ≡ w .root)
+    → witnessRoot ws (w .target) ≡ w .root
+witness-root [] w i once = absurd (in-nil i)
+witness-root (v ∷ vs) w i once = go (eqb (v .target) (w .target)) refl (in-cons i) (λ j. witness-root vs w j (λ u k. once u (there k)))
+  where
+    go : (b : Bool) → eqb (v .target) (w .target) ≡ b → (w ≡ v) ⊎ In w vs → (In w vs → witnessRoot vs (w .target) ≡ w .root)
+        → _≡_ {A = ℕ} (elim b [ true ↦ v .root | false ↦ witnessRoot vs (w .target) ]) (w .root)
+    go true q j rest = once v (here refl) (eqb→eq (v .target) (w .target) (true-test _ q))
+    go false q (inl e) rest = absurd (eqb-false (v .target) (w .target) q (ap (λ u. u .target) (sym e)))
+    go false q (inr j) rest = rest j
+
+module _ (t : Table) where
+  -- the parts of the machine that `machineOf` gives, by name
+  abbrev witnessAt : ℕ → Witness
+  witnessAt i = record { target = t .b i; root = t .c i }
+
+  abbrev guardsOf : ℕ → List ℕ
+  guardsOf e = map (t .b) (belonging t 50 e)
+
+  abbrev witnessesOf : ℕ → List Witness
+  witnessesOf e = map witnessAt (belonging t 60 e)
+
+  -- the role of an event with known numbers
+  role-is : (e machine class : ℕ) → machineNumber t e ≡ machine → classOf t e ≡ class → roleIn t e ≡ roleNumbered machine class (refinedBy t e)
+  role-is e machine class p q = ap₂ (λ m c. roleNumbered m c (refinedBy t e)) p q
+
+  abbrev EventSays : ℕ → Role → Type 0
+  EventSays e ro = RoleSays (machineNumber t e) (classOf t e) (refinedBy t e) ro
+
+module _ (t : Table) (ok : Obeys t) where
+  -- the variant is an integer
+  variant-type : (i : ℕ) → i < t .size → t .tag i ≡ 70 → treeType (λ x. typeNumbered (typeOf t x)) (treeOf t (t .a i)) ≡ integer
+  unfolding typeNumbered
+  variant-type i h e =
+      let q = root-sort t ok 70 i h e tt in
+      sort-type t (t .a i) (named-bounds t 20 (t .a i) (root-row t ok 70 i h e tt .1) .0) (subst (λ s. T (isType s)) (sym q) tt) ∙ ap typeNumbered q
+
+  -- an initialisation has no guards, an abstract event no witnesses
+  initial-guards : (e : ℕ) → classOf t e ≡ 0 → guardsOf t e ≡ []
+  initial-guards e c = ap (map (t .b)) (in-none (belonging t 50 e) none)
+    where
+      none : (i : ℕ) → In i (belonging t 50 e) → ⊥
+      none i j =
+          let q = belonging-row t 50 e i j in
+          let g = subst (λ e. T (guardEvent t e)) (q .2) (root-row t ok 50 i (q .0) (q .1) tt .0) in
+          subst (λ c. T (not (eqb c 0))) c (and-split (named t 40 e) (not (eqb (classOf t e) 0)) g .1)
+
+  abstract-witnesses : (e : ℕ) → machineNumber t e ≡ 1 → witnessesOf t e ≡ []
+  abstract-witnesses e m = ap (map (witnessAt t)) (in-none (belonging t 60 e) (λ i j. let p = witness-target t ok e i j .1 in omega arith))
+
+  witness-found : (e i : ℕ) → In i (belonging t 60 e) → witnessRoot (witnessesOf t e) (t .b i) ≡ t .c i
+  witness-found e i j = witness-root (witnessesOf t e) (witnessAt t i) (in-map (witnessAt t) j) once
+    where
+      once : (v : Witness) → In v (witnessesOf t e) → v .target ≡ t .b i → v .root ≡ t .c i
+      once v k e′ =
+          let r = in-unmap (witnessAt t) (belonging t 60 e) k in
+          let p = belonging-row t 60 e i j in
+          let q = belonging-row t 60 e (r .0) (r .1) in
+          let same : r .0 ≡ i = witness-once t ok (r .0) i (q .0) (p .0) (q .1) (p .1) (q .2 ∙ sym (p .2)) (sym (ap (λ u. u .target) (r .2)) ∙ e′) in
+          ap (λ u. u .root) (r .2) ∙ ap (t .c) same
+
+  -- a convergent event sets no abstract variable
+  convergent-stays : (e x : ℕ) → machineNumber t e ≡ 2 → In x (identifiersOf t 2) → actionOf t e x ≡ unassigned
+  convergent-stays e x m j =
+      action-row t e x (λ a. a ≡ unassigned) (λ i by. absurd (never-set 51 i by tt (λ h. h))) (λ i by. absurd (never-set 52 i by tt (λ h. h))) (λ none. refl)
+    where
+      never-set : (k i : ℕ) → SetBy t k e x i → T (rootTag k) → (T (targetTest t k i) → T (actionTarget t (t .a i) (t .b i))) → ⊥
+      never-set k i by r f =
+          let h = subst₂ (λ e x. T (actionTarget t e x)) (by .eventIs) (by .variableIs) (f (root-row t ok k i (by .inside) (by .tagIs) r .0)) in
+          let own = hasKind t (1 + machineNumber t e) x in
+          let p = eqb→eq (kindOf t x) (1 + machineNumber t e) (and-split (named t 10 x) own (and-split (named t 40 e) (named t 10 x && own) h .1) .1) in
+          omega (arith, identifier-named t 2 x j .1)
+
+  -- what a concrete initialisation is matched by, and what a refining event refines
+  initialisation-matched : (e f : ℕ) → EventSays t e (concreteInitialisation f)
+      → T (named t 40 f) × (roleIn t f ≡ abstractInitialisation) × (guardsOf t e ≡ []) × (guardsOf t f ≡ []) × (witnessesOf t f ≡ [])
+  unfolding roleNumbered
+  initialisation-matched e f s =
+      let one = first-event t ok in
+      let m : machineNumber t f ≡ 1 = ap (machineNumber t) (s .2) ∙ one .1 in
+      let c : classOf t f ≡ 0 = ap (classOf t) (s .2) ∙ one .2 in
+      (subst (λ f. T (named t 40 f)) (sym (s .2)) (one .0), role-is t f 1 0 m c, initial-guards e (s .1), initial-guards f c, abstract-witnesses f m)
+
+  refined-ordinary : (e f : ℕ) → T (named t 40 e) → EventSays t e (refining f) → T (named t 40 f) × (roleIn t f ≡ abstractOrdinary) × (witnessesOf t f ≡ [])
+  unfolding roleNumbered
+  refined-ordinary e f n s =
+      let r = event-refines t ok e n (s .0) (s .1) in
+      let m : machineNumber t f ≡ 1 = ap (machineNumber t) (s .2) ∙ r .1 in
+      (subst (λ f. T (named t 40 f)) (sym (s .2)) (r .0), role-is t f 1 1 m (ap (classOf t) (s .2) ∙ r .2), abstract-witnesses f m)
+
+  initialisation-there : (e : ℕ) × (f : ℕ) × T (named t 40 e) × (roleIn t e ≡ concreteInitialisation f)
+  unfolding roleNumbered
+  initialisation-there = let r = concrete-initialisation t ok in (r .0, 1, r .1, role-is t (r .0) 2 0 (r .2) (r .3))
+
+pub accepted-well-formed : (t : Table) → Obeys t → WellFormed (machineOf t)
+unfolding machineOf kindNumbered
+accepted-well-formed t ok = record {
+  axiomsSee = (let S = kinds true false false false false in formulas-see t ok 30 S tt (λ i. refl) (λ i x s. kind-seen t S 1 x tt s) (λ i x s. s));
+  abstractInvariantsSee = (let S = kinds true true false false false in
+      formulas-see t ok 31 S tt (λ i. refl) (λ i x s. or-cases (hasKind t 1 x) (hasKind t 2 x) s (kind-seen t S 1 x tt) (kind-seen t S 2 x tt)) (λ i x s. s));
+  concreteInvariantsSee = (let S = kinds true true true false false in
+      formulas-see t ok 32 S tt (λ i. refl)
+      (λ i x s. or-cases (hasKind t 1 x) (hasKind t 2 x || hasKind t 3 x) s (kind-seen t S 1 x tt)
+      (λ s. or-cases (hasKind t 2 x) (hasKind t 3 x) s (kind-seen t S 2 x tt) (kind-seen t S 3 x tt)))
+      (λ i x s. s));
+  variantsSee = (let S = kinds true false true false false in
+      formulas-see t ok 70 S tt (λ i. refl) (λ i x s. or-cases (hasKind t 1 x) (hasKind t 3 x) s (kind-seen t S 1 x tt) (kind-seen t S 3 x tt)) (λ i x s. s));
+  variantsInteger = all-map (t .a) (all-in (section t 70) (λ i j. let q = section-row t 70 i j in variant-type t ok i (q .0) (q .1)));
+  guardsSee = λ e i. guards-see t ok e (event-named t e i);
+  actionsSee = λ e i. all-in (variables (machineOf t) (roleIn t e)) (λ x j.
+      let n = event-named t e i in
+      let p = variable-kind t ok e x n j in
+      action-sees t ok e x n (p .0) (p .1));
+  witnessesSee = λ e i. all-map (witnessAt t) (all-in (belonging t 60 e) (λ i j.
+      record { hidden = witness-hidden t ok e i j; mentioned = witness-sees t ok e i j; found = witness-found t ok e i j }));
+  abstractVariablesKind = all-in (identifiersOf t 2) (λ x i. ap kindNumbered (identifier-named t 2 x i .1));
+  concreteVariablesKind = all-in (identifiersOf t 3) (λ x i. ap kindNumbered (identifier-named t 3 x i .1));
+  initialised = (let r = initialisation-there t ok in (r .0, r .1, named-event t (r .0) (r .2), r .3));
+  initialises = λ e f i q.
+      let r = initialisation-matched t ok e f (event-says t ok e (concreteInitialisation f) (event-named t e i) q) in
+      (named-event t f (r .0), r .1, r .2, r .3, r .4);
+  refines = λ e f i q.
+      let n = event-named t e i in
+      let r = refined-ordinary t ok e f n (event-says t ok e (refining f) n q) in
+      (named-event t f (r .0), r .1, r .2);
+  convergentStays = λ e i q. all-in (identifiersOf t 2) (λ x j. convergent-stays t ok e x (event-says t ok e convergent (event-named t e i) q .0) j);
+  convergentVariant = λ e i q.
+      let n = event-named t e i in
+      let r = convergent-variant t ok e n (event-says t ok e convergent n q .1) in
+      (t .a (r .0), in-map (t .a) (row-section t 70 (r .0) (r .1) (r .2)));
+}

@@ -1,0 +1,229 @@
+-- What the formulas of a table that meets every rule mention, by the kinds of identifiers: what a row lets its formula mention, number by number, is a
+-- set of kinds, since a parameter's owner and a variable's machine are those of the event.
+use Prim.Native.Nat.{ℕ, _+_, _<_}
+use mathlib.Core.Path.{_≡_, refl, sym, ap, _∙_, subst}
+use mathlib.Core.Bool.{Bool, true, false, not, _&&_, _||_}
+use mathlib.Core.List.{map}
+use mathlib.Core.Logic.{_⊎_, inl, inr}
+use native.Mathlib.Omega.{arith}
+use lib.Dec.{T, ltb, eqb, eqb→eq, not-T}
+use Rattle.lists.specs.All.{All, In}
+use Rattle.lists.proofs.All.{all-in, all-map}
+use Rattle.lists.proofs.Rows.{some-found}
+use Rattle.table.specs.Table.{Table, named, section, kindOf, typeOf, ownerOf, machineNumber, classOf, refinedBy}
+use Rattle.table.proofs.Sections.{section-row, named-bounds}
+use Rattle.formula.specs.Mentions.{mentions}
+use Rattle.formula.specs.Sort.{treeType}
+use Rattle.formula.proofs.Mentions.{mentions-imp}
+use Rattle.formula.proofs.Truth.{eq→eqb, and-split, or-left, or-right, or-cases}
+use Rattle.machine.specs.Machine.{Kind, constantKind, abstractVariable, concreteVariable, abstractParameter, concreteParameter}
+use Rattle.machine.specs.Machine.{Role, abstractInitialisation, abstractOrdinary, concreteInitialisation, refining, convergent}
+use Rattle.machine.specs.Described.{typeNumbered, kindNumbered, roleNumbered, treeOf, sets, actionOf, belonging, identifiersOf, machineOf}
+use Rattle.machine.proofs.Described.{SetBy, action-row, belonging-row, identifier-named}
+use Rattle.machine.proofs.Roles.{RoleSays}
+use Rattle.sequent.specs.Listed.{variables}
+use Rattle.rules.specs.Sorts.{sortOf}
+use Rattle.rules.specs.Sight.{hasKind, presentVariable, ownParameter, eventSees}
+use Rattle.rules.specs.Rules.{namedVariable, witnessTarget}
+use Rattle.rules.proofs.Obeys.{Obeys}
+use Rattle.rules.proofs.Events.{event-says}
+use Rattle.rules.proofs.Identifiers.{isType, identifier-type, parameter-owner}
+use Rattle.rules.proofs.References.{rootTag, rootOf, root-row}
+use Rattle.rules.proofs.Sorts.{sort-type, root-sort}
+use Rattle.rules.proofs.Sight.{seen, seenAfter, root-seen}
+use Rattle.rules.proofs.Missing.{initial-action}
+use Rattle.run.proofs.WellFormed.{kinds, ownKinds, never, ActionSees}
+
+at-kind : (ro : Role) (k j : ℕ) → k ≡ j → T (ownKinds ro (kindNumbered j)) → T (ownKinds ro (kindNumbered k))
+at-kind ro k j e h = subst (λ k. T (ownKinds ro (kindNumbered k))) (sym e) h
+
+-- an event that is no initialisation sees its machine's variables and parameters, and every event sees constants
+own-seen : (ro : Role) (machine class refined k : ℕ) → RoleSays machine class refined ro → T (not (eqb class 0)) → (k ≡ 1 + machine) ⊎ (k ≡ 3 + machine)
+    → T (ownKinds ro (kindNumbered k))
+unfolding kindNumbered
+own-seen abstractInitialisation machine class refined k s n d = absurd (subst (λ c. T (not (eqb c 0))) (s .1) n)
+own-seen abstractOrdinary machine class refined k s n (inl e) = at-kind abstractOrdinary k 2 (omega (arith, s .0)) tt
+own-seen abstractOrdinary machine class refined k s n (inr e) = at-kind abstractOrdinary k 4 (omega (arith, s .0)) tt
+own-seen (concreteInitialisation f) machine class refined k s n d = absurd (subst (λ c. T (not (eqb c 0))) (s .1) n)
+own-seen (refining f) machine class refined k s n (inl e) = at-kind (refining f) k 3 (omega (arith, s .0)) tt
+own-seen (refining f) machine class refined k s n (inr e) = at-kind (refining f) k 5 (omega (arith, s .0)) tt
+own-seen convergent machine class refined k s n (inl e) = at-kind convergent k 3 (omega (arith, s .0)) tt
+own-seen convergent machine class refined k s n (inr e) = at-kind convergent k 5 (omega (arith, s .0)) tt
+
+constant-seen : (ro : Role) → T (ownKinds ro constantKind)
+constant-seen abstractInitialisation = tt
+constant-seen abstractOrdinary = tt
+constant-seen (concreteInitialisation f) = tt
+constant-seen (refining f) = tt
+constant-seen convergent = tt
+
+module _ (t : Table) where
+  abbrev kindIn : ℕ → Kind
+  kindIn x = kindNumbered (kindOf t x)
+
+  abbrev pub roleIn : ℕ → Role
+  roleIn e = roleNumbered (machineNumber t e) (classOf t e) (refinedBy t e)
+
+  abbrev MentionsKinds : (Kind → Bool) → (ℕ → Bool) → ℕ → Type 0
+  MentionsKinds S S′ r = T (mentions (λ x. S (kindIn x)) S′ (treeOf t r))
+
+  pub kind-seen : (S : Kind → Bool) (k x : ℕ) → T (S (kindNumbered k)) → T (hasKind t k x) → T (S (kindIn x))
+  kind-seen S k x s h = subst (λ k. T (S (kindNumbered k))) (sym (eqb→eq (kindOf t x) k h)) s
+
+  module _ (ok : Obeys t) where
+    -- the formula of a row, from what its tag lets it mention
+    row-sees : (k i : ℕ) (P Q : ℕ → Bool) → i < t .size → t .tag i ≡ k → T (rootTag k)
+        → ((x : ℕ) → T (named t 10 x) → T (seen t k i x) → T (P x)) → ((x : ℕ) → T (seenAfter t k i x) → T (Q x)) → T (mentions P Q (treeOf t (rootOf t k i)))
+    row-sees k i P Q h e r f g =
+        mentions-imp (λ x. named t 10 x && seen t k i x) (λ x. namedVariable t x && seenAfter t k i x) P Q
+        (λ x s. let p = and-split (named t 10 x) (seen t k i x) s in f x (p .0) (p .1))
+        (λ x s. g x (and-split (namedVariable t x) (seenAfter t k i x) s .1))
+        (treeOf t (rootOf t k i)) (root-seen t ok k i h e r)
+
+    -- axioms, invariants and the variant, which name their roots in column a
+    pub formulas-see : (k : ℕ) (S : Kind → Bool) → T (rootTag k) → ((i : ℕ) → rootOf t k i ≡ t .a i)
+        → ((i x : ℕ) → T (seen t k i x) → T (S (kindIn x))) → ((i x : ℕ) → T (seenAfter t k i x) → ⊥)
+        → All (λ r. T (mentions (λ x. S (kindNumbered (kindOf t x))) never (treeOf t r))) (map (t .a) (section t k))
+    formulas-see k S r root f g =
+        all-map (t .a) (all-in (section t k) (λ i j.
+        let q = section-row t k i j in
+        subst (MentionsKinds S never) (root i) (row-sees k i (λ x. S (kindIn x)) never (q .0) (q .1) r (λ x n s. f i x s) (λ x s. g i x s))))
+
+    -- "guard and action, constants, the event's own parameters and its machine's variables"
+    pub event-sees : (e x : ℕ) → T (named t 40 e) → T (named t 10 x) → T (eventSees t e x) → T (ownKinds (roleIn e) (kindIn x))
+    unfolding kindNumbered
+    event-sees e x n m s =
+        or-cases (hasKind t 1 x) (ownParameter t e x || presentVariable t e x) s (kind-seen (ownKinds (roleIn e)) 1 x (constant-seen (roleIn e)))
+        (λ s. or-cases (ownParameter t e x) (presentVariable t e x) s
+        (λ s. let p = parameter-owner t ok e x m s in own-seen (roleIn e) (machineNumber t e) (classOf t e) (refinedBy t e) (kindOf t x) says (p .1) (inr (p .0)))
+        (λ s. let p = and-split (hasKind t (1 + machineNumber t e) x) (not (eqb (classOf t e) 0)) s in
+        own-seen (roleIn e) (machineNumber t e) (classOf t e) (refinedBy t e) (kindOf t x) says (p .1) (inl (eqb→eq (kindOf t x) (1 + machineNumber t e) (p .0)))))
+      where
+        says : RoleSays (machineNumber t e) (classOf t e) (refinedBy t e) (roleIn e)
+        says = event-says t ok e (roleIn e) n refl
+
+    -- a guard or an action of an event
+    own-row-sees : (k e i : ℕ) (Q : ℕ → Bool) → T (named t 40 e) → i < t .size → t .tag i ≡ k → t .a i ≡ e → T (rootTag k)
+        → ((x : ℕ) → T (seen t k i x) → T (eventSees t (t .a i) x)) → ((x : ℕ) → T (seenAfter t k i x) → T (Q x))
+        → T (mentions (λ x. ownKinds (roleIn e) (kindIn x)) Q (treeOf t (rootOf t k i)))
+    own-row-sees k e i Q n h p q r f g =
+        row-sees k i (λ x. ownKinds (roleIn e) (kindIn x)) Q h p r (λ x m s. event-sees e x n m (subst (λ e. T (eventSees t e x)) q (f x s))) g
+
+    pub guards-see : (e : ℕ) → T (named t 40 e)
+        → All (λ r. T (mentions (λ x. ownKinds (roleIn e) (kindNumbered (kindOf t x))) never (treeOf t r))) (map (t .b) (belonging t 50 e))
+    guards-see e n =
+        all-map (t .b) (all-in (belonging t 50 e) (λ i j.
+        let q = belonging-row t 50 e i j in own-row-sees 50 e i never n (q .0) (q .1) (q .2) tt (λ x s. s) (λ x s. s)))
+
+    -- the variables of an event's machine
+    pub variable-kind : (e x : ℕ) → T (named t 40 e) → In x (variables (machineOf t) (roleIn e)) → T (named t 10 x) × (kindOf t x ≡ 1 + machineNumber t e)
+    unfolding machineOf
+    variable-kind e x n = go (roleIn e) (event-says t ok e (roleIn e) n refl)
+      where
+        of : (kind : ℕ) → kind ≡ 1 + machineNumber t e → In x (identifiersOf t kind) → T (named t 10 x) × (kindOf t x ≡ 1 + machineNumber t e)
+        of kind q i = let p = identifier-named t kind x i in (p .0, p .1 ∙ q)
+
+        go : (ro : Role) → RoleSays (machineNumber t e) (classOf t e) (refinedBy t e) ro → In x (variables (machineOf t) ro)
+            → T (named t 10 x) × (kindOf t x ≡ 1 + machineNumber t e)
+        go abstractInitialisation s i = of 2 (omega (arith, s .0)) i
+        go abstractOrdinary s i = of 2 (omega (arith, s .0)) i
+        go (concreteInitialisation f) s i = of 3 (omega (arith, s .0)) i
+        go (refining f) s i = of 3 (omega (arith, s .0)) i
+        go convergent s i = of 3 (omega (arith, s .0)) i
+
+    -- "51 takes the variable's type"
+    equal-type : (e x i : ℕ) → T (named t 10 x) → SetBy t 51 e x i → treeType (λ x. typeNumbered (typeOf t x)) (treeOf t (t .c i)) ≡ typeNumbered (typeOf t x)
+    equal-type e x i m by =
+        let root = root-row t ok 51 i (by .inside) (by .tagIs) tt .1 in
+        let q : sortOf t (t .c i) ≡ typeOf t x = root-sort t ok 51 i (by .inside) (by .tagIs) tt ∙ ap (typeOf t) (by .variableIs) in
+        sort-type t (t .c i) (named-bounds t 20 (t .c i) root .0) (subst (λ s. T (isType s)) (sym q) (identifier-type t ok x m)) ∙ ap typeNumbered q
+
+    -- a variable that its event leaves alone is seen: the event is no initialisation, which assigns all
+    unassigned-seen : (e x : ℕ) → T (named t 40 e) → T (named t 10 x) → kindOf t x ≡ 1 + machineNumber t e → ((i : ℕ) → i < t .size → T (sets t e x i) → ⊥)
+        → T (ownKinds (roleIn e) (kindIn x))
+    unassigned-seen e x n m k none =
+        own-seen (roleIn e) (machineNumber t e) (classOf t e) (refinedBy t e) (kindOf t x) (event-says t ok e (roleIn e) n refl)
+        (not-T (eqb (classOf t e) 0) initial) (inl k)
+      where
+        initial : T (eqb (classOf t e) 0) → ⊥
+        initial c =
+            let r = some-found (sets t e x) (t .size) (initial-action t ok e x n (eqb→eq (classOf t e) 0 c) m k) in
+            none (r .0) (r .1) (r .2)
+
+    pub action-sees : (e x : ℕ) → T (named t 40 e) → T (named t 10 x) → kindOf t x ≡ 1 + machineNumber t e
+        → ActionSees (machineOf t) (ownKinds (roleIn e)) x (actionOf t e x)
+    unfolding machineOf
+    action-sees e x n m k =
+        action-row t e x (ActionSees (machineOf t) (ownKinds (roleIn e)) x)
+        (λ i by. (own-row-sees 51 e i never n (by .inside) (by .tagIs) (by .eventIs) tt (λ y s. s) (λ y s. s), equal-type e x i m by))
+        (λ i by. own-row-sees 52 e i (eqb x) n (by .inside) (by .tagIs) (by .eventIs) tt (λ y s. s)
+        (λ y s. eq→eqb x y (sym (eqb→eq y (t .b i) s ∙ by .variableIs))))
+        (λ none. unassigned-seen e x n m k none)
+
+    -- "parameter witness, constants, concrete variables, the concrete event's parameters and its own identifier; variable witness, the same with concrete
+    -- after values, and its own after value in place of the identifier"
+    concrete-seen : (e x : ℕ) → T (named t 40 e) → T (named t 10 x) → machineNumber t e ≡ 2 → T (eventSees t e x) → T (kinds true false true false true (kindIn x))
+    concrete-seen e x n m q s = go (roleIn e) (event-says t ok e (roleIn e) n refl) (event-sees e x n m s)
+      where
+        only : (K : Kind) → T (kinds true false false false false K) → T (kinds true false true false true K)
+        only constantKind h = tt
+        only abstractVariable h = absurd h
+        only concreteVariable h = tt
+        only abstractParameter h = absurd h
+        only concreteParameter h = tt
+
+        go : (ro : Role) → RoleSays (machineNumber t e) (classOf t e) (refinedBy t e) ro → T (ownKinds ro (kindIn x))
+            → T (kinds true false true false true (kindIn x))
+        go abstractInitialisation s h = only (kindIn x) h
+        go abstractOrdinary s h = absurd (omega (arith, s .0))
+        go (concreteInitialisation f) s h = only (kindIn x) h
+        go (refining f) s h = h
+        go convergent s h = h
+
+    pub witness-target : (e i : ℕ) → In i (belonging t 60 e)
+        → T (named t 40 e) × (machineNumber t e ≡ 2) × T (hasKind t 2 (t .b i) || hasKind t 4 (t .b i))
+    witness-target e i j =
+        let q = belonging-row t 60 e i j in
+        let x = t .b i in
+        let event = named t 40 e && (eqb (machineNumber t e) 2 && ltb (classOf t e) 2) in
+        let target = hasKind t 2 x || (hasKind t 4 x && eqb (ownerOf t x) (refinedBy t e)) in
+        let h = subst (λ e. T (witnessTarget t e x)) (q .2) (root-row t ok 60 i (q .0) (q .1) tt .0) in
+        let s = and-split event (named t 10 x && target) h in
+        let u = and-split (named t 40 e) (eqb (machineNumber t e) 2 && ltb (classOf t e) 2) (s .0) in (
+          u .0,
+          eqb→eq (machineNumber t e) 2 (and-split (eqb (machineNumber t e) 2) (ltb (classOf t e) 2) (u .1) .0),
+          or-cases (hasKind t 2 x) (hasKind t 4 x && eqb (ownerOf t x) (refinedBy t e)) (and-split (named t 10 x) target (s .1) .1)
+              (or-left (hasKind t 2 x) (hasKind t 4 x))
+              (λ p. or-right (hasKind t 2 x) (hasKind t 4 x) (and-split (hasKind t 4 x) (eqb (ownerOf t x) (refinedBy t e)) p .0)),
+        )
+
+    pub witness-hidden : (e i : ℕ) → In i (belonging t 60 e) → T (kinds false true false true false (kindNumbered (kindOf t (t .b i))))
+    unfolding kindNumbered
+    witness-hidden e i j =
+        or-cases (hasKind t 2 (t .b i)) (hasKind t 4 (t .b i)) (witness-target e i j .2)
+        (kind-seen (kinds false true false true false) 2 (t .b i) tt) (kind-seen (kinds false true false true false) 4 (t .b i) tt)
+
+    pub witness-sees : (e i : ℕ) → In i (belonging t 60 e)
+        → T (mentions (λ y. kinds true false true false true (kindNumbered (kindOf t y)) || eqb y (t .b i))
+        (λ y. kinds false false true false false (kindNumbered (kindOf t y)) || eqb y (t .b i)) (treeOf t (t .c i)))
+    unfolding kindNumbered
+    witness-sees e i j = row-sees 60 i _ _ (q .0) (q .1) tt present after
+      where
+        q : (i < t .size) × (t .tag i ≡ 60) × (t .a i ≡ e)
+        q = belonging-row t 60 e i j
+
+        w : T (named t 40 e) × (machineNumber t e ≡ 2) × T (hasKind t 2 (t .b i) || hasKind t 4 (t .b i))
+        w = witness-target e i j
+
+        present : (y : ℕ) → T (named t 10 y) → T (seen t 60 i y) → T (kinds true false true false true (kindIn y) || eqb y (t .b i))
+        present y m s =
+            or-cases (eventSees t (t .a i) y) (hasKind t 4 y && eqb y (t .b i)) s
+            (λ p. or-left (kinds true false true false true (kindIn y)) (eqb y (t .b i))
+            (concrete-seen e y (w .0) m (w .1) (subst (λ e. T (eventSees t e y)) (q .2) p)))
+            (λ p. or-right (kinds true false true false true (kindIn y)) (eqb y (t .b i)) (and-split (hasKind t 4 y) (eqb y (t .b i)) p .1))
+
+        after : (y : ℕ) → T (seenAfter t 60 i y) → T (kinds false false true false false (kindIn y) || eqb y (t .b i))
+        after y s =
+            or-cases (hasKind t 3 y) (eqb y (t .b i)) (and-split (hasKind t 2 (t .b i)) (hasKind t 3 y || eqb y (t .b i)) s .1)
+            (λ p. or-left (kinds false false true false false (kindIn y)) (eqb y (t .b i)) (kind-seen (kinds false false true false false) 3 y tt p))
+            (or-right (kinds false false true false false (kindIn y)) (eqb y (t .b i)))

@@ -1,0 +1,17 @@
+pub mod WellFormed
+pub mod AcceptedSight
+pub mod Accepted
+pub mod Reading
+pub mod Agreement
+pub mod Views
+pub mod Events
+pub mod Valuations
+pub mod Steps
+pub mod Successor
+pub mod AfterState
+pub mod Witnesses
+pub mod Pair
+pub mod Variant
+pub mod Matching
+pub mod Safe
+pub mod SafeRun

@@ -1,0 +1,120 @@
+-- 01, The run that a table describes: steps, runs of the concrete machine, and the abstract sequences that match them.
+use mathlib.Core.Path.{_≡_}
+use mathlib.Core.Bool.{Bool, true, false}
+use mathlib.Core.List.{List, [], _∷_}
+use mathlib.Core.Option.{some}
+use Prim.Native.Nat.{ℕ}
+use lib.Dec.{T}
+use lib.IntN.{pos}
+use Rattle.lists.specs.All.{All, In}
+use Rattle.formula.specs.Values.{ValueType, integer, boolean, Value, AnyValue, truth, wrap}
+use Rattle.formula.specs.Evaluate.{Valuation, Env, readTree}
+use Rattle.machine.specs.Machine.{Kind, constantKind, abstractVariable, concreteVariable, abstractParameter, concreteParameter}
+use Rattle.machine.specs.Machine.{Action, unassigned, becomesEqual, becomesSuchThat, Machine}
+use Rattle.machine.specs.Machine.{Role, abstractInitialisation, abstractOrdinary, concreteInitialisation, refining, convergent}
+use Rattle.sequent.specs.Listed.{variables}
+
+-- one of five by an identifier's kind: constant, abstract variable, concrete variable, abstract parameter, concrete parameter
+abbrev pub byKind : {A : Type 0} → Kind → A → A → A → A → A → A
+byKind constantKind c a k q p = c
+byKind abstractVariable c a k q p = a
+byKind concreteVariable c a k q p = k
+byKind abstractParameter c a k q p = q
+byKind concreteParameter c a k q p = p
+
+abbrev pub blankValue : (t : ValueType) → Value t
+blankValue integer = pos 0
+blankValue boolean = false
+
+module _ (m : Machine) where
+  -- constants, the state of a machine or parameters: a value for each identifier, of which only those of the kind in question count
+  abbrev pub State : Type 0
+  State = Valuation (m .type)
+
+  -- in the place of what is not read
+  abbrev pub blank : State
+  blank x = blankValue (m .type x)
+
+  -- constants, abstract and concrete state, abstract and concrete parameters; the abstract and the concrete state after a step
+  abbrev pub world : State → State → State → State → State → State → State → Env (m .type)
+  world c a k q p a′ k′ = record {
+    present = λ x. byKind (m .kind x) (c x) (a x) (k x) (q x) (p x);
+    after = λ x. byKind (m .kind x) (blank x) (a′ x) (k′ x) (blank x) (blank x);
+  }
+
+  -- what an event's guards and actions read: constants, its machine's state, its parameters, its machine's state after the step
+  abbrev pub view : Role → State → State → State → State → Env (m .type)
+  view abstractInitialisation c s p s′ = world c s blank p blank s′ blank
+  view abstractOrdinary c s p s′ = world c s blank p blank s′ blank
+  view (concreteInitialisation f) c s p s′ = world c blank s blank p blank s′
+  view (refining f) c s p s′ = world c blank s blank p blank s′
+  view convergent c s p s′ = world c blank s blank p blank s′
+
+  -- a formula is read, and is read as true
+  abbrev pub Defined : Env (m .type) → ℕ → Type 0
+  Defined ρ r = (v : AnyValue) × (readTree ρ (m .tree r) ≡ some v)
+
+  abbrev pub Reads : Env (m .type) → ℕ → Type 0
+  Reads ρ r = readTree ρ (m .tree r) ≡ some (truth true)
+
+  abbrev pub AllRead : Env (m .type) → List ℕ → Type 0
+  AllRead ρ rs = All (Reads ρ) rs
+
+  -- "read in table order, each only where those of its sort before it are true": no undefined term is reached
+  abbrev pub NoneUndefined : Env (m .type) → List ℕ → Type 0
+  NoneUndefined ρ [] = Unit {0}
+  NoneUndefined ρ (r ∷ rs) = Defined ρ r × (Reads ρ r → NoneUndefined ρ rs)
+
+  -- "Assigned variables get an after value allowed by their action, the others keep theirs."
+  abbrev pub Allows : Env (m .type) → ℕ → Action → Type 0
+  Allows ρ x unassigned = ρ .after x ≡ ρ .present x
+  Allows ρ x (becomesEqual r) = readTree ρ (m .tree r) ≡ some (wrap (m .type x) (ρ .after x))
+  Allows ρ x (becomesSuchThat r) = Reads ρ r
+
+  abbrev pub ActionDefined : Env (m .type) → Action → Type 0
+  ActionDefined ρ unassigned = Unit {0}
+  ActionDefined ρ (becomesEqual r) = Defined ρ r
+  ActionDefined ρ (becomesSuchThat r) = Defined ρ r
+
+  -- "Parameter values that make every guard true enable the event"
+  abbrev pub Enabled : Role → ℕ → State → State → State → Type 0
+  Enabled ro e c s p = AllRead (view ro c s p blank) (m .guards e)
+
+  -- "A step needs parameter values that make every guard true", and each variable's action allows its after value
+  pub record Step (ro : Role) (e : ℕ) (c s p s′ : State) : Type 0 where
+    pub enabled : Enabled ro e c s p
+    pub allowed : All (λ x. Allows (view ro c s p s′) x (m .action e x)) (variables m ro)
+
+  -- one step of a run: the event, its parameters, and the state that it leaves
+  pub record Taken : Type 0 where
+    pub event : ℕ
+    pub parameters : State
+    pub result : State
+
+  -- "other concrete events"
+  abbrev pub ofRun : Role → Bool
+  ofRun abstractInitialisation = false
+  ofRun abstractOrdinary = false
+  ofRun (concreteInitialisation f) = false
+  ofRun (refining f) = true
+  ofRun convergent = true
+
+  -- "then any list of steps of other concrete events, each from the values the last one left"
+  abbrev pub Follows : State → State → List Taken → Type 0
+  Follows c k [] = Unit {0}
+  Follows c k (s ∷ ss) =
+      In (s .event) (m .events) × T (ofRun (m .role (s .event))) × Step (m .role (s .event)) (s .event) c k (s .parameters) (s .result)
+      × Follows c (s .result) ss
+
+  -- the abstract side of a step: parameters, and the abstract state after it
+  pub record Match : Type 0 where
+    pub parameters : State
+    pub result : State
+
+  -- "A concrete ordinary step is matched by a step of the event it refines, a convergent one by no abstract step: the abstract state stays."
+  abbrev pub Matches : Role → State → State → State → State → Type 0
+  Matches abstractInitialisation c a q a′ = ⊥
+  Matches abstractOrdinary c a q a′ = ⊥
+  Matches (concreteInitialisation f) c a q a′ = ⊥
+  Matches (refining f) c a q a′ = Step abstractOrdinary f c a q a′
+  Matches convergent c a q a′ = a′ ≡ a
