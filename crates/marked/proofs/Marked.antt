@@ -1,0 +1,28 @@
+-- The marked cases P1 to P10 hold of the definitions: all are computed, by one proof.
+use mathlib.Core.Path.{_≡_, refl}
+use mathlib.Core.List.{flatMap}
+use mathlib.Core.Bool.{true}
+use Rattle.lists.specs.Over.{over}
+use Rattle.lists.specs.Rows.{countBelow, first, numbers, keep}
+use Rattle.number.specs.Number.{written, numberOf, scanFrom}
+use Rattle.row.specs.Row.{rowBytes}
+use Rattle.table.specs.Table.{section, count, start}
+use Rattle.formula.specs.Evaluate.{readTree}
+use Rattle.formula.specs.Mentions.{mentions}
+use Rattle.machine.specs.Operator.{operatorNumbered}
+use Rattle.machine.specs.Described.{typeNumbered, kindNumbered, roleNumbered, treeTo, treeOf, actionOf, belonging, identifiersOf, machineOf}
+use Rattle.sequent.specs.Listed.{inOrder, eventSequents, sequents}
+use Rattle.rules.specs.Decoded.{lineOf, wordsOf}
+use Rattle.rules.specs.Tags.{columnsUsed, mostRows}
+use Rattle.rules.specs.Sorts.{shapeOf, operandSort, resultSort, sortOf}
+use Rattle.rules.specs.Sight.{mayMention, mayMentionAfter, seesOnly}
+use Rattle.rules.specs.Rules.{tagOffends, fullOffends, eventOffends, identifierOffends, rootAt, referenceOffends, rootSort, sortOffends, usesTo}
+use Rattle.rules.specs.Rules.{useOffends, sightOffends, twiceOffends, offends, missing}
+use Rattle.rules.specs.Verdict.{firstCheck, judge, verdict}
+use Rattle.service.specs.Printed.{sequentRows, rowsBytes}
+use Rattle.service.specs.Service.{writeRows, writeSequent, output}
+use Rattle.marked.specs.Cases.{cases, allAgree}
+
+marked : allAgree cases ≡ true
+unfolding cases flatMap over countBelow first numbers keep written numberOf scanFrom rowBytes section count start readTree mentions operatorNumbered typeNumbered kindNumbered roleNumbered treeTo treeOf actionOf belonging identifiersOf machineOf inOrder eventSequents sequents lineOf wordsOf columnsUsed mostRows shapeOf operandSort resultSort sortOf mayMention mayMentionAfter seesOnly tagOffends fullOffends eventOffends identifierOffends rootAt referenceOffends rootSort sortOffends usesTo useOffends sightOffends twiceOffends offends missing firstCheck judge verdict sequentRows rowsBytes writeRows writeSequent output
+marked = refl

@@ -1,0 +1,162 @@
+-- 01, Table L and marked cases: P1 to P10 as rows of one table: what the definitions give, and what 01 says. One proof computes them all.
+use Prim.Native.Nat.{ℕ, zero, suc}
+use mathlib.Core.Path.{_≡_, refl}
+use mathlib.Core.Bool.{Bool, true, false, _&&_}
+use mathlib.Core.List.{List, [], _∷_, _++_}
+use mathlib.Core.Option.{Option, none, some}
+use lib.Dec.{eqb}
+use lib.IntN.{ℤ, pos, negsuc}
+use lib.ListN.{replicate}
+use Rattle.row.specs.declared.Row.{Row}
+use Rattle.formula.specs.Values.{integer, AnyValue, number, truth}
+use Rattle.formula.specs.Tree.{literal, logicalNot, equal, quotient, remainder, and, Division, Tree, constant, identifier, unary, binary, division, connective}
+use Rattle.formula.specs.Evaluate.{Env, readTree}
+use Rattle.rules.specs.declared.Verdict.{Verdict}
+use Rattle.rules.specs.declared.Verdict.the-variants as verdict
+use Rattle.rules.specs.Verdict.{verdict as verdictOf}
+use Rattle.run.specs.SafeRun.{withinBound}
+use Rattle.service.specs.declared.Reply.{Reply}
+use Rattle.service.specs.declared.Reply.the-variants as reply
+use Rattle.service.specs.Printed.{row, rowsBytes}
+use Rattle.service.specs.Service.{Outcome, writeSequent, output}
+
+-- An answer of any kind as a list of numbers.
+abbrev accepted : ℕ → List ℕ
+accepted n = 0 ∷ n ∷ []
+
+abbrev refused : ℕ → ℕ → List ℕ
+refused c r = 1 ∷ c ∷ r ∷ []
+
+abbrev ofVerdict : Verdict → List ℕ
+ofVerdict (verdict.Accepted n) = accepted n
+ofVerdict (verdict.Refused c r) = refused c r
+
+abbrev ofReply : Reply → List ℕ
+ofReply (reply.Written n) = accepted n
+ofReply (reply.Refused c r) = refused c r
+
+-- a reply, then the buffer
+abbrev ofOutcome : Outcome → List ℕ
+ofOutcome o = ofReply (o .reply) ++ o .buffer
+
+abbrev whole : ℤ → List ℕ
+whole (pos n) = 2 ∷ n ∷ []
+whole (negsuc n) = 3 ∷ suc n ∷ []
+
+abbrev undefined : List ℕ
+undefined = 4 ∷ []
+
+abbrev bit : Bool → List ℕ
+bit true = 5 ∷ 1 ∷ []
+bit false = 5 ∷ 0 ∷ []
+
+abbrev ofReading : Option AnyValue → List ℕ
+ofReading none = undefined
+ofReading (some (number z)) = whole z
+ofReading (some (truth b)) = bit b
+
+-- A case: what the definitions give, and what 01 says.
+pub record Case : Type 0 where
+  pub computed : List ℕ
+  pub stated : List ℕ
+
+abbrev gives : List ℕ → List ℕ → Case
+gives c s = record { computed = c; stated = s }
+
+-- 01: "L, four numbers a row"
+abbrev pub rowsL : List Row
+rowsL =
+    row 10 2 1 0 ∷ row 10 3 1 0 ∷ row 20 1 0 0 ∷ row 20 1 0 0 ∷ row 20 3 1 0 ∷ row 20 3 2 0 ∷ row 20 20 3 4 ∷ row 40 1 0 0 ∷ row 40 2 0 0
+    ∷ row 51 1 1 1 ∷ row 51 2 2 2 ∷ row 60 2 1 5 ∷ []
+
+abbrev pub bytesL : List ℕ
+bytesL = rowsBytes rowsL
+
+abbrev sequent5 : List Row
+sequent5 = row 80 5 2 1 ∷ row 81 4 2 2 ∷ row 81 1 5 0 ∷ row 82 4 1 1 ∷ []
+
+abbrev printedL : List Row
+printedL =
+    row 80 1 1 1 ∷ row 82 3 1 0 ∷ row 80 1 2 2 ∷ row 82 3 2 0 ∷ row 80 1 2 5 ∷ row 81 4 2 2 ∷ row 82 3 5 0
+    ∷ row 80 6 2 1 ∷ row 81 4 2 2 ∷ row 82 6 2 1 ∷ sequent5
+
+-- L without its last row
+abbrev shortL : List Row
+shortL =
+    row 10 2 1 0 ∷ row 10 3 1 0 ∷ row 20 1 0 0 ∷ row 20 1 0 0 ∷ row 20 3 1 0 ∷ row 20 3 2 0 ∷ row 20 20 3 4 ∷ row 40 1 0 0 ∷ row 40 2 0 0
+    ∷ row 51 1 1 1 ∷ row 51 2 2 2 ∷ []
+
+-- L with node 6 = ⊤ and row 60 2 1 6 added
+abbrev twiceL : List Row
+twiceL =
+    row 10 2 1 0 ∷ row 10 3 1 0 ∷ row 20 1 0 0 ∷ row 20 1 0 0 ∷ row 20 3 1 0 ∷ row 20 3 2 0 ∷ row 20 20 3 4 ∷ row 20 30 0 0 ∷ row 40 1 0 0
+    ∷ row 40 2 0 0 ∷ row 51 1 1 1 ∷ row 51 2 2 2 ∷ row 60 2 1 5 ∷ row 60 2 1 6 ∷ []
+
+abbrev room : ℕ → List ℕ
+room n = replicate n 7
+
+-- −7 and 2
+abbrev minusSeven : Tree
+minusSeven = constant (literal 18446744073709551609)
+
+abbrev divided : Division → Tree
+divided o = division o minusSeven (constant (literal 2))
+
+-- a = 1 and b = 0
+abbrev valueAB : ℕ → ℤ
+valueAB zero = pos 0
+valueAB (suc zero) = pos 1
+valueAB (suc (suc x)) = pos 0
+
+abbrev at : Env (λ x. integer)
+at = record { present = valueAB; after = valueAB }
+
+-- ¬(b = 0), and a ÷ b = 1
+abbrev nonzero : Tree
+nonzero = unary logicalNot (binary equal (identifier 2) (constant (literal 0)))
+
+abbrev quotientOne : Tree
+quotientOne = binary equal (division quotient (identifier 1) (identifier 2)) (constant (literal 1))
+
+unfoldable pub cases : List Case
+cases =
+    -- P1: the program prints for L
+    gives (output bytesL) (rowsBytes printedL)
+    -- P2: count 5; k 5 accepted, 0 and 6 give 13
+    ∷ gives (ofVerdict (verdictOf bytesL)) (accepted 5)
+    ∷ gives (ofReply (writeSequent bytesL 5 (room 200) .reply)) (accepted 4)
+    ∷ gives (ofOutcome (writeSequent bytesL 0 (room 200))) (refused 13 0 ++ room 200)
+    ∷ gives (ofOutcome (writeSequent bytesL 6 (room 200))) (refused 13 0 ++ room 200)
+    -- P3: sequent 5 fits 152 bytes; 151 gives 15
+    ∷ gives (ofOutcome (writeSequent bytesL 5 (room 152))) (accepted 4 ++ rowsBytes sequent5)
+    ∷ gives (ofOutcome (writeSequent bytesL 5 (room 151))) (refused 15 0 ++ room 151)
+    ∷ gives (ofOutcome (writeSequent bytesL 5 (room 155))) (accepted 4 ++ (rowsBytes sequent5 ++ room 3))
+    -- P4: L without its last row: 9, row 7
+    ∷ gives (ofVerdict (verdictOf (rowsBytes shortL))) (refused 9 7)
+    -- P5: L with node 6 = ⊤ and row 60 2 1 6 added: 11, row 14
+    ∷ gives (ofVerdict (verdictOf (rowsBytes twiceL))) (refused 11 14)
+    -- P6: empty input: 12
+    ∷ gives (ofVerdict (verdictOf [])) (refused 12 0)
+    -- P7: 37 bytes: 1
+    ∷ gives (ofVerdict (verdictOf (room 37))) (refused 1 0)
+    -- P8: −7 ÷ 2 = −3 and −7 mod 2 = −1
+    ∷ gives (ofReading (readTree at (divided quotient))) (whole (negsuc 2))
+    ∷ gives (ofReading (readTree at (divided remainder))) (whole (negsuc 0))
+    -- P9: ¬(b = 0) ∧ a ÷ b = 1 is false at b = 0; with sides exchanged, undefined
+    ∷ gives (ofReading (readTree at (connective and nonzero quotientOne))) (bit false)
+    ∷ gives (ofReading (readTree at (connective and quotientOne nonzero))) undefined
+    -- P10: variant 0, one convergent step to −1: allowed, two are not
+    ∷ gives (bit (withinBound 1 (pos 0))) (bit true)
+    ∷ gives (bit (withinBound 2 (pos 0))) (bit false)
+    ∷ []
+
+-- the two are the same in every case
+abbrev pub same : List ℕ → List ℕ → Bool
+same [] [] = true
+same [] (y ∷ ys) = false
+same (x ∷ xs) [] = false
+same (x ∷ xs) (y ∷ ys) = eqb x y && same xs ys
+
+abbrev pub allAgree : List Case → Bool
+allAgree [] = true
+allAgree (c ∷ cs) = same (c .computed) (c .stated) && allAgree cs
