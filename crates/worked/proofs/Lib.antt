@@ -1,0 +1,5 @@
+pub mod Decoded
+pub mod Formulas
+pub mod Listed
+pub mod Safe
+pub mod Valid

@@ -1,0 +1,120 @@
+-- The list of the worked table's sequents, computed: first those of axioms, invariants and the variant, then event by event.
+use Prim.Native.Nat.{ℕ}
+use mathlib.Core.Path.{_≡_, refl}
+use mathlib.Core.List.{List, [], _∷_, _++_, flatMap}
+use Rattle.lists.specs.Rows.{countBelow, first, numbers, keep}
+use Rattle.table.specs.Table.{tableOf, section, count, start}
+use Rattle.machine.specs.Machine.{Machine}
+use Rattle.machine.specs.Described.{kindNumbered, roleNumbered, actionOf, belonging, identifiersOf, machineOf}
+use Rattle.sequent.specs.Entry.{Entry, written, primed, defined, moves, feasible, witnessed, natural, decreases}
+use Rattle.sequent.specs.Sequent.{Sequent}
+use Rattle.sequent.specs.Listed.{sequent, inOrder, eventSequents, sequents, WD, INV, FIS, GRD, SIM, WFIS, NAT, VAR}
+use Rattle.worked.proofs.Decoded.{words}
+
+unfoldable pub worked : Machine
+worked = machineOf (tableOf words)
+
+-- base and guards of an event, then its moves, then its witnesses
+abbrev pub axiomOnly : List Entry
+axiomOnly = written 3 ∷ []
+
+abbrev pub abstractBase : List Entry
+abstractBase = written 3 ∷ written 6 ∷ written 9 ∷ []
+
+abbrev pub concreteBase : List Entry
+concreteBase = written 3 ∷ written 6 ∷ written 9 ∷ written 12 ∷ []
+
+abbrev pub guarded2 : List Entry
+guarded2 = written 3 ∷ written 6 ∷ written 9 ∷ written 18 ∷ written 23 ∷ []
+
+abbrev pub guarded4 : List Entry
+guarded4 = written 3 ∷ written 6 ∷ written 9 ∷ written 12 ∷ written 38 ∷ written 43 ∷ []
+
+abbrev pub guarded5 : List Entry
+guarded5 = written 3 ∷ written 6 ∷ written 9 ∷ written 12 ∷ written 58 ∷ []
+
+abbrev pub moved1 : List Entry
+moved1 = written 3 ∷ moves 1 2 ∷ moves 1 3 ∷ []
+
+abbrev pub moved3 : List Entry
+moved3 = written 3 ∷ moves 3 4 ∷ moves 3 5 ∷ []
+
+abbrev pub moved2 : List Entry
+moved2 = written 3 ∷ written 6 ∷ written 9 ∷ written 18 ∷ written 23 ∷ moves 2 2 ∷ moves 2 3 ∷ []
+
+abbrev pub moved4 : List Entry
+moved4 = written 3 ∷ written 6 ∷ written 9 ∷ written 12 ∷ written 38 ∷ written 43 ∷ moves 4 4 ∷ moves 4 5 ∷ []
+
+abbrev pub moved5 : List Entry
+moved5 = written 3 ∷ written 6 ∷ written 9 ∷ written 12 ∷ written 58 ∷ moves 5 4 ∷ moves 5 5 ∷ []
+
+abbrev pub list0 : List Sequent
+list0 =
+    sequent WD 0 3 [] (defined 3)
+    ∷ sequent WD 0 6 axiomOnly (defined 6)
+    ∷ sequent WD 0 9 (axiomOnly ++ (written 6 ∷ [])) (defined 9)
+    ∷ sequent WD 0 12 abstractBase (defined 12)
+    ∷ sequent WD 0 62 concreteBase (defined 62)
+    ∷ []
+
+abbrev pub list1 : List Sequent
+list1 =
+    sequent WD 1 13 axiomOnly (defined 13)
+    ∷ sequent WD 1 14 axiomOnly (defined 14)
+    ∷ sequent INV 1 6 moved1 (primed 6)
+    ∷ sequent INV 1 9 moved1 (primed 9)
+    ∷ []
+
+abbrev pub list2 : List Sequent
+list2 =
+    sequent WD 2 18 abstractBase (defined 18)
+    ∷ sequent WD 2 23 (abstractBase ++ (written 18 ∷ [])) (defined 23)
+    ∷ sequent WD 2 26 guarded2 (defined 26)
+    ∷ sequent FIS 2 2 guarded2 (feasible 2 2)
+    ∷ sequent INV 2 6 moved2 (primed 6)
+    ∷ sequent INV 2 9 moved2 (primed 9)
+    ∷ []
+
+abbrev pub list3 : List Sequent
+list3 =
+    sequent WD 3 27 axiomOnly (defined 27)
+    ∷ sequent WD 3 28 axiomOnly (defined 28)
+    ∷ sequent WD 3 31 moved3 (defined 31)
+    ∷ sequent WFIS 3 2 moved3 (witnessed 3 2)
+    ∷ sequent WD 3 34 moved3 (defined 34)
+    ∷ sequent WFIS 3 3 moved3 (witnessed 3 3)
+    ∷ sequent SIM 3 2 (moved3 ++ (written 31 ∷ written 34 ∷ [])) (moves 1 2)
+    ∷ sequent SIM 3 3 (moved3 ++ (written 31 ∷ written 34 ∷ [])) (moves 1 3)
+    ∷ sequent INV 3 12 (moved3 ++ (written 31 ∷ written 34 ∷ [])) (primed 12)
+    ∷ []
+
+abbrev pub list4 : List Sequent
+list4 =
+    sequent WD 4 38 concreteBase (defined 38)
+    ∷ sequent WD 4 43 (concreteBase ++ (written 38 ∷ [])) (defined 43)
+    ∷ sequent WD 4 46 guarded4 (defined 46)
+    ∷ sequent WD 4 49 guarded4 (defined 49)
+    ∷ sequent WFIS 4 6 guarded4 (witnessed 4 6)
+    ∷ sequent WD 4 52 moved4 (defined 52)
+    ∷ sequent WFIS 4 2 moved4 (witnessed 4 2)
+    ∷ sequent WD 4 55 moved4 (defined 55)
+    ∷ sequent WFIS 4 3 moved4 (witnessed 4 3)
+    ∷ sequent GRD 4 18 (guarded4 ++ (written 49 ∷ [])) (written 18)
+    ∷ sequent GRD 4 23 (guarded4 ++ (written 49 ∷ [])) (written 23)
+    ∷ sequent SIM 4 2 (moved4 ++ (written 49 ∷ written 52 ∷ written 55 ∷ [])) (moves 2 2)
+    ∷ sequent SIM 4 3 (moved4 ++ (written 49 ∷ written 52 ∷ written 55 ∷ [])) (moves 2 3)
+    ∷ sequent INV 4 12 (moved4 ++ (written 49 ∷ written 52 ∷ written 55 ∷ [])) (primed 12)
+    ∷ []
+
+abbrev pub list5 : List Sequent
+list5 =
+    sequent WD 5 58 concreteBase (defined 58)
+    ∷ sequent WD 5 61 guarded5 (defined 61)
+    ∷ sequent INV 5 12 (moved5 ++ (moves 5 2 ∷ moves 5 3 ∷ [])) (primed 12)
+    ∷ sequent NAT 5 62 guarded5 (natural 62)
+    ∷ sequent VAR 5 62 moved5 (decreases 62)
+    ∷ []
+
+pub listed : sequents worked ≡ list0 ++ (list1 ++ (list2 ++ (list3 ++ (list4 ++ list5))))
+unfolding worked words machineOf sequents eventSequents inOrder flatMap section count start countBelow first numbers keep kindNumbered roleNumbered actionOf belonging identifiersOf
+listed = refl

@@ -1,0 +1,227 @@
+-- The 43 sequents of the worked table are valid. Those of well-definedness without a division hold by one law; the others follow from one or two
+-- of their hypotheses, by putting equals for equals.
+use Prim.Native.Nat.{ℕ}
+use mathlib.Core.Path.{_≡_, refl, sym, ap, ap₂, _∙_, subst, subst⁻¹}
+use mathlib.Core.Bool.{Bool, true, false, not}
+use mathlib.Core.List.{List, [], _∷_, _++_}
+use native.Mathlib.Omega.{arith}
+use lib.Dec.{T}
+use lib.IntN.{ℤ, pos, sucℤ, _-ℤ_, -ℤ-+ℤ-cancel, +ℤ-one}
+use Rattle.lists.specs.All.{All, all-nil, all-cons}
+use Rattle.lists.specs.Rows.{countBelow}
+use Rattle.lists.proofs.All.{all-head, all-tail, all-join}
+use Rattle.table.specs.Table.{start}
+use Rattle.formula.specs.Values.{ValueType, integer, boolean, Value, AnyValue, number, truth, wrap, asNumber, asValue, equalValue, atMostℤ, lessℤ}
+use Rattle.formula.specs.Tree.{literal, FALSE, equal, atMost, quotient, constant, identifier, after, binary}
+use Rattle.formula.specs.Evaluate.{Env, evaluate, withPresent, withAfter, totalDivision}
+use Rattle.formula.specs.Formula.{Formula, someValue, someAfterValue, Holds}
+use Rattle.formula.proofs.Values.{equal-value-eq, eq-equal-value}
+use Rattle.formula.proofs.Order.{suc-less, less-at-most, at-most-refl}
+use Rattle.formula.proofs.Override.{override-same, override-other}
+use Rattle.formula.proofs.NoDivision.{noDivision, no-division-defined}
+use Rattle.machine.specs.Operator.{operatorNumbered}
+use Rattle.machine.specs.Described.{treeTo, treeOf, machineOf}
+use Rattle.sequent.specs.Entry.{Entry, written, primed, defined, moves, feasible, witnessed, natural, decreases, formula}
+use Rattle.sequent.specs.Sequent.{Sequent, Meets, Valid}
+use Rattle.sequent.specs.Listed.{sequent, WD, sequents}
+use Rattle.worked.proofs.Decoded.{words}
+use Rattle.worked.proofs.Listed.{worked, listed, list0, list1, list2, list3, list4, list5}
+use Rattle.worked.proofs.Formulas as f
+
+-- no division
+defined-anywhere : (e r : ℕ) (hs : List Entry) → T (noDivision (worked .tree r)) → Valid worked (sequent WD e r hs (defined r))
+unfolding Valid
+defined-anywhere e r hs h ρ hyps = no-division-defined ρ (worked .tree r) h
+
+-- Equals for equals, of any values.
+at-most-from : (v w : AnyValue) → T (equalValue v w) → T (atMostℤ (pos 0) (asNumber w)) → T (atMostℤ (pos 0) (asNumber v))
+at-most-from v w e h = subst (λ z. T (atMostℤ (pos 0) (asNumber z))) (sym (equal-value-eq v w e)) h
+
+nonzero-from : (v w : AnyValue) → T (equalValue v w) → T (not (equalValue w (number (pos 0)))) → T (not (equalValue v (number (pos 0))))
+nonzero-from v w e h = subst (λ z. T (not (equalValue z (number (pos 0))))) (sym (equal-value-eq v w e)) h
+
+-- from k = a and q = p: what holds of k ÷ p holds of a ÷ q
+quotient-from : (a k p q : AnyValue) → T (equalValue k a) → T (equalValue q p) → T (atMostℤ (pos 0) (asNumber (totalDivision quotient k p)))
+    → T (atMostℤ (pos 0) (asNumber (totalDivision quotient a q)))
+quotient-from a k p q e f h =
+    subst (λ z. T (atMostℤ (pos 0) (asNumber z))) (ap₂ (totalDivision quotient) (equal-value-eq k a e) (sym (equal-value-eq q p f))) h
+
+symmetric : (v w : AnyValue) → T (equalValue v w) → T (equalValue w v)
+symmetric v w e = eq-equal-value w v (sym (equal-value-eq v w e))
+
+transitive : (u v w : AnyValue) → T (equalValue u v) → T (equalValue v w) → T (equalValue u w)
+transitive u v w e f = eq-equal-value u w (equal-value-eq u v e ∙ equal-value-eq v w f)
+
+pred-less : (u : ℤ) → T (lessℤ (u -ℤ pos 1) u)
+pred-less u =
+    let e : sucℤ (u -ℤ pos 1) ≡ u = sym (+ℤ-one (u -ℤ pos 1)) ∙ -ℤ-+ℤ-cancel u (pos 1) in
+    suc-less (u -ℤ pos 1) u (subst (λ z. T (atMostℤ z u)) (sym e) (at-most-refl u))
+
+less-from : (v u : AnyValue) → T (equalValue v (number (asNumber u -ℤ pos 1))) → T (lessℤ (asNumber v) (asNumber u))
+less-from v u e = subst (λ z. T (lessℤ (asNumber z) (asNumber u))) (sym (equal-value-eq v (number (asNumber u -ℤ pos 1)) e)) (pred-less (asNumber u))
+
+-- a value fits a type
+fits-type : (s t : ValueType) → s ≡ t → (v : Value t) → wrap s (asValue s (wrap t v)) ≡ wrap t v
+fits-type s t e v = subst (λ x. wrap x (asValue x (wrap t v)) ≡ wrap t v) (sym e) (go t v)
+  where
+    go : (t : ValueType) (v : Value t) → wrap t (asValue t (wrap t v)) ≡ wrap t v
+    go integer v = refl
+    go boolean v = refl
+
+module _ (ρ : Env (worked .type)) where
+  abbrev type : ℕ → ValueType
+  type = worked .type
+
+  -- the value, and the after value, of an identifier
+  abbrev now : ℕ → AnyValue
+  now x = wrap (type x) (ρ .present x)
+
+  abbrev next : ℕ → AnyValue
+  next x = wrap (type x) (ρ .after x)
+
+  -- an entry by the formula that it spells
+  from : (e : Entry) {φ : Formula} → formula worked e ≡ φ → Meets worked ρ e → Holds ρ φ
+  from e q h = subst (Holds ρ) q h
+
+  shown : (e : Entry) {φ : Formula} → formula worked e ≡ φ → Holds ρ φ → Meets worked ρ e
+  shown e q h = subst⁻¹ (Holds ρ) q h
+
+  -- some value equals another identifier's
+  some-after : (x y : ℕ) → (y ≡ x → ⊥) → type x ≡ type y → Holds ρ (someAfterValue x (binary equal (after x) (after y)))
+  unfolding evaluate
+  some-after x y n e =
+      let v : Value (type x) = asValue (type x) (next y) in
+      ∣ (
+        v,
+        eq-equal-value _ _ (ap (wrap (type x)) (override-same type (ρ .after) x v) ∙ fits-type (type x) (type y) e (ρ .after y)
+            ∙ ap (wrap (type y)) (sym (override-other type (ρ .after) x v y n))),
+      ) ∣₁
+
+  some-value : (x y : ℕ) → (y ≡ x → ⊥) → type x ≡ type y → Holds ρ (someValue x (binary equal (identifier x) (identifier y)))
+  unfolding evaluate
+  some-value x y n e =
+      let v : Value (type x) = asValue (type x) (now y) in
+      ∣ (
+        v,
+        eq-equal-value _ _ (ap (wrap (type x)) (override-same type (ρ .present) x v) ∙ fits-type (type x) (type y) e (ρ .present y)
+            ∙ ap (wrap (type y)) (sym (override-other type (ρ .present) x v y n))),
+      ) ∣₁
+
+  some-false : (x : ℕ) → type x ≡ boolean → Holds ρ (someAfterValue x (binary equal (after x) (constant FALSE)))
+  unfolding evaluate
+  some-false x e =
+      let v : Value (type x) = asValue (type x) (truth false) in
+      ∣ (v, eq-equal-value _ _ (ap (wrap (type x)) (override-same type (ρ .after) x v) ∙ fits-type (type x) boolean e false)) ∣₁
+
+  some-natural : (x : ℕ) → type x ≡ integer → Holds ρ (someAfterValue x (binary atMost (constant (literal 0)) (after x)))
+  unfolding evaluate
+  some-natural x e =
+      let v : Value (type x) = asValue (type x) (number (pos 0)) in
+      ∣ (v, subst (λ z. T (atMostℤ (pos 0) (asNumber z))) (sym (ap (wrap (type x)) (override-same type (ρ .after) x v) ∙ fits-type (type x) integer e (pos 0))) tt) ∣₁
+
+-- axioms, invariants and the variant
+valid0 : All (Valid worked) list0
+unfolding Valid evaluate worked words machineOf treeOf treeTo start countBelow operatorNumbered noDivision
+valid0 =
+    (all-cons (defined-anywhere 0 3 _ tt)
+    (all-cons (defined-anywhere 0 6 _ tt)
+    (all-cons (defined-anywhere 0 9 _ tt)
+    (all-cons (defined-anywhere 0 12 _ tt)
+    (all-cons (defined-anywhere 0 62 _ tt)
+    all-nil)))))
+
+-- the abstract initialisation: a := N, b := FALSE
+valid1 : All (Valid worked) list1
+unfolding Valid evaluate worked words machineOf treeOf treeTo start countBelow operatorNumbered noDivision
+valid1 =
+    (all-cons (defined-anywhere 1 13 _ tt)
+    (all-cons (defined-anywhere 1 14 _ tt)
+    -- INV of 6
+    (all-cons (λ ρ h. shown ρ (primed 6) f.primed-6 (at-most-from (next ρ 2) (now ρ 1) (from ρ (moves 1 2) f.moves-1-2 (all-head (all-tail h))) (from ρ (written 3) f.written-3 (all-head h))))
+    -- INV of 9
+    (all-cons (λ ρ h. shown ρ (primed 9) f.primed-9 ((from ρ (moves 1 3) f.moves-1-3 (all-head (all-tail (all-tail h))))))
+    all-nil))))
+
+-- the abstract event: guards ¬(q = 0) and 0 ≤ a ÷ q, a :| 0 ≤ a′
+valid2 : All (Valid worked) list2
+unfolding Valid evaluate worked words machineOf treeOf treeTo start countBelow operatorNumbered noDivision
+valid2 =
+    (all-cons (defined-anywhere 2 18 _ tt)
+    -- WD of 23
+    (all-cons (λ ρ h. shown ρ (defined 23) f.defined-23 ((from ρ (written 18) f.written-18 (all-head (all-tail (all-tail (all-tail h)))))))
+    (all-cons (defined-anywhere 2 26 _ tt)
+    -- FIS of 2
+    (all-cons (λ ρ h. shown ρ (feasible 2 2) f.feasible-2-2 (some-natural ρ 2 f.type-2))
+    -- INV of 6
+    (all-cons (λ ρ h. shown ρ (primed 6) f.primed-6 ((from ρ (moves 2 2) f.moves-2-2 (all-head (all-tail (all-tail (all-tail (all-tail (all-tail h)))))))))
+    -- INV of 9
+    (all-cons (λ ρ h. shown ρ (primed 9) f.primed-9 (transitive (next ρ 3) (now ρ 3) (truth false) (from ρ (moves 2 3) f.moves-2-3 (all-head (all-tail (all-tail (all-tail (all-tail (all-tail (all-tail h)))))))) (from ρ (written 9) f.written-9 (all-head (all-tail (all-tail h))))))
+    all-nil))))))
+
+-- the concrete initialisation: k := N, u := N
+valid3 : All (Valid worked) list3
+unfolding Valid evaluate worked words machineOf treeOf treeTo start countBelow operatorNumbered noDivision
+valid3 =
+    (all-cons (defined-anywhere 3 27 _ tt)
+    (all-cons (defined-anywhere 3 28 _ tt)
+    (all-cons (defined-anywhere 3 31 _ tt)
+    -- WFIS of 2
+    (all-cons (λ ρ h. shown ρ (witnessed 3 2) f.witnessed-3-2 (some-after ρ 2 4 (λ e. omega arith) (f.type-2 ∙ sym f.type-4)))
+    (all-cons (defined-anywhere 3 34 _ tt)
+    -- WFIS of 3
+    (all-cons (λ ρ h. shown ρ (witnessed 3 3) f.witnessed-3-3 (some-false ρ 3 f.type-3))
+    -- SIM of 2
+    (all-cons (λ ρ h. shown ρ (moves 1 2) f.moves-1-2 (transitive (next ρ 2) (next ρ 4) (now ρ 1) (from ρ (written 31) f.written-31 (all-head (all-tail (all-tail (all-tail h))))) (from ρ (moves 3 4) f.moves-3-4 (all-head (all-tail h)))))
+    -- SIM of 3
+    (all-cons (λ ρ h. shown ρ (moves 1 3) f.moves-1-3 ((from ρ (written 34) f.written-34 (all-head (all-tail (all-tail (all-tail (all-tail h))))))))
+    -- INV of 12
+    (all-cons (λ ρ h. shown ρ (primed 12) f.primed-12 (symmetric (next ρ 2) (next ρ 4) (from ρ (written 31) f.written-31 (all-head (all-tail (all-tail (all-tail h)))))))
+    all-nil)))))))))
+
+-- the refining event: guards ¬(p = 0) and 0 ≤ k ÷ p, k := k ÷ p
+valid4 : All (Valid worked) list4
+unfolding Valid evaluate worked words machineOf treeOf treeTo start countBelow operatorNumbered noDivision
+valid4 =
+    (all-cons (defined-anywhere 4 38 _ tt)
+    -- WD of 43
+    (all-cons (λ ρ h. shown ρ (defined 43) f.defined-43 ((from ρ (written 38) f.written-38 (all-head (all-tail (all-tail (all-tail (all-tail h))))))))
+    -- WD of 46
+    (all-cons (λ ρ h. shown ρ (defined 46) f.defined-46 ((from ρ (written 38) f.written-38 (all-head (all-tail (all-tail (all-tail (all-tail h))))))))
+    (all-cons (defined-anywhere 4 49 _ tt)
+    -- WFIS of 6
+    (all-cons (λ ρ h. shown ρ (witnessed 4 6) f.witnessed-4-6 (some-value ρ 6 7 (λ e. omega arith) (f.type-6 ∙ sym f.type-7)))
+    (all-cons (defined-anywhere 4 52 _ tt)
+    -- WFIS of 2
+    (all-cons (λ ρ h. shown ρ (witnessed 4 2) f.witnessed-4-2 (some-after ρ 2 4 (λ e. omega arith) (f.type-2 ∙ sym f.type-4)))
+    (all-cons (defined-anywhere 4 55 _ tt)
+    -- WFIS of 3
+    (all-cons (λ ρ h. shown ρ (witnessed 4 3) f.witnessed-4-3 (some-false ρ 3 f.type-3))
+    -- GRD of 18
+    (all-cons (λ ρ h. shown ρ (written 18) f.written-18 (nonzero-from (now ρ 6) (now ρ 7) (from ρ (written 49) f.written-49 (all-head (all-tail (all-tail (all-tail (all-tail (all-tail (all-tail h)))))))) (from ρ (written 38) f.written-38 (all-head (all-tail (all-tail (all-tail (all-tail h))))))))
+    -- GRD of 23
+    (all-cons (λ ρ h. shown ρ (written 23) f.written-23 (quotient-from (now ρ 2) (now ρ 4) (now ρ 7) (now ρ 6) (from ρ (written 12) f.written-12 (all-head (all-tail (all-tail (all-tail h))))) (from ρ (written 49) f.written-49 (all-head (all-tail (all-tail (all-tail (all-tail (all-tail (all-tail h)))))))) (from ρ (written 43) f.written-43 (all-head (all-tail (all-tail (all-tail (all-tail (all-tail h)))))))))
+    -- SIM of 2
+    (all-cons (λ ρ h. shown ρ (moves 2 2) f.moves-2-2 (at-most-from (next ρ 2) (next ρ 4) (from ρ (written 52) f.written-52 (all-head (all-tail (all-tail (all-tail (all-tail (all-tail (all-tail (all-tail (all-tail (all-tail h))))))))))) (at-most-from (next ρ 4) (totalDivision quotient (now ρ 4) (now ρ 7)) (from ρ (moves 4 4) f.moves-4-4 (all-head (all-tail (all-tail (all-tail (all-tail (all-tail (all-tail h)))))))) (from ρ (written 43) f.written-43 (all-head (all-tail (all-tail (all-tail (all-tail (all-tail h))))))))))
+    -- SIM of 3
+    (all-cons (λ ρ h. shown ρ (moves 2 3) f.moves-2-3 (transitive (next ρ 3) (truth false) (now ρ 3) (from ρ (written 55) f.written-55 (all-head (all-tail (all-tail (all-tail (all-tail (all-tail (all-tail (all-tail (all-tail (all-tail (all-tail h)))))))))))) (symmetric (now ρ 3) (truth false) (from ρ (written 9) f.written-9 (all-head (all-tail (all-tail h)))))))
+    -- INV of 12
+    (all-cons (λ ρ h. shown ρ (primed 12) f.primed-12 (symmetric (next ρ 2) (next ρ 4) (from ρ (written 52) f.written-52 (all-head (all-tail (all-tail (all-tail (all-tail (all-tail (all-tail (all-tail (all-tail (all-tail h)))))))))))))
+    all-nil))))))))))))))
+
+-- the convergent event: guard 0 < u, u := u − 1
+valid5 : All (Valid worked) list5
+unfolding Valid evaluate worked words machineOf treeOf treeTo start countBelow operatorNumbered noDivision
+valid5 =
+    (all-cons (defined-anywhere 5 58 _ tt)
+    (all-cons (defined-anywhere 5 61 _ tt)
+    -- INV of 12
+    (all-cons (λ ρ h. shown ρ (primed 12) f.primed-12 (transitive (next ρ 4) (now ρ 4) (next ρ 2) (from ρ (moves 5 4) f.moves-5-4 (all-head (all-tail (all-tail (all-tail (all-tail (all-tail h))))))) (transitive (now ρ 4) (now ρ 2) (next ρ 2) (from ρ (written 12) f.written-12 (all-head (all-tail (all-tail (all-tail h))))) (symmetric (next ρ 2) (now ρ 2) (from ρ (moves 5 2) f.moves-5-2 (all-head (all-tail (all-tail (all-tail (all-tail (all-tail (all-tail (all-tail h)))))))))))))
+    -- NAT of 62
+    (all-cons (λ ρ h. shown ρ (natural 62) f.natural-62 (less-at-most (pos 0) (asNumber (now ρ 5)) (from ρ (written 58) f.written-58 (all-head (all-tail (all-tail (all-tail (all-tail h))))))))
+    -- VAR of 62
+    (all-cons (λ ρ h. shown ρ (decreases 62) f.decreases-62 (less-from (next ρ 5) (now ρ 5) (from ρ (moves 5 5) f.moves-5-5 (all-head (all-tail (all-tail (all-tail (all-tail (all-tail (all-tail h))))))))))
+    all-nil)))))
+
+pub valid : All (Valid worked) (sequents worked)
+valid =
+    subst (All (Valid worked)) (sym listed) (all-join valid0 (all-join valid1 (all-join valid2 (all-join valid3 (all-join valid4 valid5)))))
