@@ -1,3 +1,6 @@
 pub mod Distinct
 pub mod Exact
+pub mod Find
+pub mod Groups
 pub mod Parts
+pub mod Walk

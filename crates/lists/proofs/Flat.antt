@@ -1,0 +1,244 @@
+-- Laws of flatMap: through ++, map and keep, and over the numbers below a bound, where its length is a sum and its members stand behind sums. Each by
+-- recursion on the list or on the bound.
+use Prim.Native.Nat.{ℕ, zero, suc, _+_, _-_, _*_, _≤_, _<_}
+use mathlib.Core.Path.{_≡_, refl, sym, ap, ap₂, _∙_, subst, fun-ext}
+use mathlib.Core.Bool.{Bool, true, false, cond, _&&_, _||_}
+use mathlib.Core.List.{List, [], _∷_, _++_, map, flatMap, append-assoc, append-nil}
+use mathlib.Core.Logic.{⊎-elim}
+use native.Mathlib.Nat.{eq-or-lt-of-le, suc-mul}
+use native.Mathlib.Omega.{arith}
+use lib.Dec.{T, ltb}
+use lib.ListN.{length, getD, length-append, List·getD-append}
+use lib.Seq.{getD-append-add}
+use borrow.Author.Tests.{lt-ltb, le-ltb}
+use Rattle.lists.specs.All.{In, here, there}
+use Rattle.lists.specs.Rows.{oneIf, countBelow, sumBelow, numbers, keep}
+use Rattle.lists.proofs.Rows.{in-numbers}
+
+-- a choice by two tests
+pub cond-and : {A : Type 0} (p q : Bool) (xs : List A) → cond (p && q) xs [] ≡ cond p (cond q xs []) []
+cond-and true q xs = refl
+cond-and false q xs = refl
+
+module _ {A B : Type 0} where
+  pub flat-none : (xs : List A) → flatMap {A = A} {B = B} (λ x. []) xs ≡ []
+  unfolding flatMap
+  flat-none [] = refl
+  flat-none (x ∷ xs) = flat-none xs
+
+  pub flat-join : (f : A → List B) (xs ys : List A) → flatMap f (xs ++ ys) ≡ flatMap f xs ++ flatMap f ys
+  unfolding flatMap
+  flat-join f [] ys = refl
+  flat-join f (x ∷ xs) ys = rw (flat-join f xs ys, append-assoc)
+
+  pub flat-same : (f g : A → List B) (xs : List A) → ((x : A) → In x xs → f x ≡ g x) → flatMap f xs ≡ flatMap g xs
+  unfolding flatMap
+  flat-same f g [] h = refl
+  flat-same f g (x ∷ xs) h = rw (h x (here refl), flat-same f g xs (λ y i. h y (there i)))
+
+  -- a list as the members that pass, each by itself
+  pub flat-keep : (P : A → Bool) (f : A → List B) (xs : List A) → flatMap f (keep P xs) ≡ flatMap (λ x. cond (P x) (f x) []) xs
+  unfolding flatMap keep
+  flat-keep P f [] = refl
+  flat-keep P f (x ∷ xs) = by-test (P x) (flat-keep P f xs)
+    where
+      rest : List B
+      rest = flatMap (λ x. cond (P x) (f x) []) xs
+
+      by-test : (b : Bool) → flatMap f (keep P xs) ≡ rest → flatMap f (cond b (x ∷ keep P xs) (keep P xs)) ≡ cond b (f x) [] ++ rest
+      by-test true e = ap (λ r. f x ++ r) e
+      by-test false e = e
+
+  pub flat-one : (f : A → B) (xs : List A) → map f xs ≡ flatMap (λ x. f x ∷ []) xs
+  unfolding flatMap
+  flat-one f [] = refl
+  flat-one f (x ∷ xs) = ap (λ r. f x ∷ r) (flat-one f xs)
+
+  pub flat-map : {C : Type 0} (f : B → List C) (g : A → B) (xs : List A) → flatMap f (map g xs) ≡ flatMap (λ x. f (g x)) xs
+  unfolding flatMap
+  flat-map f g [] = refl
+  flat-map f g (x ∷ xs) = ap (λ r. f (g x) ++ r) (flat-map f g xs)
+
+  pub flat-ext : (f g : A → List B) (xs : List A) → ((x : A) → f x ≡ g x) → flatMap f xs ≡ flatMap g xs
+  flat-ext f g xs h = ap (λ k. flatMap k xs) (fun-ext h)
+
+  -- a test that does not turn on the member, and lists of one member or none
+  pub flat-when : (b : Bool) (P : A → Bool) (f : A → List B) (xs : List A)
+      → cond b (flatMap (λ x. cond (P x) (f x) []) xs) [] ≡ flatMap (λ x. cond (b && P x) (f x) []) xs
+  flat-when true P f xs = refl
+  flat-when false P f xs = sym (flat-none xs)
+
+  pub flat-single : (b : Bool) (f : A → List B) (x : A) → flatMap f (cond b (x ∷ []) []) ≡ cond b (f x) []
+  unfolding flatMap
+  flat-single true f x = append-nil (f x)
+  flat-single false f x = refl
+
+-- lists made of the members that pass, through one map or two
+module _ {A B C : Type 0} (P : A → Bool) (g : A → B) (xs : List A) where
+  pub flat-kept : (f : B → List C) → flatMap f (map g (keep P xs)) ≡ flatMap (λ x. cond (P x) (f (g x)) []) xs
+  flat-kept f = flat-map f g (keep P xs) ∙ flat-keep P (λ x. f (g x)) xs
+
+  pub map-kept : (f : B → C) → map f (map g (keep P xs)) ≡ flatMap (λ x. cond (P x) (f (g x) ∷ []) []) xs
+  map-kept f = flat-one f (map g (keep P xs)) ∙ flat-kept (λ b. f b ∷ [])
+
+module _ {A : Type 0} where
+  pub keep-keep : (P Q : A → Bool) (xs : List A) → keep P (keep Q xs) ≡ keep (λ x. Q x && P x) xs
+  unfolding keep
+  keep-keep P Q [] = refl
+  keep-keep P Q (x ∷ xs) = by-test (Q x) (keep-keep P Q xs)
+    where
+      both : List A
+      both = keep (λ x. Q x && P x) xs
+
+      by-test : (b : Bool) → keep P (keep Q xs) ≡ both → keep P (cond b (x ∷ keep Q xs) (keep Q xs)) ≡ cond (b && P x) (x ∷ both) both
+      by-test true e = rw e
+      by-test false e = e
+
+  pub keep-join : (P : A → Bool) (xs ys : List A) → keep P (xs ++ ys) ≡ keep P xs ++ keep P ys
+  unfolding keep
+  keep-join P [] ys = refl
+  keep-join P (x ∷ xs) ys = by-test (P x) (keep-join P xs ys)
+    where
+      by-test : (b : Bool) → keep P (xs ++ ys) ≡ keep P xs ++ keep P ys
+          → cond b (x ∷ keep P (xs ++ ys)) (keep P (xs ++ ys)) ≡ cond b (x ∷ keep P xs) (keep P xs) ++ keep P ys
+      by-test true e = ap (λ r. x ∷ r) e
+      by-test false e = e
+
+  pub keep-none : (P : A → Bool) (xs : List A) → ((x : A) → In x xs → P x ≡ false) → keep P xs ≡ []
+  unfolding keep
+  keep-none P [] h = refl
+  keep-none P (x ∷ xs) h = rw (h x (here refl)) (keep-none P xs (λ y i. h y (there i)))
+
+-- the numbers of two ranges that meet
+pub numbers-join : (n m i : ℕ) → numbers (n + m) i ≡ numbers n i ++ numbers m (i + n)
+unfolding numbers
+numbers-join zero m i = let p : 0 + m ≡ m = omega arith in let q : i + 0 ≡ i = omega arith in rw (p, q)
+numbers-join (suc n) m i =
+    let p : suc n + m ≡ suc (n + m) = omega arith in
+    let q : i + suc n ≡ suc i + n = omega arith in
+    rw (p, q) (ap (λ r. i ∷ r) (numbers-join n m (suc i)))
+
+-- one more number
+pub numbers-next : (n : ℕ) → numbers (suc n) 0 ≡ numbers n 0 ++ (n ∷ [])
+unfolding numbers
+numbers-next n =
+    let p : suc n ≡ n + 1 = omega arith in
+    let q : 0 + n ≡ n = omega arith in
+    ap (λ m. numbers m 0) p ∙ numbers-join n 1 0 ∙ ap (λ j. numbers n 0 ++ (j ∷ [])) q
+
+pub keep-next : (P : ℕ → Bool) (n : ℕ) → keep P (numbers (suc n) 0) ≡ keep P (numbers n 0) ++ cond (P n) (n ∷ []) []
+unfolding keep
+keep-next P n = ap (keep P) (numbers-next n) ∙ keep-join P (numbers n 0) (n ∷ [])
+
+pub flat-next : {B : Type 0} (f : ℕ → List B) (n : ℕ) → flatMap f (numbers (suc n) 0) ≡ flatMap f (numbers n 0) ++ f n
+unfolding flatMap
+flat-next f n = ap (flatMap f) (numbers-next n) ∙ flat-join f (numbers n 0) (n ∷ []) ∙ ap (λ r. flatMap f (numbers n 0) ++ r) (append-nil (f n))
+
+pub numbers-suc : (n i : ℕ) → numbers n (suc i) ≡ map suc (numbers n i)
+unfolding numbers
+numbers-suc zero i = refl
+numbers-suc (suc n) i = ap (λ r. suc i ∷ r) (numbers-suc n (suc i))
+
+-- the numbers below n are those below a greater bound that pass this test
+pub flat-below : {B : Type 0} (f : ℕ → List B) (n m : ℕ) → n ≤ m
+    → flatMap f (numbers n 0) ≡ flatMap (λ i. cond (ltb i n) (f i) []) (numbers m 0)
+flat-below {B} f n m h =
+    sym
+    (ap (flatMap g) split
+    ∙ flat-join g (numbers n 0) (numbers (m - n) (0 + n))
+    ∙ ap₂ (λ (xs : List B) (ys : List B). xs ++ ys) low high
+    ∙ append-nil (flatMap f (numbers n 0)))
+  where
+    g : ℕ → List B
+    g i = cond (ltb i n) (f i) []
+
+    split : numbers m 0 ≡ numbers n 0 ++ numbers (m - n) (0 + n)
+    split = let p : m ≡ n + (m - n) = omega arith in ap (λ k. numbers k 0) p ∙ numbers-join n (m - n) 0
+
+    low : flatMap g (numbers n 0) ≡ flatMap f (numbers n 0)
+    low = flat-same g f (numbers n 0) (λ i k. rw (lt-ltb i n (omega (arith, in-numbers n 0 i k .1))))
+
+    high : flatMap g (numbers (m - n) (0 + n)) ≡ []
+    high = flat-same g (λ i. []) (numbers (m - n) (0 + n)) (λ i k. rw (le-ltb i n (omega (arith, in-numbers (m - n) (0 + n) i k .0))))
+        ∙ flat-none (numbers (m - n) (0 + n))
+
+-- where no number that passes Q is followed by one that passes P, those that pass P and then those that pass Q are those that pass either, in order
+pub keep-either : (P Q : ℕ → Bool) (n i : ℕ) → ((j k : ℕ) → j ≤ k → k < i + n → T (Q j) → T (P k) → ⊥)
+    → keep P (numbers n i) ++ keep Q (numbers n i) ≡ keep (λ j. P j || Q j) (numbers n i)
+unfolding numbers keep
+keep-either P Q zero i h = refl
+keep-either P Q (suc n) i h = by-tests (P i) (Q i) refl refl (keep-either P Q n (suc i) (λ j k l m. h j k l (omega arith)))
+  where
+    ps : List ℕ
+    ps = keep P (numbers n (suc i))
+
+    qs : List ℕ
+    qs = keep Q (numbers n (suc i))
+
+    both : List ℕ
+    both = keep (λ j. P j || Q j) (numbers n (suc i))
+
+    fails : (b : Bool) → (T b → ⊥) → b ≡ false
+    fails true f = absurd (f tt)
+    fails false f = refl
+
+    by-tests : (p q : Bool) → P i ≡ p → Q i ≡ q → ps ++ qs ≡ both
+        → cond p (i ∷ ps) ps ++ cond q (i ∷ qs) qs ≡ cond (p || q) (i ∷ both) both
+    by-tests true true d e r = absurd (h i i (omega arith) (omega arith) (subst T (sym e) tt) (subst T (sym d) tt))
+    by-tests true false d e r = ap (λ xs. i ∷ xs) r
+    by-tests false true d e r =
+        let none : ps ≡ [] = keep-none P (numbers n (suc i))
+        (λ k j. let b = in-numbers n (suc i) k j in fails (P k) (h i k (omega (arith, b .0)) (omega (arith, b .1)) (subst T (sym e) tt))) in
+        rw none (ap (λ xs. i ∷ xs) (rw none at r))
+    by-tests false false d e r = r
+
+-- lengths as sums
+pub keep-length : (P : ℕ → Bool) (n : ℕ) → length (keep P (numbers n 0)) ≡ countBelow P n
+unfolding numbers keep countBelow
+keep-length P zero = refl
+keep-length P (suc n) =
+    ap length (keep-next P n) ∙ length-append (keep P (numbers n 0)) (cond (P n) (n ∷ []) []) ∙ ap₂ (λ a b. a + b) (keep-length P n) (one (P n))
+  where
+    one : (b : Bool) → length (cond b (n ∷ []) []) ≡ oneIf b
+    one true = refl
+    one false = refl
+
+pub flat-length : {B : Type 0} (f : ℕ → List B) (n : ℕ) → length (flatMap f (numbers n 0)) ≡ sumBelow (λ i. length (f i)) n
+unfolding numbers flatMap sumBelow
+flat-length f zero = refl
+flat-length f (suc n) = ap length (flat-next f n) ∙ length-append (flatMap f (numbers n 0)) (f n) ∙ ap (λ a. a + length (f n)) (flat-length f n)
+
+pub sum-same : (f g : ℕ → ℕ) (n : ℕ) → ((i : ℕ) → f i ≡ g i) → sumBelow f n ≡ sumBelow g n
+sum-same f g n h = ap (λ k. sumBelow k n) (fun-ext h)
+
+-- a sum reaches behind each of its parts
+pub sum-reaches : (c : ℕ → ℕ) (n i : ℕ) → i < n → sumBelow c i + c i ≤ sumBelow c n
+unfolding sumBelow
+sum-reaches c zero i h = absurd (omega arith)
+sum-reaches c (suc n) i h =
+    ⊎-elim (λ (e : i ≡ n). subst (λ j. sumBelow c j + c j ≤ sumBelow c n + c n) (sym e) (omega arith))
+    (λ (l : i < n). omega (arith, sum-reaches c n i l)) (eq-or-lt-of-le (omega arith))
+
+pub sum-at-most : (c : ℕ → ℕ) (most : ℕ) → ((i : ℕ) → c i ≤ most) → (n : ℕ) → sumBelow c n ≤ n * most
+unfolding sumBelow
+sum-at-most c most h zero = omega arith
+sum-at-most c most h (suc n) = rw (suc-mul n most) (omega (arith, sum-at-most c most h n, h n))
+
+-- where f makes c i members of i, the k-th of these stands k places behind all that f makes of the numbers before i
+pub flat-at : {B : Type 0} (f : ℕ → List B) (c : ℕ → ℕ) → ((i : ℕ) → length (f i) ≡ c i) → (n i k : ℕ) (d : B) → i < n → k < c i
+    → getD (flatMap f (numbers n 0)) (sumBelow c i + k) d ≡ getD (f i) k d
+unfolding numbers flatMap
+flat-at {B} f c size n i k d h l =
+    ap (λ xs. getD (flatMap f xs) (sumBelow c i + k) d) split
+    ∙ ap₂ (λ (xs : List B) (m : ℕ). getD xs (m + k) d) (flat-join f (numbers i 0) (i ∷ numbers (n - suc i) (suc i))) (sym before)
+    ∙ getD-append-add (flatMap f (numbers i 0)) (f i ++ flatMap f (numbers (n - suc i) (suc i))) k d
+    ∙ List·getD-append (f i) (flatMap f (numbers (n - suc i) (suc i))) d k (omega (arith, size i))
+  where
+    split : numbers n 0 ≡ numbers i 0 ++ (i ∷ numbers (n - suc i) (suc i))
+    split =
+        let p : n ≡ i + suc (n - suc i) = omega arith in
+        let q : 0 + i ≡ i = omega arith in
+        ap (λ m. numbers m 0) p ∙ numbers-join i (suc (n - suc i)) 0 ∙ ap (λ j. numbers i 0 ++ numbers (suc (n - suc i)) j) q
+
+    before : length (flatMap f (numbers i 0)) ≡ sumBelow c i
+    before = flat-length f i ∙ sum-same (λ j. length (f j)) c i size
