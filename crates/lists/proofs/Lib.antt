@@ -4,4 +4,5 @@ pub mod First
 pub mod Flat
 pub mod Keep
 pub mod Over
+pub mod Range
 pub mod Rows

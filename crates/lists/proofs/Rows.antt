@@ -6,6 +6,7 @@ use mathlib.Core.List.{List, [], _∷_}
 use mathlib.Core.Logic.{_⊎_, inl, inr, ⊎-elim}
 use native.Mathlib.Omega.{arith}
 use native.Mathlib.Nat.{eq-or-lt-of-le}
+use native.Mathlib.Numerals.{add-one}
 use lib.Dec.{T, ltb→lt, lt→ltb}
 use Rattle.lists.specs.All.{In, here, there}
 use Rattle.lists.specs.Rows.{oneIf, countBelow, someBelow, numbers, keep}
@@ -36,6 +37,15 @@ module _ (P : ℕ → Bool) where
   unfolding countBelow
   count-at-most zero = omega arith
   count-at-most (suc n) = omega (arith, count-at-most n, one-at-most (P n))
+
+  -- none below 0, and one more row
+  pub count-none : countBelow P 0 ≡ 0
+  unfolding countBelow
+  count-none = refl
+
+  pub count-next : (n : ℕ) → countBelow P (n + 1) ≡ countBelow P n + oneIf (P n)
+  unfolding countBelow
+  count-next n = rw add-one
 
   -- where all pass, the count is the bound
   pub count-all : (n : ℕ) → ((i : ℕ) → i < n → T (P i)) → countBelow P n ≡ n

@@ -1,0 +1,36 @@
+-- Where a witness is wanted, the rows are searched for one.
+use mathlib.Core.Path.{_≡_, _∙_, sym, ap}
+use Prim.Native.Nat.{_+_}
+use mathlib.Core.Bool.{not, _&&_, _||_}
+use lib.Dec.{ltb, eqb}
+use Rattle.lists.specs.Rows.{someBelow}
+use Rattle.table.specs.Table.{tableOf}
+use Rattle.rules.specs.Rules.{hasWitness}
+use Rattle.scan.specs.Query.{passesOf}
+use Rattle.scan.specs.declared.Query.the-variants.{Witnesses}
+use Rattle.rule_missing.specs.Lacks.{witnessWanted}
+use Rattle.rule_missing.proofs.Tests.{and-passed, and-failed}
+use borrow.Author.Needs.{needs}
+use Rattle.rule_missing.proofs.lacks_witness.Statement.{statement}
+use Rattle.rule_missing.proofs.lacks_witness.Tie as tie
+
+pub lacks-witness-spec : {M : Type 1} → statement M
+lacks-witness-spec = tie.close (tie.spec
+    (λ c κs. search needs)
+    (λ c κs. search needs)
+    (λ c κs. search needs)
+    (λ c κs. search needs)
+    (λ c κs. search needs)
+    (λ c κs. search needs)
+    (λ c κs. search needs)
+    (λ c. let read = c .before .before .before in
+    let a = read .before .before .before .before .before .before .args in
+    let t = tableOf (a .words .now) in
+    let same : ((eqb (read .before .before .before .a-at2 .result) 2 && ltb (read .before .before .b-at .result) 2) && (eqb (read .before .before .before .before .a-at .result) 2 || (eqb (read .before .before .before .before .a-at .result) 4 && eqb (read .before .c-at .result) (read .c-at2 .result)))) ≡ witnessWanted t (a .i) (a .j) = simp (read .c-at2 .ensures, read .before .c-at .ensures, read .before .before .b-at .ensures, read .before .before .before .a-at2 .ensures, read .before .before .before .before .a-at .ensures) in
+    let found = c .some-row .ensures ∙ ap (someBelow (passesOf t (Witnesses (a .event) (a .target)))) (c .before .size .ensures) in
+    ap not found ∙ sym (and-passed (witnessWanted t (a .i) (a .j)) (not (hasWitness t (a .event) (a .target))) (sym same ∙ c .before .before .if1 .taken)))
+    (λ c. let read = c .before in
+    let a = read .before .before .before .before .before .before .args in
+    let t = tableOf (a .words .now) in
+    let same : ((eqb (read .before .before .before .a-at2 .result) 2 && ltb (read .before .before .b-at .result) 2) && (eqb (read .before .before .before .before .a-at .result) 2 || (eqb (read .before .before .before .before .a-at .result) 4 && eqb (read .before .c-at .result) (read .c-at2 .result)))) ≡ witnessWanted t (a .i) (a .j) = simp (read .c-at2 .ensures, read .before .c-at .ensures, read .before .before .b-at .ensures, read .before .before .before .a-at2 .ensures, read .before .before .before .before .a-at .ensures) in
+    sym (and-failed (witnessWanted t (a .i) (a .j)) (not (hasWitness t (a .event) (a .target))) (sym same ∙ c .if1 .left))))

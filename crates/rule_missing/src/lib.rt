@@ -1,0 +1,123 @@
+// 01, Refusal 12 missing: whether a table lacks an initialisation, an initial action, a witness, a variant or a convergent event.
+use scan::Query;
+use scan::some_row;
+use table::Table;
+use table::a_at;
+use table::b_at;
+use table::c_at;
+use table::size;
+use table::tag_at;
+ghost use mathlib.Core.Path.{_≡_};
+ghost use mathlib.Core.Bool.{not, _&&_};
+ghost use Prim.Native.Nat.{_+_, _-_, _<_, _^_};
+ghost use lib.Dec.{eqb};
+ghost use Rattle.lists.specs.Rows.{someBelow};
+ghost use Rattle.table.specs.Table.{tableOf};
+ghost use Rattle.table.specs.Counts.{countsOf};
+ghost use Rattle.rules.specs.Rules.{assigned, hasWitness, eventLacks, missing};
+ghost use Rattle.rule_missing.specs.Lacks.{actionWanted, witnessWanted, lacksFor};
+
+// Whether y is one more than x.
+fn follows(x: u64, y: u64) -> bool
+    ensures { λ r. ⌜ r ≡ eqb y (1 + x) ⌝ }
+{
+    if y == 0 {
+        return false;
+    }
+    y - 1 == x
+}
+
+// The number that row i has in the section that begins at row start.
+fn number_in(start: u64, i: usize) -> u64
+    requires { ⌜ i < 2 ^ 63 ⌝ }
+    ensures { λ r. ⌜ r ≡ i + 1 - start ⌝ }
+{
+    let past = i as u64 + 1;
+    if past < start {
+        return 0;
+    }
+    past - start
+}
+
+// Whether the event at row i, whose number is event, needs an action for the identifier at row j, whose number is target, and has none.
+fn lacks_action(words: &[u64], i: usize, j: usize, event: u64, target: u64) -> bool
+    ensures { λ r. ⌜ r ≡ actionWanted (tableOf (now (words .entry))) i j && not (assigned (tableOf (now (words .entry))) event target) ⌝ }
+{
+    if (b_at(words, i) == 0) & follows(a_at(words, i), a_at(words, j)) {
+        return !some_row(words, Query::Assigns { event, target }, size(words));
+    }
+    false
+}
+
+// The same of a witness.
+fn lacks_witness(words: &[u64], i: usize, j: usize, event: u64, target: u64) -> bool
+    ensures { λ r. ⌜ r ≡ witnessWanted (tableOf (now (words .entry))) i j && not (hasWitness (tableOf (now (words .entry))) event target) ⌝ }
+{
+    let kind = a_at(words, j);
+    let refining = (a_at(words, i) == 2) & (b_at(words, i) < 2);
+    if refining & ((kind == 2) | ((kind == 4) & (c_at(words, j) == c_at(words, i)))) {
+        return !some_row(words, Query::Witnesses { event, target }, size(words));
+    }
+    false
+}
+
+// Whether row j is an identifier for which the event at row i lacks an action or a witness.
+fn lacks_for(words: &[u64], table: Table, i: usize, j: usize) -> bool
+    requires { ⌜ (table ≡ countsOf (tableOf (now words))) × (i < 2 ^ 63) × (j < 2 ^ 63) ⌝ }
+    ensures { λ r. ⌜ r ≡ lacksFor (tableOf (now (words .entry))) i j ⌝ }
+{
+    if tag_at(words, j) != 10 {
+        return false;
+    }
+    let event = number_in(table.events_start, i);
+    let target = number_in(table.identifiers_start, j);
+    lacks_action(words, i, j, event, target) | lacks_witness(words, i, j, event, target)
+}
+
+// Whether row i is an event that lacks an action or a witness for some identifier.
+fn event_lacks(words: &[u64], table: Table, i: usize) -> bool
+    requires { ⌜ (table ≡ countsOf (tableOf (now words))) × (i < 2 ^ 63) ⌝ }
+    ensures { λ r. ⌜ r ≡ eventLacks (tableOf (now (words .entry))) i ⌝ }
+{
+    if tag_at(words, i) != 40 {
+        return false;
+    }
+    let rows = size(words);
+    let mut lacks = false;
+    let mut j = 0;
+    while j < rows {
+        lacks = lacks | lacks_for(words, table, i, j);
+        j += 1;
+    }
+    lacks
+}
+
+// Whether some event does.
+fn some_event_lacks(words: &[u64], table: Table) -> bool
+    requires { ⌜ table ≡ countsOf (tableOf (now words)) ⌝ }
+    ensures { λ r. ⌜ r ≡ someBelow (eventLacks (tableOf (now (words .entry)))) (tableOf (now (words .entry)) .size) ⌝ }
+{
+    let rows = size(words);
+    let mut lacks = false;
+    let mut i = 0;
+    while i < rows {
+        lacks = lacks | event_lacks(words, table, i);
+        i += 1;
+    }
+    lacks
+}
+
+// 12: an initialisation of either machine, an action or a witness, or a variant without convergent events or the reverse.
+pub fn missing(words: &[u64], table: Table) -> bool
+    requires { ⌜ table ≡ countsOf (tableOf (now words)) ⌝ }
+    ensures { λ r. ⌜ r ≡ missing (tableOf (now (words .entry))) ⌝ }
+{
+    let rows = size(words);
+    let abstract_initialised = some_row(words, Query::Initialises(1), rows);
+    let concrete_initialised = some_row(words, Query::Initialises(2), rows);
+    let lacks = some_event_lacks(words, table);
+    let convergent = some_row(words, Query::Convergent, rows);
+    let variant = some_row(words, Query::Tagged(70), rows);
+    let unmatched = (convergent & !variant) | (!convergent & variant);
+    !abstract_initialised | (!concrete_initialised | (lacks | unmatched))
+}

@@ -1,0 +1,96 @@
+// 01, Refusals 5 event and 6 identifier: whether a row offends.
+use scan::Query;
+use scan::some_row;
+use table::Table;
+use table::a_at;
+use table::b_at;
+use table::c_at;
+use table::event_field;
+use table::named_event;
+use table::tag_at;
+ghost use mathlib.Core.Path.{_≡_};
+ghost use Rattle.table.specs.Table.{tableOf};
+ghost use Rattle.table.specs.Counts.{countsOf};
+ghost use Rattle.rules.specs.Rules.{abstractOrdinaryEvent, goodRefined, outOfOrder, eventOffends, ownerEvent, goodOwner, identifierOffends};
+
+// Whether a number names an abstract ordinary event, which a concrete one may refine.
+fn abstract_ordinary_event(words: &[u64], table: Table, f: u64) -> bool
+    requires { ⌜ table ≡ countsOf (tableOf (now words)) ⌝ }
+    ensures { λ r. ⌜ r ≡ abstractOrdinaryEvent (tableOf (now (words .entry))) f ⌝ }
+{
+    let machine = event_field(words, table, f, Table::MACHINE);
+    let class = event_field(words, table, f, Table::CLASS);
+    named_event(words, table, f) & ((machine == 1) & (class == 1))
+}
+
+// Whether the refined event of an event's row is right.
+fn good_refined(words: &[u64], table: Table, i: usize) -> bool
+    requires { ⌜ table ≡ countsOf (tableOf (now words)) ⌝ }
+    ensures { λ r. ⌜ r ≡ goodRefined (tableOf (now (words .entry))) i ⌝ }
+{
+    let refined = c_at(words, i);
+    if (a_at(words, i) == 2) & (b_at(words, i) == 1) {
+        return abstract_ordinary_event(words, table, refined);
+    }
+    refined == 0
+}
+
+// Whether an event stands after one that it must stand before.
+fn out_of_order(words: &[u64], i: usize) -> bool
+    ensures { λ r. ⌜ r ≡ outOfOrder (tableOf (now (words .entry))) i ⌝ }
+{
+    let machine = a_at(words, i);
+    let after_concrete = (machine == 1) & some_row(words, Query::Event(2), i);
+    after_concrete | ((b_at(words, i) == 0) & some_row(words, Query::Event(machine), i))
+}
+
+// 5: bad machine, class or refined event, or out of order.
+pub fn event_offends(words: &[u64], table: Table, i: usize) -> bool
+    requires { ⌜ table ≡ countsOf (tableOf (now words)) ⌝ }
+    ensures { λ r. ⌜ r ≡ eventOffends (tableOf (now (words .entry))) i ⌝ }
+{
+    let machine = a_at(words, i);
+    let class = b_at(words, i);
+    let good_machine = (machine == 1) | (machine == 2);
+    let good_class = (class < 2) | ((class == 2) & (machine == 2));
+    let rest = good_refined(words, table, i) & !out_of_order(words, i);
+    (tag_at(words, i) == 40) & !(good_machine & (good_class & rest))
+}
+
+// Whether a number names an event of a machine that may have parameters.
+fn owner_event(words: &[u64], table: Table, machine: u64, e: u64) -> bool
+    requires { ⌜ table ≡ countsOf (tableOf (now words)) ⌝ }
+    ensures { λ r. ⌜ r ≡ ownerEvent (tableOf (now (words .entry))) machine e ⌝ }
+{
+    let owner = event_field(words, table, e, Table::MACHINE);
+    let class = event_field(words, table, e, Table::CLASS);
+    named_event(words, table, e) & ((owner == machine) & (class != 0))
+}
+
+// Whether the owner of an identifier's row is right.
+fn good_owner(words: &[u64], table: Table, i: usize) -> bool
+    requires { ⌜ table ≡ countsOf (tableOf (now words)) ⌝ }
+    ensures { λ r. ⌜ r ≡ goodOwner (tableOf (now (words .entry))) i ⌝ }
+{
+    let kind = a_at(words, i);
+    let owner = c_at(words, i);
+    if kind == 4 {
+        return owner_event(words, table, 1, owner);
+    }
+    if kind == 5 {
+        return owner_event(words, table, 2, owner);
+    }
+    owner == 0
+}
+
+// 6: bad kind, type or owner.
+pub fn identifier_offends(words: &[u64], table: Table, i: usize) -> bool
+    requires { ⌜ table ≡ countsOf (tableOf (now words)) ⌝ }
+    ensures { λ r. ⌜ r ≡ identifierOffends (tableOf (now (words .entry))) i ⌝ }
+{
+    let kind = a_at(words, i);
+    let sort = b_at(words, i);
+    let good_type = (sort == 1) | (sort == 2);
+    (tag_at(words, i) == 10)
+        & !(((1 <= kind) & (kind <= 5)) & (good_type & good_owner(words, table, i)))
+}

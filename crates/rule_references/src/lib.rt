@@ -1,0 +1,305 @@
+// 01, refusal 7, reference: "unknown operator, nonzero unused node column, or a number that names nothing fitting". Rows are words, four a row.
+use table::Table;
+use table::a_at;
+use table::among;
+use table::b_at;
+use table::c_at;
+use table::event_field;
+use table::identifier_field;
+use table::named_event;
+use table::named_identifier;
+use table::named_node;
+use table::tag_at;
+ghost use mathlib.Core.Path.{_≡_};
+ghost use Prim.Native.Nat.{_+_, _-_};
+ghost use mathlib.Core.Bool.{_&&_, _||_, not};
+ghost use lib.Dec.{eqb};
+ghost use Rattle.table.specs.Table.{tableOf};
+ghost use Rattle.table.specs.Counts.{countsOf};
+ghost use Rattle.rules.specs.Sorts.{find, operators, operandCount, namesIdentifier};
+ghost use Rattle.rules.specs.Sight.{hasKind};
+ghost use Rattle.rules.specs.Rules.{earlierNode, namedVariable, goodColumns, guardEvent, actionTarget, witnessTarget, rootAt, namesRoot, goodTarget, referenceOffends};
+ghost use Rattle.rule_references.specs.Operator.{meant, meantShape};
+
+// How an operator uses its columns b and c: a literal's value, an identifier, a variable, or operands.
+pub enum Shape {
+    Value,
+    Identifier,
+    Variable,
+    NoOperand,
+    OneOperand,
+    TwoOperands,
+    Unknown,
+}
+
+// An operator: the sort of its operands and its own, 1 integer, 2 boolean, 3 predicate; 0 where an identifier or the other operand decides.
+pub struct Operator {
+    pub number: u64,
+    pub shape: Shape,
+    pub operands: u64,
+    pub sort: u64,
+}
+
+// The operator that a number names.
+pub fn find_operator(number: u64) -> Operator
+    ensures { λ r. ⌜ meant r ≡ find operators number ⌝ }
+{
+    match number {
+        1 => Operator {
+            number,
+            shape: Shape::Value,
+            operands: 0,
+            sort: 1,
+        },
+        2 => Operator {
+            number,
+            shape: Shape::Identifier,
+            operands: 0,
+            sort: 0,
+        },
+        3 => Operator {
+            number,
+            shape: Shape::Variable,
+            operands: 0,
+            sort: 0,
+        },
+        4..=5 => Operator {
+            number,
+            shape: Shape::NoOperand,
+            operands: 0,
+            sort: 2,
+        },
+        6 => Operator {
+            number,
+            shape: Shape::OneOperand,
+            operands: 3,
+            sort: 2,
+        },
+        10..=14 => Operator {
+            number,
+            shape: Shape::TwoOperands,
+            operands: 1,
+            sort: 1,
+        },
+        15 => Operator {
+            number,
+            shape: Shape::OneOperand,
+            operands: 1,
+            sort: 1,
+        },
+        20 => Operator {
+            number,
+            shape: Shape::TwoOperands,
+            operands: 0,
+            sort: 3,
+        },
+        21..=22 => Operator {
+            number,
+            shape: Shape::TwoOperands,
+            operands: 1,
+            sort: 3,
+        },
+        30..=31 => Operator {
+            number,
+            shape: Shape::NoOperand,
+            operands: 0,
+            sort: 3,
+        },
+        32 => Operator {
+            number,
+            shape: Shape::OneOperand,
+            operands: 3,
+            sort: 3,
+        },
+        33..=36 => Operator {
+            number,
+            shape: Shape::TwoOperands,
+            operands: 3,
+            sort: 3,
+        },
+        _ => Operator {
+            number,
+            shape: Shape::Unknown,
+            operands: 0,
+            sort: 0,
+        },
+    }
+}
+
+// How many of b and c are operands.
+pub fn operand_count(shape: Shape) -> u64
+    ensures { λ r. ⌜ r ≡ operandCount (meantShape shape) ⌝ }
+{
+    match shape {
+        Shape::Value => 0,
+        Shape::Identifier => 0,
+        Shape::Variable => 0,
+        Shape::NoOperand => 0,
+        Shape::OneOperand => 1,
+        Shape::TwoOperands => 2,
+        Shape::Unknown => 0,
+    }
+}
+
+// Whether column b names an identifier.
+pub fn names_identifier(shape: Shape) -> bool
+    ensures { λ r. ⌜ r ≡ namesIdentifier (meantShape shape) ⌝ }
+{
+    match shape {
+        Shape::Value => false,
+        Shape::Identifier => true,
+        Shape::Variable => true,
+        Shape::NoOperand => false,
+        Shape::OneOperand => false,
+        Shape::TwoOperands => false,
+        Shape::Unknown => false,
+    }
+}
+
+// Whether the row at i may have the node n as an operand: "an earlier node".
+pub fn earlier_node(words: &[u64], table: Table, i: usize, n: u64) -> bool
+    requires { ⌜ table ≡ countsOf (tableOf (now words)) ⌝ }
+    ensures { λ r. ⌜ r ≡ earlierNode (tableOf (now (words .entry))) i n ⌝ }
+{
+    let row = i as u64;
+    let start = table.nodes_start;
+    if row < start {
+        return false;
+    }
+    among(n, row - start)
+}
+
+pub fn named_variable(words: &[u64], table: Table, x: u64) -> bool
+    requires { ⌜ table ≡ countsOf (tableOf (now words)) ⌝ }
+    ensures { λ r. ⌜ r ≡ namedVariable (tableOf (now (words .entry))) x ⌝ }
+{
+    let named = named_identifier(words, table, x);
+    let kind = identifier_field(words, table, x, Table::KIND);
+    named & ((kind == 2) | (kind == 3))
+}
+
+// Whether the columns of the node at row i fit the shape of its operator.
+fn good_columns(words: &[u64], table: Table, shape: Shape, i: usize) -> bool
+    requires { ⌜ table ≡ countsOf (tableOf (now words)) ⌝ }
+    ensures { λ r. ⌜ r ≡ goodColumns (tableOf (now (words .entry))) (meantShape shape) i ⌝ }
+{
+    let b = b_at(words, i);
+    let c = c_at(words, i);
+    match shape {
+        Shape::Value => c == 0,
+        Shape::Identifier => named_identifier(words, table, b) & (c == 0),
+        Shape::Variable => named_variable(words, table, b) & (c == 0),
+        Shape::NoOperand => (b == 0) & (c == 0),
+        Shape::OneOperand => earlier_node(words, table, i, b) & (c == 0),
+        Shape::TwoOperands => earlier_node(words, table, i, b) & earlier_node(words, table, i, c),
+        Shape::Unknown => false,
+    }
+}
+
+// "guards: class not 0"
+fn guard_event(words: &[u64], table: Table, e: u64) -> bool
+    requires { ⌜ table ≡ countsOf (tableOf (now words)) ⌝ }
+    ensures { λ r. ⌜ r ≡ guardEvent (tableOf (now (words .entry))) e ⌝ }
+{
+    let named = named_event(words, table, e);
+    let class = event_field(words, table, e, Table::CLASS);
+    named & !(class == 0)
+}
+
+// Whether a kind is that of a machine's variables.
+pub fn variable_kind(kind: u64, machine: u64) -> bool
+    ensures { λ r. ⌜ r ≡ eqb kind (1 + machine) ⌝ }
+{
+    if kind == 0 {
+        return false;
+    }
+    kind - 1 == machine
+}
+
+// Actions: "event, variable of its machine".
+fn action_target(words: &[u64], table: Table, e: u64, x: u64) -> bool
+    requires { ⌜ table ≡ countsOf (tableOf (now words)) ⌝ }
+    ensures { λ r. ⌜ r ≡ actionTarget (tableOf (now (words .entry))) e x ⌝ }
+{
+    let event = named_event(words, table, e);
+    let identifier = named_identifier(words, table, x);
+    let kind = identifier_field(words, table, x, Table::KIND);
+    let machine = event_field(words, table, e, Table::MACHINE);
+    let fits = variable_kind(kind, machine);
+    event & (identifier & fits)
+}
+
+// "witnesses: class 0 or 1, with an abstract variable or a parameter of the refined event"
+fn witness_target(words: &[u64], table: Table, e: u64, x: u64) -> bool
+    requires { ⌜ table ≡ countsOf (tableOf (now words)) ⌝ }
+    ensures { λ r. ⌜ r ≡ witnessTarget (tableOf (now (words .entry))) e x ⌝ }
+{
+    let event = named_event(words, table, e);
+    let machine = event_field(words, table, e, Table::MACHINE);
+    let class = event_field(words, table, e, Table::CLASS);
+    let refined = event_field(words, table, e, Table::REFINED);
+    let identifier = named_identifier(words, table, x);
+    let kind = identifier_field(words, table, x, Table::KIND);
+    let owner = identifier_field(words, table, x, Table::OWNER);
+    (event & ((machine == 2) & (class < 2)))
+        & (identifier & ((kind == 2) | ((kind == 4) & (owner == refined))))
+}
+
+// The root that row i names; 0 where it names none.
+pub fn root_at(words: &[u64], i: usize) -> u64
+    ensures { λ r. ⌜ r ≡ rootAt (tableOf (now (words .entry))) i ⌝ }
+{
+    let tag = tag_at(words, i);
+    if (tag == 30) | ((tag == 31) | ((tag == 32) | (tag == 70))) {
+        return a_at(words, i);
+    }
+    if tag == 50 {
+        return b_at(words, i);
+    }
+    if ((tag == 51) | (tag == 52)) | (tag == 60) {
+        return c_at(words, i);
+    }
+    0
+}
+
+pub fn names_root(words: &[u64], i: usize) -> bool
+    ensures { λ r. ⌜ r ≡ namesRoot (tableOf (now (words .entry))) i ⌝ }
+{
+    let tag = tag_at(words, i);
+    (20 < tag) & !(tag == 40)
+}
+
+// Whether the event and the identifier that row i names fit its tag.
+fn good_target(words: &[u64], table: Table, i: usize) -> bool
+    requires { ⌜ table ≡ countsOf (tableOf (now words)) ⌝ }
+    ensures { λ r. ⌜ r ≡ goodTarget (tableOf (now (words .entry))) i ⌝ }
+{
+    let tag = tag_at(words, i);
+    let a = a_at(words, i);
+    let b = b_at(words, i);
+    if tag == 50 {
+        return guard_event(words, table, a);
+    }
+    if (tag == 51) | (tag == 52) {
+        return action_target(words, table, a, b);
+    }
+    if tag == 60 {
+        return witness_target(words, table, a, b);
+    }
+    true
+}
+
+// Whether row i offends against check 7.
+pub fn reference_offends(words: &[u64], table: Table, i: usize) -> bool
+    requires { ⌜ table ≡ countsOf (tableOf (now words)) ⌝ }
+    ensures { λ r. ⌜ r ≡ referenceOffends (tableOf (now (words .entry))) i ⌝ }
+{
+    let tag = tag_at(words, i);
+    let found = find_operator(a_at(words, i));
+    let shape = found.shape;
+    let columns = good_columns(words, table, shape, i);
+    let names = names_root(words, i);
+    let target = good_target(words, table, i);
+    let root = named_node(words, table, root_at(words, i));
+    ((tag == 20) & !columns) | (names & !(target & root))
+}

@@ -1,0 +1,67 @@
+-- The definitions of checks 8 and 9 by their cases: an operator that names an identifier, a number of operands, a tag.
+use Prim.Native.Nat.{ℕ, zero, suc, _+_, _*_, _<_}
+use mathlib.Core.Path.{_≡_, refl, sym, subst, _∙_}
+use mathlib.Core.Bool.{Bool, true, false, not, _&&_, _||_}
+use mathlib.Core.List.{List}
+use native.Mathlib.Omega.{arith}
+use native.Mathlib.Numerals.{add-one}
+use native.Mathlib.Decide.{decLt}
+use lib.Dec.{eqb, ltb}
+use lib.ListN.{length, List·getD-eq-default}
+use Rattle.lists.specs.Rows.{oneIf}
+use Rattle.table.specs.Table.{Table, tableOf, typeOf, operatorOf, leftOf}
+use Rattle.rules.specs.Sorts.{shapeOf, resultSort, operandSort, operandCount, namesIdentifier, sortOf, fitting}
+use Rattle.rules.specs.Rules.{goodOperands, rootAt, namesRoot, rootSort, usesAt, usesTo}
+use Rattle.rules.proofs.Sorts.{rootSortOf}
+
+module _ (t : Table) where
+  pub sort-when : (n r : ℕ) (b : Bool) → b ≡ namesIdentifier (shapeOf (operatorOf t n))
+      → r ≡ elim b [ true ↦ typeOf t (leftOf t n) | false ↦ resultSort (operatorOf t n) ] → r ≡ sortOf t n
+  unfolding sortOf
+  sort-when n r b e h = subst (λ b. r ≡ elim b [ true ↦ typeOf t (leftOf t n) | false ↦ resultSort (operatorOf t n) ]) e h
+
+  pub operands-none : (n i : ℕ) → n ≡ 0 → true ≡ goodOperands t n i
+  operands-none zero i e = refl
+  operands-none (suc n) i e = absurd (omega arith)
+
+  pub operands-one : (n i : ℕ) → n ≡ 1 → fitting t (operandSort (t .a i)) (t .b i) ≡ goodOperands t n i
+  operands-one zero i e = absurd (omega arith)
+  operands-one (suc zero) i e = refl
+  operands-one (suc (suc n)) i e = absurd (omega arith)
+
+  pub operands-two : (n i : ℕ) → (n ≡ 0 → ⊥) → (n ≡ 1 → ⊥)
+      → fitting t (operandSort (t .a i)) (t .b i)
+      && (fitting t (operandSort (t .a i)) (t .c i) && (not (eqb (t .a i) 20) || eqb (sortOf t (t .b i)) (sortOf t (t .c i)))) ≡ goodOperands t n i
+  operands-two zero i f g = absurd (f refl)
+  operands-two (suc zero) i f g = absurd (g refl)
+  operands-two (suc (suc n)) i f g = refl
+
+  pub root-sort-when : (i tag r : ℕ) → tag ≡ t .tag i → r ≡ rootSortOf t tag i → r ≡ rootSort t i
+  unfolding rootSort
+  root-sort-when i tag r e h = subst (λ k. r ≡ rootSortOf t k i) e h
+
+  abbrev pub usesOf : ℕ → ℕ → ℕ → ℕ
+  usesOf tag n i =
+      elim (eqb tag 20) [
+        | true ↦ oneIf (ltb 0 (operandCount (shapeOf (t .a i))) && eqb (t .b i) n) + oneIf (ltb 1 (operandCount (shapeOf (t .a i))) && eqb (t .c i) n)
+        | false ↦ oneIf (namesRoot t i && eqb (rootAt t i) n)
+      ]
+
+  pub uses-when : (n i tag r : ℕ) → tag ≡ t .tag i → r ≡ usesOf tag n i → r ≡ usesAt t n i
+  uses-when n i tag r e h = subst (λ k. r ≡ usesOf k n i) e h
+
+  pub uses-none : (n : ℕ) → 0 ≡ usesTo t n 0
+  unfolding usesTo
+  uses-none n = refl
+
+  pub uses-next : (n i : ℕ) → usesTo t n i + usesAt t n i ≡ usesTo t n (i + 1)
+  unfolding usesTo
+  uses-next n i = rw add-one
+
+-- a row with a tag other than 0 is one of the words
+pub tag-inside : (ws : List ℕ) (i tag : ℕ) → tag ≡ tableOf ws .tag i → (tag ≡ 0 → ⊥) → 4 * i < length ws
+tag-inside ws i tag e f = go (decLt (4 * i) (length ws))
+  where
+    go : Dec (4 * i < length ws) → 4 * i < length ws
+    go (yes h) = h
+    go (no g) = absurd (f (e ∙ List·getD-eq-default ws 0 {n = 4 * i} (omega arith)))

@@ -1,0 +1,26 @@
+-- What the table of tags says of the tags of a range, each computed, and of a number that is none of its tags, for which nothing is found.
+use Prim.Native.Nat.{ℕ, _+_, _<_, _≤_}
+use mathlib.Core.Path.{_≡_, refl, ap, sym}
+use mathlib.Core.List.{List, [], _∷_}
+use borrow.Author.Tests.{ne-eqb}
+use Rattle.lists.proofs.Range.{values, range-same}
+use Rattle.rules.specs.Tags.{Tag, tags, find, columnsUsed, mostRows}
+
+abbrev pub Limited : ℕ → ℕ → ℕ → Type 0
+Limited columns most x = (columns ≡ columnsUsed x) × (most ≡ mostRows x)
+
+pub limits-range : (columns most low k : ℕ) → values (λ x. columns) low k ≡ values columnsUsed low k → values (λ x. most) low k ≡ values mostRows low k
+    → (x : ℕ) → low ≤ x → x < low + k → Limited columns most x
+limits-range columns most low k h g x l m = (range-same (λ x. columns) columnsUsed low k h x l m, range-same (λ x. most) mostRows low k g x l m)
+
+abbrev pub NoneOf : ℕ → List Tag → Type 0
+NoneOf x [] = Unit {0}
+NoneOf x (t ∷ ts) = (t .tag ≡ x → ⊥) × NoneOf x ts
+
+find-none : (ts : List Tag) (x : ℕ) → NoneOf x ts → find ts x ≡ find [] x
+find-none [] x h = refl
+find-none (t ∷ ts) x h = rw (ne-eqb (t .tag) x (h .0), find) (find-none ts x (h .1))
+
+pub limits-unknown : (x : ℕ) → NoneOf x tags → Limited 0 0 x
+unfolding columnsUsed mostRows
+limits-unknown x h = (sym (ap (λ t. t .columns) (find-none tags x h)), sym (ap (λ t. t .most) (find-none tags x h)))

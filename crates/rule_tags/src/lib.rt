@@ -1,0 +1,113 @@
+// 01, Refusals 3 tag, 4 full and 11 twice: whether a row offends.
+use scan::Query;
+use scan::count_rows;
+use scan::some_row;
+use table::Table;
+use table::a_at;
+use table::b_at;
+use table::c_at;
+use table::tag_at;
+ghost use mathlib.Core.Path.{_≡_};
+ghost use mathlib.Core.Bool.{_&&_};
+ghost use Prim.Native.Nat.{_-_, _≤_};
+ghost use lib.Dec.{ltb};
+ghost use Rattle.table.specs.Table.{tableOf};
+ghost use Rattle.rules.specs.Tags.{columnsUsed, mostRows};
+ghost use Rattle.rules.specs.Rules.{tagOffends, fullOffends, twiceOffends};
+
+// How many of the columns a, b, c a tag uses, and how many rows it may have; none of an unknown tag.
+pub struct Limits {
+    pub columns: u64,
+    pub most: u64,
+}
+
+// Of 50, the guards; and of 51 and 52, the actions, whose rows are counted together.
+fn step_limits(tag: u64) -> Limits
+    requires { ⌜ (50 ≤ tag) × (tag ≤ 52) ⌝ }
+    ensures { λ r. ⌜ (r .columns ≡ columnsUsed tag) × (r .most ≡ mostRows tag) ⌝ }
+{
+    if tag == 50 {
+        return Limits {
+            columns: 2,
+            most: Table::GUARDS,
+        };
+    }
+    Limits {
+        columns: 3,
+        most: Table::ACTIONS,
+    }
+}
+
+// 01: "A tag is one of 10, 20, 30 to 32, 40, 50 to 52, 60, 70".
+fn tag_limits(tag: u64) -> Limits
+    ensures { λ r. ⌜ (r .columns ≡ columnsUsed tag) × (r .most ≡ mostRows tag) ⌝ }
+{
+    match tag {
+        10 => Limits {
+            columns: 3,
+            most: Table::IDENTIFIERS,
+        },
+        20 => Limits {
+            columns: 3,
+            most: Table::NODES,
+        },
+        30..=32 => Limits {
+            columns: 1,
+            most: Table::FORMULAS,
+        },
+        40 => Limits {
+            columns: 3,
+            most: Table::EVENTS,
+        },
+        50..=52 => step_limits(tag),
+        60 => Limits {
+            columns: 3,
+            most: Table::WITNESSES,
+        },
+        70 => Limits {
+            columns: 1,
+            most: Table::VARIANTS,
+        },
+        _ => Limits {
+            columns: 0,
+            most: 0,
+        },
+    }
+}
+
+// Whether a row's tag is lower than that of the row before it.
+fn falls(words: &[u64], i: usize) -> bool
+    ensures { λ r. ⌜ r ≡ ltb 0 i && ltb (tableOf (now (words .entry)) .tag i) (tableOf (now (words .entry)) .tag (i - 1)) ⌝ }
+{
+    if i == 0 {
+        return false;
+    }
+    tag_at(words, i) < tag_at(words, i - 1)
+}
+
+// 3: an unknown tag, a falling one, or a number in a column that the tag does not use.
+pub fn tag_offends(words: &[u64], i: usize) -> bool
+    ensures { λ r. ⌜ r ≡ tagOffends (tableOf (now (words .entry))) i ⌝ }
+{
+    let used = tag_limits(tag_at(words, i)).columns;
+    let beyond = ((used < 2) & (b_at(words, i) != 0)) | ((used < 3) & (c_at(words, i) != 0));
+    (used == 0) | (falls(words, i) | beyond)
+}
+
+// 4: as many rows before it as its tag may have.
+pub fn full_offends(words: &[u64], i: usize) -> bool
+    ensures { λ r. ⌜ r ≡ fullOffends (tableOf (now (words .entry))) i ⌝ }
+{
+    let tag = tag_at(words, i);
+    tag_limits(tag).most <= count_rows(words, Query::CountedWith(tag), i)
+}
+
+// 11: an action or a witness whose event and target an earlier one has.
+pub fn twice_offends(words: &[u64], i: usize) -> bool
+    ensures { λ r. ⌜ r ≡ twiceOffends (tableOf (now (words .entry))) i ⌝ }
+{
+    let tag = tag_at(words, i);
+    let event = a_at(words, i);
+    let target = b_at(words, i);
+    some_row(words, Query::SameTarget { tag, event, target }, i)
+}

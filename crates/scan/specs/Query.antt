@@ -1,0 +1,25 @@
+-- The tests of rows that the checks count, each by the numbers that it compares with: a row passes by its tag and its columns a and b.
+use Prim.Native.Nat.{ℕ}
+use mathlib.Core.Bool.{Bool, _&&_, _||_}
+use lib.Dec.{eqb}
+use Rattle.table.specs.Table.{Table}
+use Rattle.scan.specs.declared.Query.{Query}
+use Rattle.scan.specs.declared.Query.the-variants.{CountedWith, Event, SameTarget, Initialises, Assigns, Witnesses, Convergent, Tagged}
+
+-- 01: 51 and 52 are the actions
+abbrev pub actionTag : ℕ → Bool
+actionTag tag = eqb tag 51 || eqb tag 52
+
+abbrev pub holds : Query → ℕ → ℕ → ℕ → Bool
+holds (CountedWith other) tag a b = eqb tag other || (actionTag other && actionTag tag)
+holds (Event machine) tag a b = eqb tag 40 && eqb a machine
+holds (SameTarget other event target) tag a b = ((actionTag other && actionTag tag) || (eqb other 60 && eqb tag 60)) && (eqb a event && eqb b target)
+holds (Initialises machine) tag a b = (eqb tag 40 && eqb a machine) && eqb b 0
+holds (Assigns event target) tag a b = actionTag tag && (eqb a event && eqb b target)
+holds (Witnesses event target) tag a b = eqb tag 60 && (eqb a event && eqb b target)
+holds Convergent tag a b = eqb tag 40 && eqb b 2
+holds (Tagged k) tag a b = eqb tag k
+
+-- the row j of a table passes
+abbrev pub passesOf : Table → Query → ℕ → Bool
+passesOf t query j = holds query (t .tag j) (t .a j) (t .b j)

@@ -1,0 +1,76 @@
+// Rows below a bound that pass a test: how many, and whether there is one.
+use table::a_at;
+use table::b_at;
+use table::one_if;
+use table::tag_at;
+ghost use mathlib.Core.Path.{_≡_};
+ghost use Rattle.lists.specs.Rows.{countBelow, someBelow};
+ghost use Rattle.table.specs.Table.{tableOf};
+ghost use Rattle.scan.specs.Query.{holds, passesOf};
+
+// A test of a row, with the numbers that it compares the row's with.
+pub enum Query {
+    // counted together with the rows of a tag (check 4)
+    CountedWith(u64),
+    // an event of a machine (check 5)
+    Event(u64),
+    // an action, or a witness, of the same event for the same target as another row's (check 11)
+    SameTarget { tag: u64, event: u64, target: u64 },
+    // an initialisation of a machine (check 12)
+    Initialises(u64),
+    // an action of an event for a variable (check 12)
+    Assigns { event: u64, target: u64 },
+    // a witness of an event for an identifier (check 12)
+    Witnesses { event: u64, target: u64 },
+    // a convergent event (check 12)
+    Convergent,
+    // a row of a tag (check 12)
+    Tagged(u64),
+}
+
+// Whether a row with this tag and these columns passes.
+fn passes(query: Query, tag: u64, a: u64, b: u64) -> bool
+    ensures { λ r. ⌜ r ≡ holds query tag a b ⌝ }
+{
+    match query {
+        Query::CountedWith(other) => {
+            (tag == other) | (((other == 51) | (other == 52)) & ((tag == 51) | (tag == 52)))
+        }
+        Query::Event(machine) => (tag == 40) & (a == machine),
+        Query::SameTarget {
+            tag: other,
+            event,
+            target,
+        } => {
+            ((((other == 51) | (other == 52)) & ((tag == 51) | (tag == 52)))
+                | ((other == 60) & (tag == 60)))
+                & ((a == event) & (b == target))
+        }
+        Query::Initialises(machine) => ((tag == 40) & (a == machine)) & (b == 0),
+        Query::Assigns { event, target } => ((tag == 51) | (tag == 52))
+            & ((a == event) & (b == target)),
+        Query::Witnesses { event, target } => (tag == 60) & ((a == event) & (b == target)),
+        Query::Convergent => (tag == 40) & (b == 2),
+        Query::Tagged(k) => tag == k,
+    }
+}
+
+// How many of the rows before row n pass.
+pub fn count_rows(words: &[u64], query: Query, n: usize) -> u64
+    ensures { λ r. ⌜ r ≡ countBelow (passesOf (tableOf (now (words .entry))) query) n ⌝ }
+{
+    let mut count = 0;
+    let mut j = 0;
+    while j < n {
+        count += one_if(passes(query, tag_at(words, j), a_at(words, j), b_at(words, j)));
+        j += 1;
+    }
+    count
+}
+
+// Whether one of them passes.
+pub fn some_row(words: &[u64], query: Query, n: usize) -> bool
+    ensures { λ r. ⌜ r ≡ someBelow (passesOf (tableOf (now (words .entry))) query) n ⌝ }
+{
+    0 < count_rows(words, query, n)
+}
