@@ -1,10 +1,11 @@
 -- The law of `first`: it lies in the range or at its end, what lies before it does not pass, and it passes where it is not the end.
-use Prim.Native.Nat.{ℕ, zero, suc, _+_, _≤_, _<_}
-use mathlib.Core.Path.{_≡_, refl, sym, _∙_, subst}
+use Prim.Native.Nat.{ℕ, zero, suc, _+_, _-_, _≤_, _<_}
+use mathlib.Core.Path.{_≡_, refl, ap, sym, _∙_, subst}
 use mathlib.Core.Bool.{Bool, true, false, true≢false}
 use mathlib.Core.Logic.{_⊎_, inl, inr, ⊎-elim}
 use native.Mathlib.Omega.{arith}
 use native.Mathlib.Nat.{eq-or-lt-of-le}
+use native.Mathlib.Numerals.{add-one}
 use lib.Dec.{ltb}
 use borrow.Author.Tests.{ltb-true, ltb-false}
 use Rattle.lists.specs.Rows.{first}
@@ -36,3 +37,28 @@ least-at-most {k} h j g e = go (ltb j k) refl
     go : (b : Bool) → ltb j k ≡ b → k ≤ j
     go true l = absurd (true≢false (sym e ∙ h .before j g (ltb-true j k l)))
     go false l = ltb-false j k l
+
+when-true : (b : Bool) (x y : ℕ) → b ≡ true → _≡_ {A = ℕ} (elim b [ true ↦ x | false ↦ y ]) x
+when-true true x y e = refl
+when-true false x y e = absurd (true≢false (sym e))
+
+when-false : (b : Bool) (x y : ℕ) → b ≡ false → _≡_ {A = ℕ} (elim b [ true ↦ x | false ↦ y ]) y
+when-false true x y e = absurd (true≢false e)
+when-false false x y e = refl
+
+-- A search from i on, below n: it ends at i, goes on past i, or has come to the end.
+module _ (P : ℕ → Bool) (n i : ℕ) where
+  one-left : i < n → n - i ≡ suc (n - suc i)
+  one-left h = omega arith
+
+  pub first-here : i < n → P i ≡ true → first P (n - i) i ≡ i
+  unfolding first
+  first-here h e = ap (λ k. first P k i) (one-left h) ∙ when-true (P i) i (first P (n - suc i) (suc i)) e
+
+  pub first-next : i < n → P i ≡ false → first P (n - i) i ≡ first P (n - (i + 1)) (i + 1)
+  unfolding first
+  first-next h e = ap (λ k. first P k i) (one-left h) ∙ when-false (P i) i (first P (n - suc i) (suc i)) e ∙ ap (λ j. first P (n - j) j) (sym (add-one i))
+
+  pub first-end : n ≤ i → first P (n - i) i ≡ i
+  unfolding first
+  first-end h = let z : n - i ≡ 0 = omega arith in rw z

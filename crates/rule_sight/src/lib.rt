@@ -1,0 +1,123 @@
+// 01, refusal 10, sight: "a formula mentions what it may not". It runs after check 9, where each node has one use, so that a walk meets no node twice.
+use rule_references::Shape;
+use rule_references::find_operator;
+use rule_references::names_root;
+use rule_references::root_at;
+use rule_references::variable_kind;
+use table::Table;
+use table::a_at;
+use table::b_at;
+use table::event_field;
+use table::identifier_field;
+use table::node_field;
+use table::tag_at;
+ghost use mathlib.Core.Path.{_≡_};
+ghost use Rattle.lists.specs.Choice.{pick};
+ghost use Rattle.table.specs.Table.{tableOf};
+ghost use Rattle.table.specs.Counts.{countsOf};
+ghost use Rattle.machine.specs.Described.{earlier};
+ghost use Rattle.rules.specs.Sight.{eventSees, mayMention, mayMentionAfter, seesOnly};
+ghost use Rattle.rules.specs.Rules.{sightOffends};
+
+// "guard and action, constants, the event's own parameters and its machine's variables"; an initialisation mentions no present variable value.
+fn event_sees(words: &[u64], table: Table, e: u64, x: u64) -> bool
+    requires { ⌜ table ≡ countsOf (tableOf (now words)) ⌝ }
+    ensures { λ r. ⌜ r ≡ eventSees (tableOf (now (words .entry))) e x ⌝ }
+{
+    let kind = identifier_field(words, table, x, Table::KIND);
+    let owner = identifier_field(words, table, x, Table::OWNER);
+    let machine = event_field(words, table, e, Table::MACHINE);
+    let class = event_field(words, table, e, Table::CLASS);
+    let variable = variable_kind(kind, machine);
+    (kind == 1) | ((((kind == 4) | (kind == 5)) & (owner == e)) | (variable & !(class == 0)))
+}
+
+// Whether the formula of row i may mention the identifier x.
+fn may_mention(words: &[u64], table: Table, i: usize, x: u64) -> bool
+    requires { ⌜ table ≡ countsOf (tableOf (now words)) ⌝ }
+    ensures { λ r. ⌜ r ≡ mayMention (tableOf (now (words .entry))) i x ⌝ }
+{
+    let kind = identifier_field(words, table, x, Table::KIND);
+    let event = event_sees(words, table, a_at(words, i), x);
+    let b = b_at(words, i);
+    let tag = tag_at(words, i);
+    if tag == 30 {
+        return kind == 1;
+    }
+    if tag == 31 {
+        return (kind == 1) | (kind == 2);
+    }
+    if tag == 32 {
+        return (kind == 1) | ((kind == 2) | (kind == 3));
+    }
+    if tag == 70 {
+        return (kind == 1) | (kind == 3);
+    }
+    if tag == 60 {
+        return event | ((kind == 4) & (x == b));
+    }
+    event
+}
+
+// Whether the formula of row i may mention the after value of x: "52 also the after value it sets", a variable witness "concrete after values, and its own
+// after value".
+fn may_mention_after(words: &[u64], table: Table, i: usize, x: u64) -> bool
+    requires { ⌜ table ≡ countsOf (tableOf (now words)) ⌝ }
+    ensures { λ r. ⌜ r ≡ mayMentionAfter (tableOf (now (words .entry))) i x ⌝ }
+{
+    let b = b_at(words, i);
+    let kind = identifier_field(words, table, x, Table::KIND);
+    let target = identifier_field(words, table, b, Table::KIND);
+    let tag = tag_at(words, i);
+    if tag == 52 {
+        return x == b;
+    }
+    if tag == 60 {
+        return (target == 2) & ((kind == 3) | (x == b));
+    }
+    false
+}
+
+// An operand of the node n, or 0 where it is no earlier node.
+fn operand(n: u64, x: u64) -> u64
+    ensures { λ r. ⌜ r ≡ pick (earlier n x) x 0 ⌝ }
+{
+    if (0 < x) & (x < n) {
+        return x;
+    }
+    0
+}
+
+// Whether the tree of the node n mentions only what the formula of row i may.
+fn sees_only(words: &[u64], table: Table, i: usize, n: u64) -> bool
+    requires { ⌜ table ≡ countsOf (tableOf (now words)) ⌝ }
+    ensures { λ r. ⌜ r ≡ seesOnly (tableOf (now (words .entry))) i n ⌝ }
+{
+    if n == 0 {
+        return true;
+    }
+    let b = node_field(words, table, n, Table::LEFT);
+    let c = node_field(words, table, n, Table::RIGHT);
+    let found = find_operator(node_field(words, table, n, Table::OPERATOR));
+    let shape = found.shape;
+    match shape {
+        Shape::Value => true,
+        Shape::Identifier => may_mention(words, table, i, b),
+        Shape::Variable => may_mention_after(words, table, i, b),
+        Shape::NoOperand => true,
+        Shape::OneOperand => sees_only(words, table, i, operand(n, b)),
+        Shape::TwoOperands => sees_only(words, table, i, operand(n, b))
+            & sees_only(words, table, i, operand(n, c)),
+        Shape::Unknown => true,
+    }
+}
+
+// Whether row i offends against check 10.
+pub fn sight_offends(words: &[u64], table: Table, i: usize) -> bool
+    requires { ⌜ table ≡ countsOf (tableOf (now words)) ⌝ }
+    ensures { λ r. ⌜ r ≡ sightOffends (tableOf (now (words .entry))) i ⌝ }
+{
+    let names = names_root(words, i);
+    let sees = sees_only(words, table, i, root_at(words, i));
+    names & !sees
+}
