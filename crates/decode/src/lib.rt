@@ -1,5 +1,7 @@
 // 01, Rows: the rows of a table's bytes, read in order, as words.
-use row::{Place, Read, Row};
+use row::Place;
+use row::Read;
+use row::Row;
 ghost use mathlib.Core.Path.{_≡_};
 ghost use Prim.Native.Nat.{_*_, _≤_};
 ghost use lib.ListN.{length};

@@ -11,13 +11,11 @@ use table::named_identifier;
 use table::named_node;
 use table::tag_at;
 ghost use mathlib.Core.Path.{_≡_};
-ghost use Prim.Native.Nat.{_+_, _-_};
-ghost use mathlib.Core.Bool.{_&&_, _||_, not};
+ghost use Prim.Native.Nat.{_+_};
 ghost use lib.Dec.{eqb};
 ghost use Rattle.table.specs.Table.{tableOf};
 ghost use Rattle.table.specs.Counts.{countsOf};
 ghost use Rattle.rules.specs.Sorts.{find, operators, operandCount, namesIdentifier};
-ghost use Rattle.rules.specs.Sight.{hasKind};
 ghost use Rattle.rules.specs.Rules.{earlierNode, namedVariable, goodColumns, guardEvent, actionTarget, witnessTarget, rootAt, namesRoot, goodTarget, referenceOffends};
 ghost use Rattle.rule_references.specs.Operator.{meant, meantShape};
 

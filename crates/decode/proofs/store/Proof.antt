@@ -16,7 +16,7 @@ store-spec = tie.close (tie.spec
     (λ c. search needs)
     (λ c. search needs)
     (λ c. let xs = c .args .words .now in
-        let r = c .args .row in
-        over-set (r .tag ∷ r .a ∷ r .b ∷ []) xs _ 3 _ refl
-        (over-set (r .tag ∷ r .a ∷ []) xs _ 2 _ refl
-        (over-set (r .tag ∷ []) xs _ 1 _ refl (over-set [] xs _ 0 _ refl (over-none xs) (omega arith)) (omega arith)) (omega arith)) (omega arith)))
+    let r = c .args .row in
+    over-set (r .tag ∷ r .a ∷ r .b ∷ []) xs _ 3 _ refl
+    (over-set (r .tag ∷ r .a ∷ []) xs _ 2 _ refl
+    (over-set (r .tag ∷ []) xs _ 1 _ refl (over-set [] xs _ 0 _ refl (over-none xs) (omega arith)) (omega arith)) (omega arith)) (omega arith)))

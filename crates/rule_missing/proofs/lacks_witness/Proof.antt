@@ -26,11 +26,21 @@ lacks-witness-spec = tie.close (tie.spec
     (λ c. let read = c .before .before .before in
     let a = read .before .before .before .before .before .before .args in
     let t = tableOf (a .words .now) in
-    let same : ((eqb (read .before .before .before .a-at2 .result) 2 && ltb (read .before .before .b-at .result) 2) && (eqb (read .before .before .before .before .a-at .result) 2 || (eqb (read .before .before .before .before .a-at .result) 4 && eqb (read .before .c-at .result) (read .c-at2 .result)))) ≡ witnessWanted t (a .i) (a .j) = simp (read .c-at2 .ensures, read .before .c-at .ensures, read .before .before .b-at .ensures, read .before .before .before .a-at2 .ensures, read .before .before .before .before .a-at .ensures) in
+    let class = read .before .before in
+    let machine = class .before in
+    let kind = machine .before in
+    let same : ((eqb (machine .a-at2 .result) 2 && ltb (class .b-at .result) 2) && (eqb (kind .a-at .result) 2 || (eqb (kind .a-at .result) 4 && eqb (read .before .c-at .result) (read .c-at2 .result))))
+    ≡ witnessWanted t (a .i) (a .j)
+    = simp (read .c-at2 .ensures, read .before .c-at .ensures, class .b-at .ensures, machine .a-at2 .ensures, kind .a-at .ensures) in
     let found = c .some-row .ensures ∙ ap (someBelow (passesOf t (Witnesses (a .event) (a .target)))) (c .before .size .ensures) in
     ap not found ∙ sym (and-passed (witnessWanted t (a .i) (a .j)) (not (hasWitness t (a .event) (a .target))) (sym same ∙ c .before .before .if1 .taken)))
     (λ c. let read = c .before in
     let a = read .before .before .before .before .before .before .args in
     let t = tableOf (a .words .now) in
-    let same : ((eqb (read .before .before .before .a-at2 .result) 2 && ltb (read .before .before .b-at .result) 2) && (eqb (read .before .before .before .before .a-at .result) 2 || (eqb (read .before .before .before .before .a-at .result) 4 && eqb (read .before .c-at .result) (read .c-at2 .result)))) ≡ witnessWanted t (a .i) (a .j) = simp (read .c-at2 .ensures, read .before .c-at .ensures, read .before .before .b-at .ensures, read .before .before .before .a-at2 .ensures, read .before .before .before .before .a-at .ensures) in
+    let class = read .before .before in
+    let machine = class .before in
+    let kind = machine .before in
+    let same : ((eqb (machine .a-at2 .result) 2 && ltb (class .b-at .result) 2) && (eqb (kind .a-at .result) 2 || (eqb (kind .a-at .result) 4 && eqb (read .before .c-at .result) (read .c-at2 .result))))
+    ≡ witnessWanted t (a .i) (a .j)
+    = simp (read .c-at2 .ensures, read .before .c-at .ensures, class .b-at .ensures, machine .a-at2 .ensures, kind .a-at .ensures) in
     sym (and-failed (witnessWanted t (a .i) (a .j)) (not (hasWitness t (a .event) (a .target))) (sym same ∙ c .if1 .left))))

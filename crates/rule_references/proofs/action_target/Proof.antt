@@ -10,4 +10,10 @@ action-target-spec = tie.close (tie.spec
     (λ c κs. search needs)
     (λ c κs. search needs)
     (λ c κs. search needs)
-    (λ c. simp (c .variable-kind .ensures, c .before .event-field .ensures, c .before .before .identifier-field .ensures, c .before .before .before .named-identifier .ensures, c .before .before .before .before .named-event .ensures)))
+    (λ c. simp (
+      c .variable-kind .ensures,
+      c .before .event-field .ensures,
+      c .before .before .identifier-field .ensures,
+      c .before .before .before .named-identifier .ensures,
+      c .before .before .before .before .named-event .ensures,
+    )))

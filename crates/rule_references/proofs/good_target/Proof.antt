@@ -27,12 +27,20 @@ good-target-spec = tie.close (tie.spec
     (λ c. let k = c .before .before .before in
     let a = k .before .before .before .before .args in
     by-tag (tableOf (a .words .now)) (a .i) (k .before .before .tag-at .result) (c .action-target .result) (k .before .before .tag-at .ensures)
-    (rw (ne-eqb _ _ (c .before .before .if1 .left), c .before .if2 .taken, targetTest) (simp (k .before .a-at .ensures, k .b-at .ensures) at (c .action-target .ensures))))
+    (rw (ne-eqb _ _ (c .before .before .if1 .left), c .before .if2 .taken, targetTest) (simp (
+      k .before .a-at .ensures,
+      k .b-at .ensures,
+    ) at (c .action-target .ensures))))
     (λ c κs. search needs)
     (λ c. let k = c .before .before .before .before in
     let a = k .before .before .before .before .args in
     by-tag (tableOf (a .words .now)) (a .i) (k .before .before .tag-at .result) (c .witness-target .result) (k .before .before .tag-at .ensures)
-    (rw (ne-eqb _ _ (c .before .before .before .if1 .left), c .before .before .if2 .left, eq-eqb _ _ (c .before .if3 .taken), targetTest) (simp (k .before .a-at .ensures, k .b-at .ensures) at (c .witness-target .ensures))))
+    (rw (
+      ne-eqb _ _ (c .before .before .before .if1 .left),
+      c .before .before .if2 .left,
+      eq-eqb _ _ (c .before .if3 .taken),
+      targetTest,
+    ) (simp (k .before .a-at .ensures, k .b-at .ensures) at (c .witness-target .ensures))))
     (λ c. let k = c .before .before .before in
     let a = k .before .before .before .before .args in
     by-tag (tableOf (a .words .now)) (a .i) (k .before .before .tag-at .result) true (k .before .before .tag-at .ensures)

@@ -10,7 +10,16 @@ unfolding referenceOffends
 returns c =
     let k = c .before .before .before .before in
     let o = k .before .find-operator in
-    simp (c .named-node .ensures, c .before .root-at .ensures, c .before .before .good-target .ensures, c .before .before .before .names-root .ensures, k .good-columns .ensures, shape-found (o .result) (k .before .before .a-at .result) (o .ensures), k .before .before .a-at .ensures, k .before .before .before .tag-at .ensures)
+    simp (
+      c .named-node .ensures,
+      c .before .root-at .ensures,
+      c .before .before .good-target .ensures,
+      c .before .before .before .names-root .ensures,
+      k .good-columns .ensures,
+      shape-found (o .result) (k .before .before .a-at .result) (o .ensures),
+      k .before .before .a-at .ensures,
+      k .before .before .before .tag-at .ensures,
+    )
 
 pub reference-offends-spec : {M : Type 1} → statement M
 reference-offends-spec = tie.close (tie.spec

@@ -21,5 +21,14 @@ good-operands-spec = tie.close (tie.spec
     simp (f .operand-fits .ensures, operands-found (o .result) (n .a-at .result) (o .ensures), f .before .before .before .b-at .ensures, n .a-at .ensures)
     (operands-one (tableOf (a .words .now)) (a .count) (a .i) (c .if2 .taken)))
     (λ c. let s = c .before .before in let f = s .before .before .before in let o = f .before .find-operator in let n = f .before .before .before .before in let a = n .before .before .args in
-    simp (s .sort-of2 .ensures, s .before .sort-of .ensures, s .before .before .operand-fits2 .ensures, f .operand-fits .ensures, operands-found (o .result) (n .a-at .result) (o .ensures), f .before .before .c-at .ensures, f .before .before .before .b-at .ensures, n .a-at .ensures)
+    simp (
+      s .sort-of2 .ensures,
+      s .before .sort-of .ensures,
+      s .before .before .operand-fits2 .ensures,
+      f .operand-fits .ensures,
+      operands-found (o .result) (n .a-at .result) (o .ensures),
+      f .before .before .c-at .ensures,
+      f .before .before .before .b-at .ensures,
+      n .a-at .ensures,
+    )
     (operands-two (tableOf (a .words .now)) (a .count) (a .i) (c .before .if1 .left) (c .if2 .left))))

@@ -23,12 +23,24 @@ uses-at-spec = tie.close (tie.spec
     (λ c. search needs)
     (λ c. let k = c .before .before .before .before .before in let o = k .before .before .before .find-operator in let n = k .before .before .before .before in let a = n .before .before .before .args in (
       uses-when (tableOf (a .words .now)) (a .n) (a .i) (n .before .tag-at .result) _ (n .before .tag-at .ensures)
-          (rw (eq-eqb _ _ (c .before .before .if1 .taken), usesOf) (simp (c .one-if2 .ensures .0, c .before .one-if .ensures .0, k .c-at .ensures, k .before .b-at .ensures, k .before .before .operand-count .ensures, shape-found (o .result) (n .a-at .result) (o .ensures), n .a-at .ensures))),
+          (rw (eq-eqb _ _ (c .before .before .if1 .taken), usesOf) (simp (
+            c .one-if2 .ensures .0,
+            c .before .one-if .ensures .0,
+            k .c-at .ensures,
+            k .before .b-at .ensures,
+            k .before .before .operand-count .ensures,
+            shape-found (o .result) (n .a-at .result) (o .ensures),
+            n .a-at .ensures,
+          ))),
       omega arith,
     ))
     (λ c κs. search needs)
     (λ c. let k = c .before .before .before .before in let n = k .before .before .before .before in let a = n .before .before .before .args in (
       uses-when (tableOf (a .words .now)) (a .n) (a .i) (n .before .tag-at .result) _ (n .before .tag-at .ensures)
-          (rw (ne-eqb _ _ (c .before .if1 .left), usesOf) (simp (c .one-if3 .ensures .0, c .before .before .root-at .ensures, c .before .before .before .names-root .ensures))),
+          (rw (ne-eqb _ _ (c .before .if1 .left), usesOf) (simp (
+            c .one-if3 .ensures .0,
+            c .before .before .root-at .ensures,
+            c .before .before .before .names-root .ensures,
+          ))),
       omega arith,
     )))
