@@ -1,0 +1,481 @@
+//! Accepted tables: first how many of everything, then the draft itself.
+
+use super::draft::{Draft, DraftFormula};
+use super::random::Random;
+use super::tree::{Grower, Leaf, Tree};
+use crate::formula::{Sort, AFTER, DIVIDE, IDENTIFIER, LITERAL, NEGATION};
+use crate::table::*;
+
+/// How many of everything. `guards_at` is one event for all guards, or 0 for any.
+/// `nodes` come on top of one for each formula, `spare_nodes` are left to the limit.
+#[derive(Clone, Debug, Default)]
+pub struct Plan {
+    pub constants: usize,
+    pub abstract_variables: usize,
+    pub concrete_variables: usize,
+    pub abstract_parameters: usize,
+    pub concrete_parameters: usize,
+    pub abstract_events: usize,
+    pub ordinary: usize,
+    pub convergent: usize,
+    pub axioms: usize,
+    pub abstract_invariants: usize,
+    pub concrete_invariants: usize,
+    pub guards: usize,
+    pub guards_at: i32,
+    pub actions: usize,
+    pub only_such_that: bool,
+    pub nodes: usize,
+    pub spare_nodes: usize,
+}
+
+/// A formula's row before it has a tree: tag, event, identifier.
+type Place = (i32, i32, i32);
+
+impl Plan {
+    /// Any plan in which no part has more than about `size`.
+    pub fn any(random: &mut Random, size: usize) -> Plan {
+        let nodes = random.below((16 * size).min(Table::MOST_NODES) + 1);
+        let actions = random.below((5 * size).min(Table::MOST_ACTIONS) + 1);
+        let guards = random.below((2 * size).min(Table::MOST_GUARDS) + 1);
+        let mut most = |limit: usize| random.below(size.min(limit) + 1);
+        let plan = Plan {
+            constants: most(12),
+            abstract_variables: most(12),
+            concrete_variables: most(16),
+            abstract_parameters: most(12),
+            concrete_parameters: most(12),
+            abstract_events: most(8),
+            ordinary: most(12),
+            convergent: most(10),
+            axioms: most(16),
+            abstract_invariants: most(16),
+            concrete_invariants: most(16),
+            guards,
+            actions,
+            nodes,
+            ..Plan::default()
+        };
+        plan.within_limits()
+    }
+
+    /// Lowers what wouldn't fit together.
+    fn within_limits(mut self) -> Plan {
+        if self.abstract_events == 0 {
+            self.ordinary = 0;
+            self.abstract_parameters = 0;
+        }
+        if self.ordinary + self.convergent == 0 {
+            self.concrete_parameters = 0;
+        }
+        while self.abstract_variables * (1 + self.ordinary) > Table::MOST_WITNESSES {
+            self.ordinary -= 1;
+        }
+        self
+    }
+
+    /// A draft that meets the plan and every rule of a table.
+    pub fn draft(&self, random: &mut Random) -> Draft {
+        let mut draft = Draft::default();
+        self.add_events(&mut draft, random);
+        self.add_identifiers(&mut draft, random);
+        while witness_places(&draft).len() > Table::MOST_WITNESSES {
+            drop_abstract_parameter(&mut draft);
+        }
+        let mut places = self.places(&draft, random);
+        random.shuffle(&mut places);
+        self.grow_formulas(&mut draft, &places, random);
+        draft
+    }
+
+    fn add_events(&self, draft: &mut Draft, random: &mut Random) {
+        draft.events.push([ABSTRACT, INITIALISATION, 0]);
+        for _ in 0..self.abstract_events {
+            draft.events.push([ABSTRACT, ORDINARY, 0]);
+        }
+        draft.events.push([CONCRETE, INITIALISATION, 0]);
+        let mut others = Vec::new();
+        for _ in 0..self.ordinary {
+            let refined = random.between(2, 1 + self.abstract_events);
+            others.push([CONCRETE, ORDINARY, refined as i32]);
+        }
+        others.resize(self.ordinary + self.convergent, [CONCRETE, CONVERGENT, 0]);
+        random.shuffle(&mut others);
+        draft.events.extend(others);
+    }
+
+    fn add_identifiers(&self, draft: &mut Draft, random: &mut Random) {
+        let counts = [
+            (CONSTANT, self.constants),
+            (ABSTRACT_VARIABLE, self.abstract_variables),
+            (CONCRETE_VARIABLE, self.concrete_variables),
+            (ABSTRACT_PARAMETER, self.abstract_parameters),
+            (CONCRETE_PARAMETER, self.concrete_parameters),
+        ];
+        for (kind, count) in counts {
+            for _ in 0..count {
+                let owner = any_owner(draft, kind, random);
+                let boolean = random.one_in(3);
+                let type_number = if boolean { BOOLEAN } else { INTEGER };
+                draft.identifiers.push([kind, type_number, owner]);
+            }
+        }
+        if !random.one_in(3) {
+            random.shuffle(&mut draft.identifiers);
+        }
+    }
+
+    /// The rows that will name roots.
+    fn places(&self, draft: &Draft, random: &mut Random) -> Vec<Place> {
+        let mut places = vec![(AXIOM, 0, 0); self.axioms];
+        places.extend(vec![(ABSTRACT_INVARIANT, 0, 0); self.abstract_invariants]);
+        places.extend(vec![(CONCRETE_INVARIANT, 0, 0); self.concrete_invariants]);
+        places.extend(self.guard_places(draft, random));
+        places.extend(self.action_places(draft, random));
+        places.extend(witness_places(draft));
+        if draft.events.iter().any(|event| event[1] == CONVERGENT) {
+            places.push((VARIANT, 0, 0));
+        }
+        places
+    }
+
+    fn guard_places(&self, draft: &Draft, random: &mut Random) -> Vec<Place> {
+        let events = numbers_of(&draft.events, |event| event[1] != INITIALISATION);
+        let all_at = if self.guards_at == 0 && random.one_in(4) {
+            random.maybe(&events).unwrap_or(0)
+        } else {
+            self.guards_at
+        };
+        let mut places = Vec::new();
+        for _ in 0..self.guards {
+            if let Some(event) = random.maybe(&events) {
+                let event = if all_at == 0 { event } else { all_at };
+                places.push((GUARD, event, 0));
+            }
+        }
+        places
+    }
+
+    fn action_places(&self, draft: &Draft, random: &mut Random) -> Vec<Place> {
+        let (mut initial, mut others) = (Vec::new(), Vec::new());
+        for (n, event) in draft.events.iter().enumerate() {
+            let kind = variable_kind(event[0]);
+            for variable in numbers_of(&draft.identifiers, |one| one[0] == kind) {
+                let such_that = self.only_such_that || random.one_in(2);
+                let tag = if such_that {
+                    BECOMES_SUCH_THAT
+                } else {
+                    BECOMES_EQUAL
+                };
+                let place = (tag, n as i32 + 1, variable);
+                if event[1] == INITIALISATION {
+                    initial.push(place);
+                } else {
+                    others.push(place);
+                }
+            }
+        }
+        random.shuffle(&mut others);
+        let most = self.actions.min(Table::MOST_ACTIONS);
+        others.truncate(most.saturating_sub(initial.len()));
+        initial.extend(others);
+        initial
+    }
+
+    /// Gives every formula one node, then hands out the others.
+    fn grow_formulas(&self, draft: &mut Draft, places: &[Place], random: &mut Random) {
+        let mut sizes = vec![1; places.len()];
+        let most_nodes = Table::MOST_NODES - self.spare_nodes;
+        let mut left = self.nodes.min(most_nodes.saturating_sub(places.len()));
+        let most = random.pick(&[1, 4, 16, 512]);
+        while left > 0 && !sizes.is_empty() {
+            let some = random.between(1, most.min(left));
+            let place = random.below(sizes.len());
+            sizes[place] += some;
+            left -= some;
+        }
+        for (&(tag, event, identifier), size) in places.iter().zip(sizes) {
+            let sight = sight(draft, tag, event, identifier);
+            let sort = root_sort(draft, tag, identifier);
+            let tree = Grower::new(random, &sight).grow(sort, size);
+            draft.formulas.push(DraftFormula {
+                tag,
+                event,
+                identifier,
+                tree,
+            });
+        }
+    }
+}
+
+/// The numbers, from 1, of those that meet the condition.
+pub fn numbers_of(list: &[[i32; 3]], meets: impl Fn(&[i32; 3]) -> bool) -> Vec<i32> {
+    (1..=list.len() as i32)
+        .filter(|&number| meets(&list[number as usize - 1]))
+        .collect()
+}
+
+fn any_owner(draft: &Draft, kind: i32, random: &mut Random) -> i32 {
+    let machine = match kind {
+        ABSTRACT_PARAMETER => ABSTRACT,
+        CONCRETE_PARAMETER => CONCRETE,
+        _ => return 0,
+    };
+    let owns = |event: &[i32; 3]| event[0] == machine && event[1] != INITIALISATION;
+    random.pick(&numbers_of(&draft.events, owns))
+}
+
+/// One witness for each that check 12 asks for.
+fn witness_places(draft: &Draft) -> Vec<Place> {
+    let mut places = Vec::new();
+    for (n, event) in draft.events.iter().enumerate() {
+        if event[0] != CONCRETE || event[1] == CONVERGENT {
+            continue;
+        }
+        let wanted = |one: &[i32; 3]| {
+            one[0] == ABSTRACT_VARIABLE || (one[0] == ABSTRACT_PARAMETER && one[2] == event[2])
+        };
+        for identifier in numbers_of(&draft.identifiers, wanted) {
+            places.push((WITNESS, n as i32 + 1, identifier));
+        }
+    }
+    places
+}
+
+fn drop_abstract_parameter(draft: &mut Draft) {
+    let found = draft
+        .identifiers
+        .iter()
+        .position(|one| one[0] == ABSTRACT_PARAMETER);
+    draft
+        .identifiers
+        .remove(found.expect("variables alone fit"));
+}
+
+pub fn sort_of_type(type_number: i32) -> Sort {
+    if type_number == INTEGER {
+        Sort::Integer
+    } else {
+        Sort::Boolean
+    }
+}
+
+/// The sort of the root that a row names.
+pub fn root_sort(draft: &Draft, tag: i32, identifier: i32) -> Sort {
+    match tag {
+        BECOMES_EQUAL => sort_of_type(draft.identifiers[identifier as usize - 1][1]),
+        VARIANT => Sort::Integer,
+        _ => Sort::Predicate,
+    }
+}
+
+/// What the formula in this place may mention.
+pub fn sight(draft: &Draft, tag: i32, event: i32, identifier: i32) -> Vec<Leaf> {
+    let mut leaves = Vec::new();
+    for (n, &[kind, type_number, owner]) in draft.identifiers.iter().enumerate() {
+        let number = n as i32 + 1;
+        let mut add = |operator| {
+            leaves.push(Leaf {
+                operator,
+                identifier: number,
+                sort: sort_of_type(type_number),
+            });
+        };
+        if sees_now(draft, (tag, event, identifier), (number, kind, owner)) {
+            add(IDENTIFIER);
+        }
+        if sees_after(draft, (tag, event, identifier), number) {
+            add(AFTER);
+        }
+    }
+    leaves
+}
+
+fn sees_now(draft: &Draft, place: Place, (number, kind, owner): Place) -> bool {
+    let (tag, event, target) = place;
+    if kind == CONSTANT {
+        return true;
+    }
+    if (AXIOM..=CONCRETE_INVARIANT).contains(&tag) || tag == VARIANT {
+        let seen: &[i32] = match tag {
+            AXIOM => &[],
+            ABSTRACT_INVARIANT => &[ABSTRACT_VARIABLE],
+            CONCRETE_INVARIANT => &[ABSTRACT_VARIABLE, CONCRETE_VARIABLE],
+            _ => &[CONCRETE_VARIABLE],
+        };
+        return seen.contains(&kind);
+    }
+    let [machine, class, _] = draft.events[event as usize - 1];
+    let present = class != INITIALISATION && kind == variable_kind(machine);
+    let witnessed = tag == WITNESS && number == target && kind == ABSTRACT_PARAMETER;
+    present || owner == event || witnessed
+}
+
+fn sees_after(draft: &Draft, (tag, _, target): Place, number: i32) -> bool {
+    let kind = |number: i32| draft.identifiers[number as usize - 1][0];
+    match tag {
+        BECOMES_SUCH_THAT => number == target,
+        WITNESS if kind(target) == ABSTRACT_VARIABLE => {
+            number == target || kind(number) == CONCRETE_VARIABLE
+        }
+        _ => false,
+    }
+}
+
+pub const EXTREMES: usize = 9;
+
+/// Tables at the limits. Numbers 1, 2 and 3 have the most sequents, the longest sequent
+/// and the longest spelled entry that any table can have.
+pub fn extreme(number: usize, random: &mut Random) -> Draft {
+    let full = Plan {
+        axioms: 16,
+        abstract_invariants: 16,
+        concrete_invariants: 16,
+        guards: 64,
+        actions: 128,
+        nodes: 512,
+        ..Plan::default()
+    };
+    let plan = match number {
+        0 => everything(full),
+        1 => most_sequents(full),
+        2 => longest_sequent(full),
+        3 => return longest_entry(random),
+        4 => sixty_four_identifiers(random),
+        5 => one_formula(random),
+        6 => many_witnesses(full, random),
+        7 => many_events(random),
+        _ => near_limits(full, random),
+    };
+    plan.draft(random)
+}
+
+/// Every limit is reached at once.
+fn everything(full: Plan) -> Plan {
+    Plan {
+        constants: 6,
+        abstract_variables: 8,
+        concrete_variables: 30,
+        concrete_parameters: 20,
+        abstract_events: 5,
+        ordinary: 15,
+        convergent: 10,
+        ..full
+    }
+}
+
+fn most_sequents(full: Plan) -> Plan {
+    Plan {
+        abstract_variables: 4,
+        concrete_variables: 60,
+        abstract_events: 1,
+        ordinary: 29,
+        guards_at: 2,
+        only_such_that: true,
+        ..full
+    }
+}
+
+/// Base 48, guards 64, and one hypothesis for each of 64 variables.
+fn longest_sequent(full: Plan) -> Plan {
+    Plan {
+        abstract_variables: 32,
+        concrete_variables: 32,
+        abstract_events: 1,
+        ordinary: 1,
+        guards_at: 4,
+        ..full
+    }
+}
+
+/// A division of divisions, deep on the right, as the one initial action.
+fn longest_entry(random: &mut Random) -> Draft {
+    let mut tree = Tree::one(NEGATION, Tree::leaf(LITERAL, 7));
+    for _ in 0..255 {
+        let left = Tree::leaf(LITERAL, random.below(9) as i32);
+        tree = Tree::two(DIVIDE, left, tree);
+    }
+    Draft {
+        identifiers: vec![[CONCRETE_VARIABLE, INTEGER, 0]],
+        events: vec![[ABSTRACT, INITIALISATION, 0], [CONCRETE, INITIALISATION, 0]],
+        formulas: vec![DraftFormula {
+            tag: BECOMES_EQUAL,
+            event: 2,
+            identifier: 1,
+            tree,
+        }],
+    }
+}
+
+fn sixty_four_identifiers(random: &mut Random) -> Plan {
+    let mut plan = Plan::any(random, 6);
+    let others = plan.abstract_variables
+        + plan.concrete_variables
+        + plan.abstract_parameters
+        + plan.concrete_parameters;
+    plan.constants = Table::MOST_IDENTIFIERS - others;
+    plan
+}
+
+/// 512 nodes in one formula, and nothing else.
+fn one_formula(random: &mut Random) -> Plan {
+    let mut plan = Plan {
+        constants: random.below(3),
+        nodes: 512,
+        ..Plan::default()
+    };
+    match random.below(4) {
+        0 => plan.axioms = 1,
+        1 => plan.abstract_invariants = 1,
+        2 => plan.concrete_invariants = 1,
+        _ => plan.convergent = 1,
+    }
+    plan
+}
+
+fn many_witnesses(full: Plan, random: &mut Random) -> Plan {
+    let (abstract_variables, ordinary) = random.pick(&[(32, 3), (16, 7), (8, 15), (64, 1)]);
+    Plan {
+        abstract_variables,
+        ordinary,
+        abstract_events: 1 + random.below(3),
+        ..full
+    }
+}
+
+fn many_events(random: &mut Random) -> Plan {
+    let abstract_events = random.between(1, 29);
+    let ordinary = random.below(31 - abstract_events);
+    Plan {
+        abstract_events,
+        ordinary,
+        convergent: 30 - abstract_events - ordinary,
+        abstract_variables: random.below(3),
+        concrete_variables: random.below(3),
+        concrete_invariants: random.below(4),
+        ..Plan::default()
+    }
+    .within_limits()
+}
+
+/// Every part at its limit or a little below.
+fn near_limits(full: Plan, random: &mut Random) -> Plan {
+    let mut near = |limit: usize| limit - random.below(3);
+    Plan {
+        constants: near(6),
+        abstract_variables: near(6),
+        concrete_variables: near(24),
+        abstract_parameters: near(4),
+        concrete_parameters: near(24),
+        abstract_events: near(6),
+        ordinary: near(16),
+        convergent: near(8),
+        axioms: near(16),
+        abstract_invariants: near(16),
+        concrete_invariants: near(16),
+        guards: near(64),
+        actions: near(128),
+        spare_nodes: 512 - near(512),
+        ..full
+    }
+}

@@ -1,0 +1,11 @@
+//! Sequents for an Event-B machine and its refinement: a plain reading of the paper.
+
+pub mod checks;
+pub mod evaluate;
+pub mod formula;
+pub mod generate;
+pub mod rows;
+pub mod sequents;
+pub mod services;
+pub mod statistics;
+pub mod table;

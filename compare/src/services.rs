@@ -1,0 +1,74 @@
+//! The services: check, write sequent k, spell entry j of sequent k, and print.
+
+use crate::checks::{accept, Refusal, ENTRY, ROOM, SEQUENT};
+use crate::rows::{bytes_of, Row, ROW_BYTES};
+use crate::sequents::{sequents, spell_out, Sequent};
+
+/// Accepts a table by giving the count of its sequents.
+pub fn check(table: &[u8]) -> Result<usize, Refusal> {
+    Ok(sequents(&accept(table)?).len())
+}
+
+/// Writes sequent k (from 1) and gives the number of rows.
+pub fn write_sequent(table: &[u8], k: usize, out: &mut [u8]) -> Result<usize, Refusal> {
+    let list = sequents(&accept(table)?);
+    let sequent = numbered(&list, k, SEQUENT)?;
+    write_rows(&sequent_rows(sequent), out)
+}
+
+/// Spells entry j (from 1, the goal last) of sequent k and gives the number of rows.
+pub fn spell_entry(table: &[u8], k: usize, j: usize, out: &mut [u8]) -> Result<usize, Refusal> {
+    let table = accept(table)?;
+    let list = sequents(&table);
+    let entries = numbered(&list, k, SEQUENT)?.entries();
+    let entry = numbered(&entries, j, ENTRY)?;
+    let rows: Vec<Row> = spell_out(&table, *entry)
+        .into_iter()
+        .map(|symbol| Row::new(83, symbol.operator, symbol.b, 0))
+        .collect();
+    write_rows(&rows, out)
+}
+
+/// All sequents, or one row 89 (refusal, row, 0).
+pub fn print(table: &[u8]) -> Vec<u8> {
+    match accept(table) {
+        Ok(table) => {
+            let rows: Vec<Row> = sequents(&table).iter().flat_map(sequent_rows).collect();
+            bytes_of(&rows)
+        }
+        Err(refusal) => bytes_of(&[Row::new(89, refusal.number, refusal.row as i32, 0)]),
+    }
+}
+
+/// Row 80 (kind, event or 0, item), rows 81 (hypotheses), row 82 (goal).
+pub fn sequent_rows(sequent: &Sequent) -> Vec<Row> {
+    let mut rows = vec![Row::new(80, sequent.kind, sequent.event, sequent.item)];
+    for entry in &sequent.hypotheses {
+        rows.push(Row::new(81, entry.form, entry.first, entry.second));
+    }
+    let goal = sequent.goal;
+    rows.push(Row::new(82, goal.form, goal.first, goal.second));
+    rows
+}
+
+/// The one with this number, counted from 1, or the refusal with row 0.
+fn numbered<T>(list: &[T], number: usize, refusal: i32) -> Result<&T, Refusal> {
+    let place = number.checked_sub(1);
+    place.and_then(|place| list.get(place)).ok_or(Refusal {
+        number: refusal,
+        row: 0,
+    })
+}
+
+/// Writes the rows if there is room for all of them.
+fn write_rows(rows: &[Row], out: &mut [u8]) -> Result<usize, Refusal> {
+    let size = rows.len() * ROW_BYTES;
+    if out.len() < size {
+        return Err(Refusal {
+            number: ROOM,
+            row: 0,
+        });
+    }
+    out[..size].copy_from_slice(&bytes_of(rows));
+    Ok(rows.len())
+}

@@ -1,0 +1,119 @@
+//! What the tables of many seeds contain and how they are answered.
+
+use crate::checks::{accept, Refusal};
+use crate::generate::{case, Case};
+use crate::rows::ROW_BYTES;
+use crate::sequents::{sequents, spell_out, Sequent};
+use crate::services::{check, print, spell_entry, write_sequent};
+use crate::table::Table;
+use std::collections::BTreeMap;
+
+/// How often each of the paper's numbers occurred.
+type Counts = BTreeMap<i32, usize>;
+
+/// Counts over many seeds.
+#[derive(Clone, Debug, Default)]
+pub struct Statistics {
+    pub cases: usize,
+    pub accepted: usize,
+    pub refusals: Counts,
+    pub kinds: Counts,
+    pub hypothesis_forms: Counts,
+    pub goal_forms: Counts,
+    pub operators: Counts,
+    pub most_sequents: usize,
+    pub longest_sequent: usize,
+    pub longest_entry: usize,
+    pub longest_print: usize,
+    pub most_rows: usize,
+}
+
+impl Statistics {
+    /// Counts the cases of the seeds from `first`, so many of them.
+    pub fn of(first: u64, seeds: u64) -> Statistics {
+        let mut statistics = Statistics::default();
+        for seed in first..first + seeds {
+            statistics.add(&case(seed));
+        }
+        statistics
+    }
+
+    fn add(&mut self, case: &Case) {
+        self.cases += 1;
+        for number in refusals_of(case) {
+            count(&mut self.refusals, number);
+        }
+        self.longest_print = self.longest_print.max(print(&case.table).len() / ROW_BYTES);
+        if let Ok(table) = accept(&case.table) {
+            self.accepted += 1;
+            self.add_table(&table);
+        }
+    }
+
+    fn add_table(&mut self, table: &Table) {
+        let list = sequents(table);
+        self.most_rows = self.most_rows.max(table.rows.len());
+        self.most_sequents = self.most_sequents.max(list.len());
+        for sequent in &list {
+            count(&mut self.kinds, sequent.kind);
+            self.longest_sequent = self.longest_sequent.max(sequent.hypotheses.len() + 2);
+            for entry in &sequent.hypotheses {
+                count(&mut self.hypothesis_forms, entry.form);
+            }
+            self.add_goal(table, sequent);
+        }
+    }
+
+    fn add_goal(&mut self, table: &Table, sequent: &Sequent) {
+        count(&mut self.goal_forms, sequent.goal.form);
+        let spelled = spell_out(table, sequent.goal);
+        self.longest_entry = self.longest_entry.max(spelled.len());
+        for symbol in spelled {
+            count(&mut self.operators, symbol.operator);
+        }
+    }
+
+    /// The counts as lines of text.
+    pub fn report(&self) -> String {
+        let mut text = format!("cases {}, accepted {}\n", self.cases, self.accepted);
+        let lists = [
+            ("refusal (cases)", &self.refusals),
+            ("kind (sequents)", &self.kinds),
+            ("form (hypotheses)", &self.hypothesis_forms),
+            ("form (goals)", &self.goal_forms),
+            ("operator (goals spelled)", &self.operators),
+        ];
+        for (title, counts) in lists {
+            text += title;
+            for (number, count) in counts {
+                text += &format!(" {number}:{count}");
+            }
+            text += "\n";
+        }
+        text += &format!("most rows of an accepted table {}\n", self.most_rows);
+        text += &format!("most sequents {}\n", self.most_sequents);
+        text += &format!("longest sequent, rows {}\n", self.longest_sequent);
+        text += &format!("longest spelled goal, rows {}\n", self.longest_entry);
+        text += &format!("longest print, rows {}\n", self.longest_print);
+        text
+    }
+}
+
+fn count(counts: &mut Counts, number: i32) {
+    *counts.entry(number).or_default() += 1;
+}
+
+/// The different refusals that the case's three calls meet.
+pub fn refusals_of(case: &Case) -> Vec<i32> {
+    let mut sequent = vec![0; case.sequent_room];
+    let mut entry = vec![0; case.entry_room];
+    let answers: [Result<usize, Refusal>; 3] = [
+        check(&case.table),
+        write_sequent(&case.table, case.k, &mut sequent),
+        spell_entry(&case.table, case.k, case.j, &mut entry),
+    ];
+    let refused = answers.iter().filter_map(|answer| answer.err());
+    let mut numbers: Vec<i32> = refused.map(|refusal| refusal.number).collect();
+    numbers.dedup();
+    numbers
+}

@@ -1,0 +1,118 @@
+//! The sizes that the paper wants run, and the largest answers.
+
+mod common;
+
+use common::{refusal, table};
+use compare::generate::plan::{extreme, EXTREMES};
+use compare::generate::random::Random;
+use compare::rows::{bytes_of, Row};
+use compare::sequents::{sequents, spell_out};
+use compare::services::{check, print, spell_entry};
+use compare::table::Table;
+
+/// So many constants, and both initialisations.
+fn identifiers(count: usize) -> Vec<u8> {
+    let mut rows = vec![Row::new(10, 1, 1, 0); count];
+    rows.push(Row::new(40, 1, 0, 0));
+    rows.push(Row::new(40, 2, 0, 0));
+    bytes_of(&rows)
+}
+
+#[test]
+fn sixty_four_identifiers_are_most() {
+    assert_eq!(check(&identifiers(64)), Ok(0));
+    assert_eq!(check(&identifiers(65)), Err(refusal(4, 65)));
+}
+
+/// One axiom of so many nodes: truth under negations.
+fn nodes(count: usize) -> Vec<u8> {
+    let mut rows = vec![Row::new(20, 30, 0, 0)];
+    rows.extend((1..count as i32).map(|number| Row::new(20, 32, number, 0)));
+    rows.push(Row::new(30, count as i32, 0, 0));
+    rows.push(Row::new(40, 1, 0, 0));
+    rows.push(Row::new(40, 2, 0, 0));
+    bytes_of(&rows)
+}
+
+#[test]
+fn five_hundred_and_twelve_nodes_are_most() {
+    assert_eq!(check(&nodes(512)), Ok(1));
+    assert_eq!(check(&nodes(513)), Err(refusal(4, 513)));
+}
+
+#[test]
+fn bytes_of_a_table() {
+    let rows = |count: usize| bytes_of(&vec![Row::new(20, 30, 0, 0); count]);
+    assert_eq!(rows(1724).len(), 65_512);
+    assert_eq!(check(&rows(1724)), Err(refusal(4, 513)));
+    assert_eq!(rows(1725).len(), 65_550);
+    assert_eq!(check(&rows(1725)), Err(refusal(1, 0)));
+}
+
+/// 512 nodes, each using the one before twice.
+#[test]
+fn shared_nodes_are_answered_at_once() {
+    for (leaf, operator, tag) in [((1, 1), 10, 70), ((30, 0), 33, 30)] {
+        let mut rows = vec![Row::new(20, leaf.0, leaf.1, 0)];
+        rows.extend((1..512).map(|number| Row::new(20, operator, number, number)));
+        rows.push(Row::new(tag, 512, 0, 0));
+        rows.push(Row::new(40, 1, 0, 0));
+        rows.push(Row::new(40, 2, 0, 0));
+        rows.push(Row::new(40, 2, 2, 0));
+        rows.sort_by_key(|row| row.tag);
+        assert_eq!(check(&bytes_of(&rows)), Err(refusal(9, 1)));
+        assert_eq!(print(&bytes_of(&rows)), table("89 9 1 0"));
+    }
+}
+
+fn extreme_table(number: usize) -> Vec<u8> {
+    let mut random = Random::new(1);
+    let draft = extreme(number, &mut random);
+    bytes_of(&draft.rows(&mut random))
+}
+
+#[test]
+fn extremes_are_accepted() {
+    for number in 0..EXTREMES {
+        assert!(check(&extreme_table(number)).is_ok(), "{number}");
+    }
+}
+
+#[test]
+fn every_limit_at_once() {
+    let bytes = extreme_table(0);
+    assert_eq!(bytes.len() / 38, 64 + 512 + 48 + 32 + 64 + 128 + 128 + 1);
+    assert!(check(&bytes).is_ok());
+}
+
+/// 48 WD, 64 guards, 128 actions with FIS, 120 witnesses with WFIS, 29 × 64 GRD, 120 SIM, 512 INV.
+#[test]
+fn most_sequents() {
+    let count = 48 + 64 + 2 * 128 + 2 * 120 + 29 * 64 + 120 + 32 * 16;
+    assert_eq!(count, 3096);
+    assert_eq!(check(&extreme_table(1)), Ok(count));
+}
+
+#[test]
+fn longest_sequent() {
+    let bytes = extreme_table(2);
+    let read = compare::checks::accept(&bytes).expect("accepted");
+    let longest = sequents(&read)
+        .iter()
+        .map(|one| one.hypotheses.len() + 2)
+        .max();
+    assert_eq!(longest, Some(178));
+}
+
+#[test]
+fn longest_entry() {
+    let bytes = extreme_table(3);
+    let read: Table = compare::checks::accept(&bytes).expect("accepted");
+    assert_eq!(read.nodes.len(), 512);
+    let goal = sequents(&read)[0].goal;
+    assert_eq!(spell_out(&read, goal).len(), 66_811);
+    let mut out = vec![0; 66_811 * 38];
+    assert_eq!(spell_entry(&bytes, 1, 1, &mut out), Ok(66_811));
+    out.pop();
+    assert_eq!(spell_entry(&bytes, 1, 1, &mut out), Err(refusal(15, 0)));
+}
