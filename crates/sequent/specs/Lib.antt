@@ -1,4 +1,5 @@
 pub mod Entry
+pub mod Numbers
 pub mod Sequent
 pub mod Listed
 pub mod Required

@@ -1,1 +1,8 @@
-// 01, Sequents: the list of a table's sequents. No functions yet.
+// 01, Sequents: the list of a table's sequents.
+
+// "An entry has a form and two numbers."
+pub struct Entry {
+    pub form: u64,
+    pub first: u64,
+    pub second: u64,
+}

@@ -1,0 +1,31 @@
+-- 01, Sequents: "An entry has a form and two numbers": an entry as the code holds it and as rows 81 and 82 write it.
+use Prim.Native.Nat.{ℕ}
+use mathlib.Core.Bool.{true, false}
+use mathlib.Core.List.{List, [], _∷_}
+use lib.ListN.{getD}
+use Rattle.sequent.specs.declared.Entry.{Entry as Numbers}
+use Rattle.sequent.specs.Entry.{Entry, written, primed, defined, moves, feasible, witnessed, natural, decreases}
+
+abbrev pub numbers : ℕ → ℕ → ℕ → Numbers
+numbers form a b = record { form = form; first = a; second = b }
+
+-- "Forms 1, 2, 3, 7, 8 name a root, then 0."
+abbrev pub numbersOf : Entry → Numbers
+numbersOf (written r) = numbers 1 r 0
+numbersOf (primed r) = numbers 2 r 0
+numbersOf (defined r) = numbers 3 r 0
+numbersOf (moves e x) = numbers 4 e x
+numbersOf (feasible e x) = numbers 5 e x
+numbersOf (witnessed e x) = numbers 6 e x
+numbersOf (natural r) = numbers 7 r 0
+numbersOf (decreases r) = numbers 8 r 0
+
+-- the forms by number, each an entry of two numbers; 0 is no form and counts as 1
+abbrev pub forms : List (ℕ → ℕ → Entry)
+forms =
+    (λ a b. written a) ∷ (λ a b. written a) ∷ (λ a b. primed a) ∷ (λ a b. defined a) ∷ (λ a b. moves a b) ∷ (λ a b. feasible a b) ∷ (λ a b. witnessed a b)
+    ∷ (λ a b. natural a) ∷ (λ a b. decreases a) ∷ []
+
+-- the entry of a form and two numbers
+unfoldable pub entryOf : Numbers → Entry
+entryOf n = getD forms (n .form) (λ a b. written a) (n .first) (n .second)
