@@ -1,10 +1,11 @@
-// Rows below a bound that pass a test: how many, and whether there is one.
+// Rows below a bound that pass a test: how many, whether there is one, and the first.
 use table::a_at;
 use table::b_at;
 use table::one_if;
+use table::size;
 use table::tag_at;
 ghost use mathlib.Core.Path.{_≡_};
-ghost use Rattle.lists.specs.Rows.{countBelow, someBelow};
+ghost use Rattle.lists.specs.Rows.{countBelow, someBelow, first};
 ghost use Rattle.table.specs.Table.{tableOf};
 ghost use Rattle.scan.specs.Query.{holds, passesOf};
 
@@ -73,4 +74,19 @@ pub fn some_row(words: &[u64], query: Query, n: usize) -> bool
     ensures { λ r. ⌜ r ≡ someBelow (passesOf (tableOf (now (words .entry))) query) n ⌝ }
 {
     0 < count_rows(words, query, n)
+}
+
+// The first row that passes, or the number of rows.
+pub fn find_row(words: &[u64], query: Query) -> usize
+    ensures { λ r. ⌜ r ≡ first (passesOf (tableOf (now (words .entry))) query) (tableOf (now (words .entry)) .size) 0 ⌝ }
+{
+    let rows = size(words);
+    let mut i = 0;
+    while i < rows {
+        if passes(query, tag_at(words, i), a_at(words, i), b_at(words, i)) {
+            return i;
+        }
+        i += 1;
+    }
+    i
 }
