@@ -15,58 +15,54 @@ use Rattle.table.proofs.Sections.{Rising}
 use Rattle.machine.specs.Described.{machineOf}
 use Rattle.sequent.specs.Sequent.{Sequent}
 use Rattle.sequent.specs.Listed.{sequents}
-use Rattle.sequent.specs.Walk.{groups, makes, made, slot, slotCount, groupSlots, eventSlots, walk, groupCount, eventCount, walkCount}
+use Rattle.sequent.specs.Walk.{groups, makes, made, slot, slotCount, groupSlots, eventSlots, walk, groupCount, eventCount, walkCount, walkTo}
 use Rattle.sequent.proofs.Walk.{slot-count, group-length, event-length, walked}
 
 module _ (t : Table) where
-  -- how many sequents the slots before the row i of the group g of the event e make
-  unfoldable pub walkTo : ℕ → ℕ → ℕ → ℕ
-  walkTo e g i = sumBelow (eventCount t) e + (sumBelow (groupCount t e) g + sumBelow (slotCount t e g) i)
-
   -- the steps of the walk: from the start, to the next row, past the last row to the next group, past the last group to the next event, to the end
-  pub walk-start : walkTo 0 0 0 ≡ 0
+  pub walk-start : walkTo t 0 0 0 ≡ 0
   unfolding walkTo sumBelow
   walk-start = refl
 
-  pub walk-row : (e g i : ℕ) → walkTo e g (i + 1) ≡ walkTo e g i + slotCount t e g i
+  pub walk-row : (e g i : ℕ) → walkTo t e g (i + 1) ≡ walkTo t e g i + slotCount t e g i
   unfolding walkTo sumBelow
   walk-row e g i = rw (add-one i) (omega arith)
 
-  pub walk-group : (e g : ℕ) → walkTo e (g + 1) 0 ≡ walkTo e g (t .size)
+  pub walk-group : (e g : ℕ) → walkTo t e (g + 1) 0 ≡ walkTo t e g (t .size)
   unfolding walkTo sumBelow
   walk-group e g = rw (add-one g) (omega arith)
 
-  pub walk-event : (e : ℕ) → walkTo (e + 1) 0 0 ≡ walkTo e groups 0
+  pub walk-event : (e : ℕ) → walkTo t (e + 1) 0 0 ≡ walkTo t e groups 0
   unfolding walkTo sumBelow
   walk-event e = rw (add-one e) (omega arith)
 
-  pub walk-end : walkTo (count t 40 + 1) 0 0 ≡ walkCount t
+  pub walk-end : walkTo t (count t 40 + 1) 0 0 ≡ walkCount t
   unfolding walkTo walkCount sumBelow
   walk-end = omega arith
 
   -- the k-th sequent of a slot is the k-th of the list behind those of the slots before
   pub walk-at : (e g i k : ℕ) (d : Sequent) → e ≤ count t 40 → g < groups → i < t .size → k < slotCount t e g i
-      → getD (walk t) (walkTo e g i + k) d ≡ getD (slot t e g i) k d
+      → getD (walk t) (walkTo t e g i + k) d ≡ getD (slot t e g i) k d
   unfolding walkTo
   walk-at e g i k d he hg hi hk =
       let inGroup : sumBelow (slotCount t e g) i + k < groupCount t e g = omega (arith, sum-reaches (slotCount t e g) (t .size) i hi) in
       let inEvent : sumBelow (groupCount t e) g + (sumBelow (slotCount t e g) i + k) < eventCount t e =
       omega (arith, sum-reaches (groupCount t e) groups g hg) in
-      let p : walkTo e g i + k ≡ sumBelow (eventCount t) e + (sumBelow (groupCount t e) g + (sumBelow (slotCount t e g) i + k)) = omega arith in
+      let p : walkTo t e g i + k ≡ sumBelow (eventCount t) e + (sumBelow (groupCount t e) g + (sumBelow (slotCount t e g) i + k)) = omega arith in
       ap (λ n. getD (walk t) n d) p
       ∙ flat-at (eventSlots t) (eventCount t) (event-length t) (count t 40 + 1) e _ d (omega arith) inEvent
       ∙ flat-at (groupSlots t e) (groupCount t e) (group-length t e) groups g _ d hg inGroup
       ∙ flat-at (slot t e g) (slotCount t e g) (slot-count t e g) (t .size) i k d hi hk
 
   -- the same of the list: a loop has come to the slot with `left` of k left, and the slot counts more
-  pub found-left : Rising t → (e g i left k : ℕ) (d : Sequent) → e ≤ count t 40 → g < groups → i < t .size → walkTo e g i + left ≡ k
+  pub found-left : Rising t → (e g i left k : ℕ) (d : Sequent) → e ≤ count t 40 → g < groups → i < t .size → walkTo t e g i + left ≡ k
       → left < slotCount t e g i → getD (sequents (machineOf t)) k d ≡ getD (slot t e g i) left d
   found-left rising e g i left k d he hg hi p hl =
       ap (λ xs. getD xs k d) (walked t rising) ∙ ap (λ n. getD (walk t) n d) (sym p) ∙ walk-at e g i left d he hg hi hl
 
-  pub found : Rising t → (e g i k : ℕ) (d : Sequent) → e ≤ count t 40 → g < groups → i < t .size → walkTo e g i ≤ k
-      → k < walkTo e g i + slotCount t e g i → getD (sequents (machineOf t)) k d ≡ getD (slot t e g i) (k - walkTo e g i) d
-  found rising e g i k d he hg hi lo up = found-left rising e g i (k - walkTo e g i) k d he hg hi (omega arith) (omega arith)
+  pub found : Rising t → (e g i k : ℕ) (d : Sequent) → e ≤ count t 40 → g < groups → i < t .size → walkTo t e g i ≤ k
+      → k < walkTo t e g i + slotCount t e g i → getD (sequents (machineOf t)) k d ≡ getD (slot t e g i) (k - walkTo t e g i) d
+  found rising e g i k d he hg hi lo up = found-left rising e g i (k - walkTo t e g i) k d he hg hi (omega arith) (omega arith)
 
   -- a slot that counts any is one that makes some
   pub counted-made : (e g i : ℕ) → 0 < slotCount t e g i → (makes t e g i ≡ true) × (slot t e g i ≡ made t e g i)
@@ -87,7 +83,7 @@ module _ (t : Table) where
       by-tests true false = omega arith
       by-tests false c = omega arith
 
-  pub walk-reaches : (e g i : ℕ) → e ≤ count t 40 → g < groups → i < t .size → walkTo e g i + slotCount t e g i ≤ walkCount t
+  pub walk-reaches : (e g i : ℕ) → e ≤ count t 40 → g < groups → i < t .size → walkTo t e g i + slotCount t e g i ≤ walkCount t
   unfolding walkTo walkCount
   walk-reaches e g i he hg hi =
       omega (

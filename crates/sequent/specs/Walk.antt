@@ -185,3 +185,7 @@ module _ (t : Table) where
 
   unfoldable pub walkCount : ℕ
   walkCount = sumBelow eventCount (count t 40 + 1)
+
+  -- how many sequents the slots before the row i of the group g of the event e make
+  unfoldable pub walkTo : ℕ → ℕ → ℕ → ℕ
+  walkTo e g i = sumBelow eventCount e + (sumBelow (groupCount e) g + sumBelow (slotCount e g) i)

@@ -1,0 +1,41 @@
+-- A row that stands for an identifier is a row of the table; and the groups' tests by the group's number.
+use Prim.Native.Nat.{ℕ, suc, _≤_, _<_}
+use mathlib.Core.Path.{_≡_, refl, sym, ap, _∙_}
+use mathlib.Core.Bool.{Bool, true, false, _&&_}
+use native.Mathlib.Omega.{arith}
+use lib.Dec.{ltb, eqb}
+use lib.ListN.{getD, List·getD-eq-default}
+use borrow.Author.Tests.{ltb-true, eqb-true, eqb-false}
+use Rattle.lists.proofs.Rows.{count-at-most}
+use Rattle.table.specs.Table.{Table, tagged, count}
+use Rattle.sequent.specs.Walk.{groups, groupTests, identifierAt, isConvergent}
+
+left-true : (p q : Bool) → p && q ≡ true → p ≡ true
+left-true true q e = refl
+left-true false q e = e
+
+pub identifier-within : (t : Table) (kind i : ℕ) → identifierAt t kind i ≡ true → i < t .size
+unfolding count
+identifier-within t kind i e = omega (arith, ltb-true i (count t 10) (left-true (ltb i (count t 10)) _ e), count-at-most (tagged t 10) (t .size))
+
+-- a number from n on that is not n
+pub past : (n : ℕ) {g : ℕ} → (g ≡ n → ⊥) → n ≤ g → suc n ≤ g
+past n d h = omega (arith, d)
+
+module _ (t : Table) (e i : ℕ) where
+  -- the test of a group; no other number has one
+  abbrev pub groupTest : ℕ → Bool
+  groupTest g = getD (groupTests t) g (λ e i. false) e i
+
+  pub test-of : {g : ℕ} {b : Bool} (k : ℕ) → g ≡ k → b ≡ groupTest k → b ≡ groupTest g
+  test-of k p q = q ∙ sym (ap groupTest p)
+
+  pub test-convergent : (g : ℕ) {b : Bool} → 9 ≤ g → g < 11 → b ≡ (isConvergent t e && tagged t 70 i) → b ≡ groupTest g
+  test-convergent g {b} lo hi q = by-number (eqb g 9) refl
+    where
+      by-number : (d : Bool) → eqb g 9 ≡ d → b ≡ groupTest g
+      by-number true p = test-of 9 (eqb-true g 9 p) q
+      by-number false p = let k : g ≡ 10 = omega (arith, eqb-false g 9 p) in test-of 10 k q
+
+  pub test-none : {g : ℕ} → groups ≤ g → false ≡ groupTest g
+  test-none h = sym (ap (λ P. P e i) (List·getD-eq-default (groupTests t) (λ e i. false) h))

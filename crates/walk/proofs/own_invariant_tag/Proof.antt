@@ -1,0 +1,11 @@
+-- By the event's machine.
+use mathlib.Core.Path.{sym, _∙_}
+use borrow.Author.Needs.{needs}
+use Rattle.walk.proofs.own_invariant_tag.Statement.{statement}
+use Rattle.walk.proofs.own_invariant_tag.Tie as tie
+
+pub own-invariant-tag-spec : {M : Type 1} → statement M
+own-invariant-tag-spec = tie.close (tie.spec
+    (λ c κs. search needs)
+    (λ c. rw (sym (c .before .is-abstract .ensures) ∙ c .if1 .taken))
+    (λ c. rw (sym (c .before .is-abstract .ensures) ∙ c .if1 .left)))

@@ -1,0 +1,199 @@
+// 01, Sequents, "Order": the list of sequents as a walk of slots, each an event (0 for none), a group of that order and a row.
+use scan::Query;
+use scan::find_row;
+use table::Table;
+use table::a_at;
+use table::event_field;
+use table::identifier_field;
+use table::size;
+use table::tag_at;
+ghost use mathlib.Core.Path.{_≡_};
+ghost use Prim.Native.Nat.{_+_};
+ghost use mathlib.Core.Bool.{_&&_, false};
+ghost use lib.ListN.{getD};
+ghost use Rattle.table.specs.Table.{tableOf, refinedBy};
+ghost use Rattle.table.specs.Counts.{countsOf};
+ghost use Rattle.sequent.specs.Walk.{hasGroup, groupTests, isFormula, rowOfEvent, isAbstract, isRefining, isMatched, isConvergent};
+ghost use Rattle.sequent.specs.Walk.{ownKind, ownInvariantTag, identifierAt, isAssigned, becomesSuch, makes, slotCount};
+
+// "30, 31, 32 axiom, abstract invariant, concrete invariant"
+pub fn is_formula(words: &[u64], i: usize) -> bool
+    ensures { λ r. ⌜ r ≡ isFormula (tableOf (now (words .entry))) i ⌝ }
+{
+    let tag = tag_at(words, i);
+    (tag == 30) | ((tag == 31) | (tag == 32))
+}
+
+// Whether row i is of a tag and belongs to an event.
+pub fn row_of_event(words: &[u64], tag: u64, event: u64, i: usize) -> bool
+    ensures { λ r. ⌜ r ≡ rowOfEvent (tableOf (now (words .entry))) tag event i ⌝ }
+{
+    (tag_at(words, i) == tag) & (a_at(words, i) == event)
+}
+
+// "machine: 1 abstract, 2 concrete"
+pub fn is_abstract(words: &[u64], table: Table, event: u64) -> bool
+    requires { ⌜ table ≡ countsOf (tableOf (now words)) ⌝ }
+    ensures { λ r. ⌜ r ≡ isAbstract (tableOf (now (words .entry))) event ⌝ }
+{
+    event_field(words, table, event, Table::MACHINE) == 1
+}
+
+// "class: 0 initialisation, 1 ordinary, 2 convergent"
+pub fn is_refining(words: &[u64], table: Table, event: u64) -> bool
+    requires { ⌜ table ≡ countsOf (tableOf (now words)) ⌝ }
+    ensures { λ r. ⌜ r ≡ isRefining (tableOf (now (words .entry))) event ⌝ }
+{
+    !is_abstract(words, table, event) & (event_field(words, table, event, Table::CLASS) == 1)
+}
+
+// A concrete initialisation or ordinary event.
+pub fn is_matched(words: &[u64], table: Table, event: u64) -> bool
+    requires { ⌜ table ≡ countsOf (tableOf (now words)) ⌝ }
+    ensures { λ r. ⌜ r ≡ isMatched (tableOf (now (words .entry))) event ⌝ }
+{
+    let class = event_field(words, table, event, Table::CLASS);
+    !is_abstract(words, table, event) & ((class == 0) | (class == 1))
+}
+
+pub fn is_convergent(words: &[u64], table: Table, event: u64) -> bool
+    requires { ⌜ table ≡ countsOf (tableOf (now words)) ⌝ }
+    ensures { λ r. ⌜ r ≡ isConvergent (tableOf (now (words .entry))) event ⌝ }
+{
+    let class = event_field(words, table, event, Table::CLASS);
+    !is_abstract(words, table, event) & !((class == 0) | (class == 1))
+}
+
+// The kind of the variables of an event's own machine.
+pub fn own_kind(words: &[u64], table: Table, event: u64) -> u64
+    requires { ⌜ table ≡ countsOf (tableOf (now words)) ⌝ }
+    ensures { λ r. ⌜ r ≡ ownKind (tableOf (now (words .entry))) event ⌝ }
+{
+    if is_abstract(words, table, event) {
+        2
+    } else {
+        3
+    }
+}
+
+// The tag of the invariants of an event's own machine.
+fn own_invariant_tag(words: &[u64], table: Table, event: u64) -> u64
+    requires { ⌜ table ≡ countsOf (tableOf (now words)) ⌝ }
+    ensures { λ r. ⌜ r ≡ ownInvariantTag (tableOf (now (words .entry))) event ⌝ }
+{
+    if is_abstract(words, table, event) {
+        31
+    } else {
+        32
+    }
+}
+
+// Whether there is an identifier i + 1, of a kind.
+pub fn identifier_at(words: &[u64], table: Table, kind: u64, i: usize) -> bool
+    requires { ⌜ table ≡ countsOf (tableOf (now words)) ⌝ }
+    ensures { λ r. ⌜ r ≡ identifierAt (tableOf (now (words .entry))) kind i ⌝ }
+{
+    let x = i as u64;
+    if x < table.identifiers {
+        return identifier_field(words, table, x + 1, Table::KIND) == kind;
+    }
+    false
+}
+
+// Whether an event has an action for a variable.
+fn is_assigned(words: &[u64], event: u64, target: u64) -> bool
+    ensures { λ r. ⌜ r ≡ isAssigned (tableOf (now (words .entry))) event target ⌝ }
+{
+    find_row(words, Query::Assigns { event, target }) < size(words)
+}
+
+// Whether that action is a 52.
+fn becomes_such(words: &[u64], event: u64, target: u64) -> bool
+    ensures { λ r. ⌜ r ≡ becomesSuch (tableOf (now (words .entry))) event target ⌝ }
+{
+    let row = find_row(words, Query::Assigns { event, target });
+    (row < size(words)) & !(tag_at(words, row) == 51)
+}
+
+// Groups 0 and 1 are of no event, the others of each event.
+fn has_group(event: u64, group: u64) -> bool
+    ensures { λ r. ⌜ r ≡ hasGroup event group ⌝ }
+{
+    if event == 0 { group < 2 } else { 2 <= group }
+}
+
+// Group 3: a variable of the event's machine that it assigns. The row i stands for the identifier i + 1.
+fn assigned_at(words: &[u64], table: Table, event: u64, i: usize) -> bool
+    requires { ⌜ table ≡ countsOf (tableOf (now words)) ⌝ }
+    ensures { λ r. ⌜ r ≡ identifierAt (tableOf (now (words .entry))) (ownKind (tableOf (now (words .entry))) event) i && isAssigned (tableOf (now (words .entry))) event (i + 1) ⌝ }
+{
+    if identifier_at(words, table, own_kind(words, table, event), i) {
+        return is_assigned(words, event, i as u64 + 1);
+    }
+    false
+}
+
+// Group 4: such a variable whose action is a 52.
+fn feasible_at(words: &[u64], table: Table, event: u64, i: usize) -> bool
+    requires { ⌜ table ≡ countsOf (tableOf (now words)) ⌝ }
+    ensures { λ r. ⌜ r ≡ identifierAt (tableOf (now (words .entry))) (ownKind (tableOf (now (words .entry))) event) i && becomesSuch (tableOf (now (words .entry))) event (i + 1) ⌝ }
+{
+    if identifier_at(words, table, own_kind(words, table, event), i) {
+        return becomes_such(words, event, i as u64 + 1);
+    }
+    false
+}
+
+// Group 6: a guard of the event that a refining event refines.
+fn refined_guard_at(words: &[u64], table: Table, event: u64, i: usize) -> bool
+    requires { ⌜ table ≡ countsOf (tableOf (now words)) ⌝ }
+    ensures { λ r. ⌜ r ≡ isRefining (tableOf (now (words .entry))) event && rowOfEvent (tableOf (now (words .entry))) 50 (refinedBy (tableOf (now (words .entry))) event) i ⌝ }
+{
+    let refined = event_field(words, table, event, Table::REFINED);
+    is_refining(words, table, event) & row_of_event(words, 50, refined, i)
+}
+
+// Whether the slot makes sequents, by its group, where the event has the group.
+fn group_test(words: &[u64], table: Table, event: u64, group: u64, i: usize) -> bool
+    requires { ⌜ table ≡ countsOf (tableOf (now words)) ⌝ }
+    ensures { λ r. ⌜ r ≡ getD (groupTests (tableOf (now (words .entry)))) group (λ e i. false) event i ⌝ }
+{
+    match group {
+        0 => is_formula(words, i),
+        1 => tag_at(words, i) == 70,
+        2 => row_of_event(words, 50, event, i),
+        3 => assigned_at(words, table, event, i),
+        4 => feasible_at(words, table, event, i),
+        5 => row_of_event(words, 60, event, i),
+        6 => refined_guard_at(words, table, event, i),
+        7 => is_matched(words, table, event) & identifier_at(words, table, 2, i),
+        8 => tag_at(words, i) == own_invariant_tag(words, table, event),
+        9 | 10 => is_convergent(words, table, event) & (tag_at(words, i) == 70),
+        _ => false,
+    }
+}
+
+// Whether the slot makes sequents.
+pub fn makes(words: &[u64], table: Table, event: u64, group: u64, i: usize) -> bool
+    requires { ⌜ table ≡ countsOf (tableOf (now words)) ⌝ }
+    ensures { λ r. ⌜ r ≡ makes (tableOf (now (words .entry))) event group i ⌝ }
+{
+    if has_group(event, group) {
+        return group_test(words, table, event, group, i);
+    }
+    false
+}
+
+// How many sequents it makes.
+pub fn slot_count(words: &[u64], table: Table, event: u64, group: u64, i: usize) -> u64
+    requires { ⌜ table ≡ countsOf (tableOf (now words)) ⌝ }
+    ensures { λ r. ⌜ r ≡ slotCount (tableOf (now (words .entry))) event group i ⌝ }
+{
+    if makes(words, table, event, group, i) {
+        if group == 5 {
+            return 2;
+        }
+        return 1;
+    }
+    0
+}
