@@ -8,13 +8,16 @@ use table::identifier_field;
 use table::size;
 use table::tag_at;
 ghost use mathlib.Core.Path.{_≡_};
-ghost use Prim.Native.Nat.{_+_};
+ghost use Prim.Native.Nat.{_+_, _-_, _^_, _<_, _≤_};
 ghost use mathlib.Core.Bool.{_&&_, false};
-ghost use lib.ListN.{getD};
+ghost use lib.ListN.{getD, length};
 ghost use Rattle.table.specs.Table.{tableOf, refinedBy};
 ghost use Rattle.table.specs.Counts.{countsOf};
 ghost use Rattle.sequent.specs.Walk.{hasGroup, groupTests, isFormula, rowOfEvent, isAbstract, isRefining, isMatched, isConvergent};
-ghost use Rattle.sequent.specs.Walk.{ownKind, ownInvariantTag, identifierAt, isAssigned, becomesSuch, makes, slotCount};
+ghost use Rattle.sequent.specs.Walk.{ownKind, ownInvariantTag, identifierAt, isAssigned, becomesSuch, makes, slotCount, groups};
+ghost use Rattle.machine.specs.Described.{machineOf};
+ghost use Rattle.sequent.specs.Listed.{sequents};
+ghost use Rattle.walk.specs.Slots.{slotAt, nextSlot, InWalk, place, Sought};
 
 // "30, 31, 32 axiom, abstract invariant, concrete invariant"
 pub fn is_formula(words: &[u64], i: usize) -> bool
@@ -196,4 +199,97 @@ pub fn slot_count(words: &[u64], table: Table, event: u64, group: u64, i: usize)
         return 1;
     }
     0
+}
+
+// A slot of the walk, and how many sequents from its first on a search has still to pass over.
+pub struct Slot {
+    pub event: u64,
+    pub group: u64,
+    pub row: usize,
+    pub left: u64,
+}
+
+impl Slot {
+    // The next row, or the next group's first, or the next event's first.
+    pub fn next(self, rows: usize) -> Self
+        requires { ⌜ (self .event < 2 ^ 63) × (self .group < groups) × (self .row < 2 ^ 63) ⌝ }
+        ensures { λ r. ⌜ r ≡ nextSlot rows self ⌝ }
+    {
+        if self.row + 1 < rows {
+            return Self {
+                event: self.event,
+                group: self.group,
+                row: self.row + 1,
+                left: self.left,
+            };
+        }
+        if self.group + 1 < 11 {
+            return Self {
+                event: self.event,
+                group: self.group + 1,
+                row: 0,
+                left: self.left,
+            };
+        }
+        Self {
+            event: self.event + 1,
+            group: 0,
+            row: 0,
+            left: self.left,
+        }
+    }
+
+    // The same slot with fewer to pass over.
+    fn pass(self, count: u64) -> Self
+        requires { ⌜ count ≤ self .left ⌝ }
+        ensures { λ r. ⌜ r ≡ slotAt (self .event) (self .group) (self .row) (self .left - count) ⌝ }
+    {
+        Self {
+            event: self.event,
+            group: self.group,
+            row: self.row,
+            left: self.left - count,
+        }
+    }
+}
+
+// Walks on from a slot until what is left to pass over lies in a slot, or to the end. Counting, finding and printing all walk by this.
+pub fn seek(words: &[u64], table: Table, from: Slot) -> Slot
+    requires { ⌜ (table ≡ countsOf (tableOf (now words))) × InWalk (tableOf (now words)) from ⌝ }
+    ensures { λ r. ⌜ Sought (tableOf (now (words .entry))) (place (tableOf (now (words .entry))) from) r ⌝ }
+{
+    let rows = size(words);
+    let mut slot = from;
+    while slot.event <= table.events {
+        let count = slot_count(words, table, slot.event, slot.group, slot.row);
+        if slot.left < count {
+            return slot;
+        }
+        slot = slot.pass(count).next(rows);
+    }
+    slot
+}
+
+// More sequents than a table can have.
+const MANY: u64 = 4294967296;
+
+// How many sequents a table has.
+pub fn count(words: &[u64], table: Table) -> u64
+    requires { ⌜ (table ≡ countsOf (tableOf (now words))) × (length (now words) ≤ 6896) ⌝ }
+    ensures { λ r. ⌜ r ≡ length (sequents (machineOf (tableOf (now (words .entry))))) ⌝ }
+{
+    if size(words) == 0 {
+        return 0;
+    }
+    let end = seek(
+        words,
+        table,
+        Slot {
+            event: 0,
+            group: 0,
+            row: 0,
+            left: MANY,
+        },
+    );
+    MANY - end.left
 }

@@ -1,0 +1,36 @@
+-- A search with more left than the list has comes to the end and has passed over the whole list.
+use Prim.Native.Nat.{ℕ, _+_, _-_, _*_, _≤_, _<_}
+use mathlib.Core.Path.{_≡_, refl, sym, ap, _∙_}
+use mathlib.Core.Logic.{_⊎_, inl, inr}
+use native.Mathlib.Omega.{arith}
+use native.Mathlib.Nat.{mul-le-mul}
+use Rattle.table.specs.Table.{Table, count}
+use Rattle.sequent.specs.Walk.{groups, slotCount, walkTo, walkCount}
+use Rattle.sequent.proofs.Find.{walk-start, walk-end, walk-reaches, walk-at-most}
+use Rattle.walk.specs.declared.Slot.{Slot}
+use Rattle.walk.specs.Slots.{slotAt, Within, AtEnd, place, Sought}
+use Rattle.walk.proofs.Slots.{events-within}
+
+module _ (t : Table) where
+  -- 01: 1,724 rows are all that 65,536 bytes hold
+  pub count-small : t .size ≤ 1724 → walkCount t < 4294967296
+  count-small h =
+      let most : (count t 40 + 1) * (groups * (t .size * 2)) ≤ 1725 * (groups * (1724 * 2)) =
+      mul-le-mul {n₂ = 1725} {m₂ = groups * (1724 * 2)} (omega (arith, events-within t)) (omega arith) in
+      omega (arith, walk-at-most t)
+
+  pub none-counted : t .size ≡ 0 → walkCount t ≡ 0
+  none-counted h =
+      let most : (count t 40 + 1) * (groups * (t .size * 2)) ≤ 1 * 0 = mul-le-mul {n₂ = 1} {m₂ = 0} (omega (arith, events-within t)) (omega arith) in
+      omega (arith, walk-at-most t)
+
+  -- the start names the place that is left to pass over
+  pub start-place : (k : ℕ) → place t (slotAt 0 0 0 k) ≡ k
+  start-place k = omega (arith, walk-start t)
+
+  pub passed-all : (many : ℕ) (r : Slot) → walkCount t < many → Sought t many r → walkCount t + r .left ≡ many
+  passed-all many r h (p, inl (w, l)) = absurd (omega (arith, walk-reaches t (r .event) (r .group) (r .row) (w .event) (w .group) (w .row)))
+  passed-all many r h (p, inr x) = ap (λ n. n + r .left) (sym (walk-end t) ∙ sym at) ∙ p
+    where
+      at : walkTo t (r .event) (r .group) (r .row) ≡ walkTo t (count t 40 + 1) 0 0
+      at = ap (λ e. walkTo t e (r .group) (r .row)) (x .event) ∙ ap (λ g. walkTo t (count t 40 + 1) g (r .row)) (x .group) ∙ ap (walkTo t (count t 40 + 1) 0) (x .row)

@@ -1,0 +1,28 @@
+-- The search passes over the whole list, and what it passed is the count (Counts); an empty table has no slots.
+use Prim.Native.Nat.{_≤_}
+use mathlib.Core.Path.{_≡_, sym, ap, _∙_, subst}
+use mathlib.Core.Logic.{inl, inr}
+use native.Mathlib.Omega.{arith}
+use Rattle.table.specs.Table.{tableOf}
+use Rattle.sequent.proofs.Walk.{walk-count}
+use Rattle.walk.specs.Slots.{Sought}
+use Rattle.walk.proofs.Counts.{count-small, none-counted, start-place, passed-all}
+use borrow.Author.Needs.{needs}
+use Rattle.walk.proofs.count.Statement.{statement}
+use Rattle.walk.proofs.count.Tie as tie
+
+pub count-spec : {M : Type 1} → statement M
+count-spec = tie.close (tie.spec
+    (λ c κs. search needs)
+    (λ c. let s = c .before .before .before in
+    let t = tableOf (s .args .words .now) in
+    sym (walk-count t ∙ none-counted t (omega (arith, c .before .size .ensures))))
+    (λ c κs. (c .before .before .before .pre .0, inl (record { event = omega arith; group = omega arith; row = omega (arith, c .before .size .ensures) })))
+    (λ c. let s = c .before .before .before .before .before in
+    let t = tableOf (s .args .words .now) in
+    let all = passed-all t 4294967296 (c .before .seek .result) (count-small t (omega (arith, s .pre .1))) (subst (λ k. Sought t k (c .before .seek .result)) (start-place t 4294967296) (c .before .seek .ensures)) in
+    omega (arith, all))
+    (λ c. let s = c .before .before .before .before .before in
+    let t = tableOf (s .args .words .now) in
+    let all = passed-all t 4294967296 (c .before .seek .result) (count-small t (omega (arith, s .pre .1))) (subst (λ k. Sought t k (c .before .seek .result)) (start-place t 4294967296) (c .before .seek .ensures)) in
+    omega (arith, all, walk-count t)))
