@@ -1,4 +1,5 @@
 pub mod All
+pub mod Choice
 pub mod Distinct
 pub mod First
 pub mod Flat

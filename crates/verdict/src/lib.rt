@@ -1,0 +1,74 @@
+// 01, Refusals: check, from the bytes of a table to its verdict.
+use decode::Decoded;
+use decode::decode;
+use fault::first_check;
+use fault::first_row;
+use rule_missing::missing;
+use rules::Verdict;
+use table::Table;
+use walk::count;
+ghost use mathlib.Core.Path.{_≡_};
+ghost use Prim.Native.Nat.{_^_, _≤_, _<_};
+ghost use lib.ListN.{length};
+ghost use Rattle.table.specs.Table.{tableOf};
+ghost use Rattle.rules.specs.Verdict.{judge as judgeOf, verdict as verdictOf};
+ghost use Rattle.verdict.specs.Loaded.{rowOf, loadedRows, loadedOf, HoldsRows};
+
+// How many words the rows of a table have, or refusal 1 or 2 with its row.
+pub enum Loaded {
+    Words(usize),
+    Refused(u64, u64),
+}
+
+// Where decoding ended: all rows are in the row form, or one is not.
+fn after_decoding(decoded: Decoded) -> Loaded
+    requires { ⌜ rowOf decoded < 2 ^ 61 ⌝ }
+    ensures { λ r. ⌜ r ≡ loadedRows decoded ⌝ }
+{
+    match decoded {
+        Decoded::Rows(rows) => Loaded::Words(4 * rows),
+        Decoded::Malformed(row) => Loaded::Refused(2, row as u64 + 1),
+    }
+}
+
+// Checks 1 and 2, and the numbers of all rows as words.
+pub fn load(bytes: &[u8], words: &mut [u64]) -> Loaded
+    requires { ⌜ 6896 ≤ length (now words) ⌝ }
+    ensures { λ r. ⌜ r ≡ loadedOf (now (bytes .entry)) ⌝ }
+    ensures { λ _. ⌜ HoldsRows (now (bytes .entry)) (now (words .exit)) ⌝ }
+{
+    if Table::BYTES < bytes.len() {
+        return Loaded::Refused(1, 0);
+    }
+    if bytes.len() % 38 != 0 {
+        return Loaded::Refused(1, 0);
+    }
+    after_decoding(decode(bytes, bytes.len() / 38, words))
+}
+
+// Checks 3 to 12, and the count of the sequents where none offends.
+pub fn judge(words: &[u64]) -> Verdict
+    requires { ⌜ length (now words) ≤ 6896 ⌝ }
+    ensures { λ r. ⌜ r ≡ judgeOf (tableOf (now (words .entry))) ⌝ }
+{
+    let table = Table::of(words);
+    let check = first_check(words, table);
+    if check < 12 {
+        return Verdict::Refused(check, first_row(words, table, check) as u64 + 1);
+    }
+    if missing(words, table) {
+        return Verdict::Refused(12, 0);
+    }
+    Verdict::Accepted(count(words, table))
+}
+
+// "check (accepts a table by giving the count of sequents)"
+pub fn check(bytes: &[u8]) -> Verdict
+    ensures { λ r. ⌜ r ≡ verdictOf (now (bytes .entry)) ⌝ }
+{
+    let mut words = [0u64; 6896];
+    match load(bytes, &mut words) {
+        Loaded::Refused(number, row) => Verdict::Refused(number, row),
+        Loaded::Words(n) => judge(&words[..n]),
+    }
+}
