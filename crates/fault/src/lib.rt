@@ -3,6 +3,7 @@ use rule_names::event_offends;
 use rule_names::identifier_offends;
 use rule_references::reference_offends;
 use rule_sight::sight_offends;
+use rule_sorts::first_unsorted;
 use rule_sorts::sort_offends;
 use rule_sorts::use_offends;
 use rule_tags::full_offends;
@@ -35,11 +36,14 @@ fn row_offends(words: &[u64], table: Table, check: u64, i: usize) -> bool
     }
 }
 
-// The first row that offends against a check, counted from 0, or the number of rows.
+// The first row that offends against a check, counted from 0, or the number of rows. The sort check walks the rows itself.
 pub fn first_row(words: &[u64], table: Table, check: u64) -> usize
     requires { ⌜ table ≡ countsOf (tableOf (now words)) ⌝ }
     ensures { λ r. ⌜ r ≡ firstRow (tableOf (now (words .entry))) check ⌝ }
 {
+    if check == 8 {
+        return first_unsorted(words, table);
+    }
     let rows = size(words);
     let mut i = 0;
     while i < rows {

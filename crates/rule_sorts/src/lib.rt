@@ -19,6 +19,9 @@ ghost use Prim.Native.Nat.{_+_, _-_, _^_, _<_, _≤_};
 ghost use Rattle.table.specs.Table.{tableOf};
 ghost use Rattle.table.specs.Counts.{countsOf};
 ghost use Rattle.rules.specs.Sorts.{sortOf, fitting};
+ghost use Rattle.rules.specs.Verdict.{firstRow};
+ghost use Rattle.rule_sorts.specs.Walk.{firstBefore, ofPredicate};
+ghost use Rattle.lists.specs.Choice.{pick};
 ghost use Rattle.rules.specs.Rules.{goodOperands, rootSort, sortOffends, usesAt, usesTo, useOffends};
 
 // The sort of a node, from its operator, whatever its operands are.
@@ -97,6 +100,71 @@ pub fn sort_offends(words: &[u64], table: Table, i: usize) -> bool
     let sort = sort_of(words, table, root_at(words, i));
     let wanted = root_sort(words, table, i);
     ((tag == 20) & !operands) | (names & !(sort == wanted))
+}
+
+// Whether row i is of a predicate: a node of an operator from 20 on, or a row whose root is a predicate.
+fn of_predicate(words: &[u64], i: usize) -> bool
+    ensures { λ r. ⌜ r ≡ ofPredicate (tableOf (now (words .entry))) i ⌝ }
+{
+    let tag = tag_at(words, i);
+    if tag == 20 {
+        return 20 <= a_at(words, i);
+    }
+    !((tag == 51) | (tag == 70))
+}
+
+// The row where it offends, else the one found before.
+fn fault_or(offends: bool, row: usize, found: usize) -> usize
+    ensures { λ r. ⌜ r ≡ pick offends row found ⌝ }
+{
+    if offends { row } else { found }
+}
+
+// The first row before row i that offends against check 8, or `found`. Judges the row before i if it is of an expression, and hands it to
+// `first_predicate` if it is of a predicate; so the node number falls, and no operand is followed.
+fn first_expression(words: &[u64], table: Table, i: usize, found: usize) -> usize
+    requires { ⌜ table ≡ countsOf (tableOf (now words)) ⌝ }
+    ensures { λ r. ⌜ r ≡ firstBefore (sortOffends (tableOf (now (words .entry)))) i found ⌝ }
+{
+    if i == 0 {
+        return found;
+    }
+    let row = i - 1;
+    if of_predicate(words, row) {
+        return first_predicate(words, table, i, found);
+    }
+    first_expression(
+        words,
+        table,
+        row,
+        fault_or(sort_offends(words, table, row), row, found),
+    )
+}
+
+// The same, judging the row before i as a predicate's.
+fn first_predicate(words: &[u64], table: Table, i: usize, found: usize) -> usize
+    requires { ⌜ table ≡ countsOf (tableOf (now words)) ⌝ }
+    ensures { λ r. ⌜ r ≡ firstBefore (sortOffends (tableOf (now (words .entry)))) i found ⌝ }
+{
+    if i == 0 {
+        return found;
+    }
+    let row = i - 1;
+    first_expression(
+        words,
+        table,
+        row,
+        fault_or(sort_offends(words, table, row), row, found),
+    )
+}
+
+// The first row that offends against check 8, or the number of rows.
+pub fn first_unsorted(words: &[u64], table: Table) -> usize
+    requires { ⌜ table ≡ countsOf (tableOf (now words)) ⌝ }
+    ensures { λ r. ⌜ r ≡ firstRow (tableOf (now (words .entry))) 8 ⌝ }
+{
+    let rows = size(words);
+    first_expression(words, table, rows, rows)
 }
 
 // How often the row at i uses the node n, as an operand or a root.

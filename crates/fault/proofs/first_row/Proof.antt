@@ -1,4 +1,4 @@
--- The loop's invariant: the search from i on is the whole search.
+-- The sort check is rule_sorts' own; for the others, the loop's invariant: the search from i on is the whole search.
 use Prim.Native.Nat.{_≤_, _-_}
 use mathlib.Core.Path.{_≡_, ap, sym, _∙_}
 use mathlib.Core.Bool.{true, false}
@@ -24,22 +24,24 @@ first-row-spec = tie.close (tie.spec
     Inv-loop
     μ-loop
     (λ c κs. search needs)
-    (λ c. (omega arith, let a = c .before .before .args in ap (λ n. first (offends (tableOf (a .words .now)) (a .check)) n 0) (sub-zero (c .size .result) ∙ c .size .ensures)))
+    (λ c. c .first-unsorted .ensures ∙ ap (firstRow (tableOf (c .before .before .before .args .words .now))) (sym (c .before .if1 .taken)))
+    (λ c κs. search needs)
+    (λ c. (omega arith, let a = c .before .before .before .args in ap (λ n. first (offends (tableOf (a .words .now)) (a .check)) n 0) (sub-zero (c .size .result) ∙ c .size .ensures)))
     (λ c κs. search needs)
     (λ c. let turn = c .before .before .before in
-    let a = turn .before .before .before .args in
+    let a = turn .before .before .before .before .args in
     let t = tableOf (a .words .now) in
-    sym (first-here (offends t (a .check)) (turn .before .size .result) (turn .loop .i) (c .before .before .loop-test .taken) (sym (c .before .row-offends .ensures) ∙ c .if1 .taken)) ∙ turn .loop .inv .1)
+    sym (first-here (offends t (a .check)) (turn .before .size .result) (turn .loop .i) (c .before .before .loop-test .taken) (sym (c .before .row-offends .ensures) ∙ c .if2 .taken)) ∙ turn .loop .inv .1)
     (λ c. omega arith)
     (λ c. omega arith)
     (λ c. (
       omega arith,
       let turn = c .before .before .before in
-          let a = turn .before .before .before .args in
+          let a = turn .before .before .before .before .args in
           let t = tableOf (a .words .now) in
-          sym (first-next (offends t (a .check)) (turn .before .size .result) (turn .loop .i) (c .before .before .loop-test .taken) (sym (c .before .row-offends .ensures) ∙ c .if1 .left)) ∙ turn .loop .inv .1,
+          sym (first-next (offends t (a .check)) (turn .before .size .result) (turn .loop .i) (c .before .before .loop-test .taken) (sym (c .before .row-offends .ensures) ∙ c .if2 .left)) ∙ turn .loop .inv .1,
     ))
     (λ c. let turn = c .before in
-    let a = turn .before .before .before .args in
+    let a = turn .before .before .before .before .args in
     let t = tableOf (a .words .now) in
     sym (first-end (offends t (a .check)) (turn .before .size .result) (turn .loop .i) (c .loop-test .left)) ∙ turn .loop .inv .1))
