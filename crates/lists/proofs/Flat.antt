@@ -3,14 +3,14 @@
 use Prim.Native.Nat.{ℕ, zero, suc, _+_, _-_, _*_, _≤_, _<_}
 use mathlib.Core.Path.{_≡_, refl, sym, ap, ap₂, _∙_, subst, fun-ext}
 use mathlib.Core.Bool.{Bool, true, false, cond, _&&_, _||_}
-use mathlib.Core.List.{List, [], _∷_, _++_, map, flatMap, append-assoc, append-nil}
+use mathlib.Core.List.{List, [], _∷_, _++_, map, flatMap, map-id, map-append, append-assoc, append-nil}
 use mathlib.Core.Logic.{⊎-elim}
 use native.Mathlib.Nat.{eq-or-lt-of-le, suc-mul}
 use native.Mathlib.Omega.{arith}
-use lib.Dec.{T, ltb}
-use lib.ListN.{length, getD, length-append, List·getD-append}
+use lib.Dec.{T, ltb, eqb}
+use lib.ListN.{length, getD, length-append, length-map, List·getD-append}
 use lib.Seq.{getD-append-add}
-use borrow.Author.Tests.{lt-ltb, le-ltb}
+use borrow.Author.Tests.{lt-ltb, le-ltb, eq-eqb, ne-eqb}
 use Rattle.lists.specs.All.{In, here, there}
 use Rattle.lists.specs.Rows.{oneIf, countBelow, sumBelow, numbers, keep}
 use Rattle.lists.proofs.Rows.{in-numbers}
@@ -109,6 +109,27 @@ module _ {A : Type 0} where
   keep-none P [] h = refl
   keep-none P (x ∷ xs) h = rw (h x (here refl)) (keep-none P xs (λ y i. h y (there i)))
 
+  pub keep-flat : (P : A → Bool) (xs : List A) → keep P xs ≡ flatMap (λ x. cond (P x) (x ∷ []) []) xs
+  keep-flat P xs = sym (map-id (keep P xs)) ∙ flat-one (λ x. x) (keep P xs) ∙ flat-keep P (λ x. x ∷ []) xs
+
+  -- a test that does not turn on the member
+  pub map-when : {B : Type 0} (f : A → B) (b : Bool) (P : A → Bool) (xs : List A)
+      → map f (keep (λ x. b && P x) xs) ≡ cond b (map f (keep P xs)) []
+  map-when f true P xs = refl
+  map-when f false P xs = ap (map f) (keep-none (λ x. false) xs (λ x i. refl))
+
+  pub keep-map : {B : Type 0} (P : B → Bool) (f : A → B) (xs : List A) → keep P (map f xs) ≡ map f (keep (λ x. P (f x)) xs)
+  unfolding keep
+  keep-map P f [] = refl
+  keep-map {B} P f (x ∷ xs) = by-test (P (f x)) (keep-map P f xs)
+    where
+      ys : List A
+      ys = keep (λ x. P (f x)) xs
+
+      by-test : (b : Bool) → keep P (map f xs) ≡ map f ys → cond b (f x ∷ keep P (map f xs)) (keep P (map f xs)) ≡ map f (cond b (x ∷ ys) ys)
+      by-test true e = ap (λ r. f x ∷ r) e
+      by-test false e = e
+
 -- the numbers of two ranges that meet
 pub numbers-join : (n m i : ℕ) → numbers (n + m) i ≡ numbers n i ++ numbers m (i + n)
 unfolding numbers
@@ -117,6 +138,14 @@ numbers-join (suc n) m i =
     let p : suc n + m ≡ suc (n + m) = omega arith in
     let q : i + suc n ≡ suc i + n = omega arith in
     rw (p, q) (ap (λ r. i ∷ r) (numbers-join n m (suc i)))
+
+-- the numbers before one, that one, and those after it
+pub numbers-split : (n i : ℕ) → i < n → numbers n 0 ≡ numbers i 0 ++ (i ∷ numbers (n - suc i) (suc i))
+unfolding numbers
+numbers-split n i h =
+    let p : n ≡ i + suc (n - suc i) = omega arith in
+    let q : 0 + i ≡ i = omega arith in
+    ap (λ m. numbers m 0) p ∙ numbers-join i (suc (n - suc i)) 0 ∙ ap (λ j. numbers i 0 ++ numbers (suc (n - suc i)) j) q
 
 -- one more number
 pub numbers-next : (n : ℕ) → numbers (suc n) 0 ≡ numbers n 0 ++ (n ∷ [])
@@ -161,6 +190,29 @@ flat-below {B} f n m h =
     high : flatMap g (numbers (m - n) (0 + n)) ≡ []
     high = flat-same g (λ i. []) (numbers (m - n) (0 + n)) (λ i k. rw (le-ltb i n (omega (arith, in-numbers (m - n) (0 + n) i k .0))))
         ∙ flat-none (numbers (m - n) (0 + n))
+
+pub keep-below : (P : ℕ → Bool) (n m : ℕ) → n ≤ m → keep P (numbers n 0) ≡ keep (λ i. ltb i n && P i) (numbers m 0)
+keep-below P n m h =
+    keep-flat P (numbers n 0)
+    ∙ flat-below (λ i. cond (P i) (i ∷ []) []) n m h
+    ∙ flat-ext _ _ (numbers m 0) (λ i. sym (cond-and (ltb i n) (P i) (i ∷ [])))
+    ∙ sym (keep-flat (λ i. ltb i n && P i) (numbers m 0))
+
+-- the numbers that are one number
+pub keep-only : (n i : ℕ) → i < n → keep (λ j. eqb j i) (numbers n 0) ≡ i ∷ []
+unfolding keep
+keep-only n i h =
+    ap (keep P) (numbers-split n i h)
+    ∙ keep-join P (numbers i 0) (i ∷ later)
+    ∙ ap₂ (λ (xs : List ℕ) (ys : List ℕ). xs ++ ys) (keep-none P (numbers i 0) (λ j k. ne-eqb j i (omega (arith, in-numbers i 0 j k .1))))
+    (ap (λ b. cond b (i ∷ keep P later) (keep P later)) (eq-eqb i i refl)
+    ∙ ap (λ xs. i ∷ xs) (keep-none P later (λ j k. ne-eqb j i (omega (arith, in-numbers (n - suc i) (suc i) j k .0)))))
+  where
+    P : ℕ → Bool
+    P j = eqb j i
+
+    later : List ℕ
+    later = numbers (n - suc i) (suc i)
 
 -- where no number that passes Q is followed by one that passes P, those that pass P and then those that pass Q are those that pass either, in order
 pub keep-either : (P Q : ℕ → Bool) (n i : ℕ) → ((j k : ℕ) → j ≤ k → k < i + n → T (Q j) → T (P k) → ⊥)
@@ -229,16 +281,35 @@ pub flat-at : {B : Type 0} (f : ℕ → List B) (c : ℕ → ℕ) → ((i : ℕ)
     → getD (flatMap f (numbers n 0)) (sumBelow c i + k) d ≡ getD (f i) k d
 unfolding numbers flatMap
 flat-at {B} f c size n i k d h l =
-    ap (λ xs. getD (flatMap f xs) (sumBelow c i + k) d) split
+    ap (λ xs. getD (flatMap f xs) (sumBelow c i + k) d) (numbers-split n i h)
     ∙ ap₂ (λ (xs : List B) (m : ℕ). getD xs (m + k) d) (flat-join f (numbers i 0) (i ∷ numbers (n - suc i) (suc i))) (sym before)
     ∙ getD-append-add (flatMap f (numbers i 0)) (f i ++ flatMap f (numbers (n - suc i) (suc i))) k d
     ∙ List·getD-append (f i) (flatMap f (numbers (n - suc i) (suc i))) d k (omega (arith, size i))
   where
-    split : numbers n 0 ≡ numbers i 0 ++ (i ∷ numbers (n - suc i) (suc i))
-    split =
-        let p : n ≡ i + suc (n - suc i) = omega arith in
-        let q : 0 + i ≡ i = omega arith in
-        ap (λ m. numbers m 0) p ∙ numbers-join i (suc (n - suc i)) 0 ∙ ap (λ j. numbers i 0 ++ numbers (suc (n - suc i)) j) q
-
     before : length (flatMap f (numbers i 0)) ≡ sumBelow c i
     before = flat-length f i ∙ sum-same (λ j. length (f j)) c i size
+
+-- what is made of a number that passes stands behind what is made of those before it
+pub kept-at : {B : Type 0} (P : ℕ → Bool) (f : ℕ → B) (n i : ℕ) (d : B) → i < n → P i ≡ true
+    → getD (map f (keep P (numbers n 0))) (countBelow P i) d ≡ f i
+unfolding keep
+kept-at {B} P f n i d h p =
+    ap (λ xs. getD (map f xs) (countBelow P i) d) split
+    ∙ ap (λ xs. getD xs (countBelow P i) d) (map-append f front (i ∷ later))
+    ∙ ap (λ k. getD (map f front ++ (f i ∷ map f later)) k d) place
+    ∙ getD-append-add (map f front) (f i ∷ map f later) 0 d
+  where
+    front : List ℕ
+    front = keep P (numbers i 0)
+
+    later : List ℕ
+    later = keep P (numbers (n - suc i) (suc i))
+
+    split : keep P (numbers n 0) ≡ front ++ (i ∷ later)
+    split =
+        ap (keep P) (numbers-split n i h)
+        ∙ keep-join P (numbers i 0) (i ∷ numbers (n - suc i) (suc i))
+        ∙ ap (λ b. front ++ cond b (i ∷ later) later) p
+
+    place : countBelow P i ≡ length (map f front) + 0
+    place = sym (length-map front f ∙ keep-length P i) ∙ omega arith

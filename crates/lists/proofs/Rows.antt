@@ -47,6 +47,14 @@ module _ (P : ℕ → Bool) where
   unfolding countBelow
   count-next n = rw add-one
 
+  -- a number that passes is one more than those before it that do
+  pub count-passes : (n i : ℕ) → i < n → P i ≡ true → countBelow P i < countBelow P n
+  unfolding countBelow
+  count-passes zero i h p = absurd (omega arith)
+  count-passes (suc n) i h p =
+      ⊎-elim (λ (e : i ≡ n). subst (λ j. countBelow P i < countBelow P j + oneIf (P j)) e (omega (arith, one-where (P i) (subst T (sym p) tt))))
+      (λ (l : i < n). omega (arith, count-passes n i l p)) (below-or-last i n h)
+
   -- where all pass, the count is the bound
   pub count-all : (n : ℕ) → ((i : ℕ) → i < n → T (P i)) → countBelow P n ≡ n
   unfolding countBelow

@@ -102,11 +102,11 @@ module _ (t : Table) where
   unfolding belonging section
   belonging-rows k e = keep-keep (λ i. eqb (t .a i) e) (tagged t k) rows
 
-  guards-rows : (e : ℕ) → machineOf t .guards e ≡ map (t .b) (keep (rowOfEvent t 50 e) rows)
+  pub guards-rows : (e : ℕ) → machineOf t .guards e ≡ map (t .b) (keep (rowOfEvent t 50 e) rows)
   unfolding machineOf
   guards-rows e = ap (map (t .b)) (belonging-rows 50 e)
 
-  witnesses-rows : (e : ℕ) → machineOf t .witnesses e ≡ map (λ i. record { target = t .b i; root = t .c i }) (keep (rowOfEvent t 60 e) rows)
+  pub witnesses-rows : (e : ℕ) → machineOf t .witnesses e ≡ map (λ i. record { target = t .b i; root = t .c i }) (keep (rowOfEvent t 60 e) rows)
   unfolding machineOf
   witnesses-rows e = ap (map (λ i. record { target = t .b i; root = t .c i })) (belonging-rows 60 e)
 
@@ -130,6 +130,14 @@ module _ (t : Table) where
 
       each : (i : ℕ) → cond (ltb i (count t 10)) (g (suc i)) [] ≡ cond (identifierAt t kind i) (f (i + 1)) []
       each i = rw (add-one i) (sym (cond-and (ltb i (count t 10)) (eqb (kindOf t (suc i)) kind) (f (suc i))))
+
+  each-identifier : {B : Type 0} (kind : ℕ) (f : ℕ → B) → map f (identifiersOf t kind) ≡ flatMap (λ i. cond (identifierAt t kind i) (f (i + 1) ∷ []) []) rows
+  each-identifier kind f = flat-one f (identifiersOf t kind) ∙ identifiers-rows kind (λ x. f x ∷ [])
+
+  pub map-identifiers : {B : Type 0} (kind : ℕ) (f : ℕ → B) → map f (identifiersOf t kind) ≡ map (λ i. f (i + 1)) (keep (identifierAt t kind) rows)
+  map-identifiers kind f =
+      each-identifier kind f
+      ∙ sym (flat-one (λ i. f (i + 1)) (keep (identifierAt t kind) rows) ∙ flat-keep (identifierAt t kind) (λ i. f (i + 1) ∷ []) rows)
 
   -- an action by the tests on its row, and its sequents
   action-cases : (e x : ℕ) (P : Bool → Bool → Action → Type 0) → P true true (becomesEqual (t .c (actionRow t e x)))
@@ -162,19 +170,18 @@ module _ (t : Table) where
   pub variant-group : map (λ r. sequent WD 0 r (allWritten (machineOf t) (formulas (machineOf t))) (defined r)) (machineOf t .variants) ≡ groupSlots t 0 1
   variant-group = ap (map _) variants-rows ∙ map-kept (tagged t 70) (t .a) rows _ ∙ sym (group-slots 0 1 refl)
 
-  -- the groups of an event
-  module _ (e : ℕ) (event : 1 ≤ e) where
-    -- what the role says, by the tests on the event's row
+  -- what the role says, by the tests on the event's row
+  module _ (e : ℕ) where
     abbrev OfRole : (Bool → Bool → Bool → Role → Type 0) → Type 0
     OfRole P = P (isAbstract t e) (eqb (classOf t e) 0) (eqb (classOf t e) 1) (roleOf t e)
 
-    by-role : (P : Bool → Bool → Bool → Role → Type 0) → ((o : Bool) → P true true o abstractInitialisation)
+    pub by-role : (P : Bool → Bool → Bool → Role → Type 0) → ((o : Bool) → P true true o abstractInitialisation)
         → ((o : Bool) → P true false o abstractOrdinary) → P false true false (concreteInitialisation 1) → P false false true (refining (refinedBy t e))
         → P false false false convergent → OfRole P
     unfolding machineOf
     by-role P = role-cases (machineNumber t e) (classOf t e) (refinedBy t e) P
 
-    variables-own : variables (machineOf t) (roleOf t e) ≡ identifiersOf t (ownKind t e)
+    pub variables-own : variables (machineOf t) (roleOf t e) ≡ identifiersOf t (ownKind t e)
     unfolding machineOf
     variables-own = by-role (λ a z o r. variables (machineOf t) r ≡ identifiersOf t (cond a 2 3)) (λ o. refl) (λ o. refl) refl refl refl
 
@@ -197,6 +204,8 @@ module _ (t : Table) where
         ≡ cond (not a && not (z || o)) (nats (machineOf t) r e) [] ++ cond (not a && not (z || o)) (vars (machineOf t) r e) [])
         (λ o. refl) (λ o. refl) refl refl refl
 
+  -- the groups of an event
+  module _ (e : ℕ) (event : 1 ≤ e) where
     -- every group from 2 on is there
     there-is : (g : ℕ) → leb 2 g ≡ true → hasGroup e g ≡ true
     there-is g p = rw (ne-eqb e 0 (omega arith)) p
@@ -211,7 +220,7 @@ module _ (t : Table) where
     variables-rows : (f : ℕ → List Sequent) (Q : ℕ → Bool) (s : ℕ → List Sequent) → ((x : ℕ) → f x ≡ cond (Q x) (s x) [])
         → flatMap f (variables (machineOf t) (roleOf t e)) ≡ flatMap (λ i. cond (identifierAt t (ownKind t e) i && Q (i + 1)) (s (i + 1)) []) rows
     variables-rows f Q s h =
-        ap (flatMap f) variables-own
+        ap (flatMap f) (variables-own e)
         ∙ identifiers-rows (ownKind t e) f
         ∙ flat-ext _ _ rows
         (λ i. ap (λ xs. cond (identifierAt t (ownKind t e) i) xs []) (h (i + 1)) ∙ sym (cond-and (identifierAt t (ownKind t e) i) (Q (i + 1)) (s (i + 1))))
@@ -237,7 +246,7 @@ module _ (t : Table) where
 
     pub grd-group : grds (machineOf t) (roleOf t e) e ≡ groupSlots t e 6
     grd-group =
-        ap (flatMap (grd (machineOf t) (roleOf t e) e)) refined-own
+        ap (flatMap (grd (machineOf t) (roleOf t e) e)) (refined-own e)
         ∙ flat-single (isRefining t e) (grd (machineOf t) (roleOf t e) e) (refinedBy t e)
         ∙ ap (λ xs. cond (isRefining t e) xs []) (ap (map _) (guards-rows (refinedBy t e)) ∙ map-kept (rowOfEvent t 50 (refinedBy t e)) (t .b) rows _)
         ∙ flat-when (isRefining t e) (rowOfEvent t 50 (refinedBy t e)) _ rows
@@ -245,11 +254,11 @@ module _ (t : Table) where
 
     abstract-rows : {B : Type 0} (f : ℕ → B) → map f (machineOf t .abstractVariables) ≡ flatMap (λ i. cond (identifierAt t 2 i) (f (i + 1) ∷ []) []) rows
     unfolding machineOf
-    abstract-rows f = flat-one f (identifiersOf t 2) ∙ identifiers-rows 2 (λ x. f x ∷ [])
+    abstract-rows f = each-identifier 2 f
 
     pub sim-group : sims (machineOf t) (roleOf t e) e ≡ groupSlots t e 7
     sim-group =
-        ap (flatMap (sim (machineOf t) (roleOf t e) e)) matching-own
+        ap (flatMap (sim (machineOf t) (roleOf t e) e)) (matching-own e)
         ∙ flat-single (isMatched t e) (sim (machineOf t) (roleOf t e) e) (matchedBy t e)
         ∙ ap (λ xs. cond (isMatched t e) xs []) (abstract-rows _)
         ∙ flat-when (isMatched t e) (identifierAt t 2) _ rows
@@ -257,7 +266,7 @@ module _ (t : Table) where
 
     pub inv-group : inv (machineOf t) (roleOf t e) e ≡ groupSlots t e 8
     unfolding section
-    inv-group = ap (map _) invariants-own ∙ map-kept (tagged t (ownInvariantTag t e)) (t .a) rows _ ∙ sym (group-slots e 8 (there-is 8 refl))
+    inv-group = ap (map _) (invariants-own e) ∙ map-kept (tagged t (ownInvariantTag t e)) (t .a) rows _ ∙ sym (group-slots e 8 (there-is 8 refl))
 
     -- NAT and VAR alike
     convergent-rows : (s : ℕ → Sequent) → cond (isConvergent t e) (map s (machineOf t .variants)) []
@@ -268,7 +277,7 @@ module _ (t : Table) where
 
     pub variant-groups : variantSequents (machineOf t) (roleOf t e) e ≡ groupSlots t e 9 ++ (groupSlots t e 10 ++ [])
     variant-groups =
-        variants-own
+        variants-own e
         ∙ ap₂ (λ (xs : List Sequent) (ys : List Sequent). xs ++ ys)
         (convergent-rows _ ∙ sym (group-slots e 9 (there-is 9 refl)))
         (convergent-rows _ ∙ sym (group-slots e 10 (there-is 10 refl)) ∙ sym (append-nil (groupSlots t e 10)))

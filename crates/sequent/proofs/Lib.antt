@@ -4,4 +4,6 @@ pub mod Find
 pub mod Groups
 pub mod Numbers
 pub mod Parts
+pub mod Seek
+pub mod Segments
 pub mod Walk

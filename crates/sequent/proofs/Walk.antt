@@ -118,16 +118,20 @@ module _ (t : Table) where
       ∙ ap (λ xs. groupSlots t 0 0 ++ (xs ++ flatMap (eventSlots t) (numbers (count t 40) 1))) (append-nil (groupSlots t 0 1))
 
   -- 01: "WD of axioms, invariants": axioms, abstract and concrete invariants, which stand in this order where tags never fall
+  pub formulas-below : Rising t → (n : ℕ) → n ≤ t .size
+      → keep (tagged t 30) (numbers n 0) ++ (keep (tagged t 31) (numbers n 0) ++ keep (tagged t 32) (numbers n 0)) ≡ keep (isFormula t) (numbers n 0)
+  formulas-below rising n h =
+      ap (λ xs. keep (tagged t 30) (numbers n 0) ++ xs) (keep-either (tagged t 31) (tagged t 32) n 0
+      (λ j k l m p q. omega (arith, rising j k l (omega arith), eqb→eq (t .tag j) 32 p, eqb→eq (t .tag k) 31 q)))
+      ∙ keep-either (tagged t 30) (λ i. tagged t 31 i || tagged t 32 i) n 0
+      (λ j k l m p q. omega (arith, rising j k l (omega arith), above (t .tag j) p, eqb→eq (t .tag k) 30 q))
+
   formulas-rows : Rising t → formulas (machineOf t) ≡ map (t .a) (keep (isFormula t) rows)
   unfolding machineOf section
   formulas-rows rising =
       ap (λ xs. map (t .a) (section t 30) ++ xs) (sym (map-append (t .a) (section t 31) (section t 32)))
       ∙ sym (map-append (t .a) (section t 30) (section t 31 ++ section t 32))
-      ∙ ap (map (t .a))
-      (ap (λ xs. section t 30 ++ xs) (keep-either (tagged t 31) (tagged t 32) (t .size) 0
-      (λ j k l m p q. omega (arith, rising j k l (omega arith), eqb→eq (t .tag j) 32 p, eqb→eq (t .tag k) 31 q)))
-      ∙ keep-either (tagged t 30) (λ i. tagged t 31 i || tagged t 32 i) (t .size) 0
-      (λ j k l m p q. omega (arith, rising j k l (omega arith), above (t .tag j) p, eqb→eq (t .tag k) 30 q)))
+      ∙ ap (map (t .a)) (formulas-below rising (t .size) (omega arith))
 
   pub walked : Rising t → sequents (machineOf t) ≡ walk t
   walked rising = list-parts ∙ ap (λ xs. xs ++ others) (ap (inOrder 0 []) (formulas-rows rising) ∙ formula-group t) ∙ sym walk-parts

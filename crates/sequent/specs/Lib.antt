@@ -4,3 +4,4 @@ pub mod Sequent
 pub mod Listed
 pub mod Required
 pub mod Walk
+pub mod Segments
