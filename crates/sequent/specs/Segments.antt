@@ -25,7 +25,7 @@ abbrev pub isWFIS : ℕ → ℕ → Bool
 isWFIS g w = eqb g 5 && eqb w 1
 
 unfoldable pub headerKind : ℕ → ℕ → ℕ
-headerKind g w = cond (isWFIS g w) WFIS (getD kinds g 0)
+headerKind g w = cond (isWFIS g w) WFIS (getD kinds g WD)
 
 -- "those before it": in a group, only rows before the slot's own
 abbrev pub beforeIn : ℕ → ℕ → ℕ → ℕ → Bool
@@ -39,16 +39,16 @@ module _ (t : Table) where
       ∷ (λ e i. t .b i) ∷ (λ e i. i + 1) ∷ (λ e i. t .a i) ∷ (λ e i. t .a i) ∷ (λ e i. t .a i) ∷ []
 
   unfoldable pub headerItem : ℕ → ℕ → ℕ → ℕ → ℕ
-  headerItem e g i w = cond (isWFIS g w) (t .b i) (getD items g (λ e i. 0) e i)
+  headerItem e g i w = cond (isWFIS g w) (t .b i) (getD items g (λ e i. t .a i) e i)
 
-  -- column "goal", kind by kind, of an event and an item; 0 is no kind
+  -- column "goal", kind by kind, of an event and an item; 0 is no kind and counts as 1
   abbrev pub goals : List (ℕ → ℕ → Entry)
   goals =
-      (λ e x. written 0) ∷ (λ e x. defined x) ∷ (λ e x. primed x) ∷ (λ e x. feasible e x) ∷ (λ e x. written x) ∷ (λ e x. moves (matchedBy t e) x)
+      (λ e x. defined x) ∷ (λ e x. defined x) ∷ (λ e x. primed x) ∷ (λ e x. feasible e x) ∷ (λ e x. written x) ∷ (λ e x. moves (matchedBy t e) x)
       ∷ (λ e x. witnessed e x) ∷ (λ e x. natural x) ∷ (λ e x. decreases x) ∷ []
 
   unfoldable pub goalOf : ℕ → ℕ → ℕ → Entry
-  goalOf kind e x = getD goals kind (λ e x. written 0) e x
+  goalOf kind e x = getD goals kind (λ e x. defined x) e x
 
   abbrev pub goalAt : ℕ → ℕ → ℕ → ℕ → Entry
   goalAt e g i w = goalOf (headerKind g w) e (headerItem e g i w)
@@ -115,7 +115,7 @@ module _ (t : Table) where
       ∷ (λ e g i w j. goalAt e g i w) ∷ []
 
   unfoldable pub segmentEntry : ℕ → ℕ → ℕ → ℕ → ℕ → ℕ → Entry
-  segmentEntry e g i w s j = getD segmentEntries s (λ e g i w j. written 0) e g i w j
+  segmentEntry e g i w s j = getD segmentEntries s (λ e g i w j. written (t .a j)) e g i w j
 
   -- the entries of a segment, of the hypotheses, and of all, goal last
   abbrev pub segment : ℕ → ℕ → ℕ → ℕ → ℕ → List Entry

@@ -1,0 +1,9 @@
+-- By the event's class and machine.
+use borrow.Author.Needs.{needs}
+use Rattle.entries.proofs.has_abstract_moves.Statement.{statement}
+use Rattle.entries.proofs.has_abstract_moves.Tie as tie
+
+pub has-abstract-moves-spec : {M : Type 1} → statement M
+has-abstract-moves-spec = tie.close (tie.spec
+    (λ c κs. search needs)
+    (λ c. simp (c .is-convergent .ensures)))

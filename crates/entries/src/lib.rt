@@ -1,0 +1,310 @@
+// 01, Sequents: the entries of one sequent, hypotheses and then goal, by a walk of segments. A slot is an event, a group and a row; `which` is 1 for the WFIS of a
+// witness, else 0.
+use scan::Query;
+use scan::find_row;
+use sequent::Entry;
+use table::Table;
+use table::a_at;
+use table::b_at;
+use table::c_at;
+use table::event_field;
+use table::identifier_field;
+use table::tag_at;
+ghost use mathlib.Core.Path.{_≡_};
+ghost use Prim.Native.Nat.{_<_};
+ghost use mathlib.Core.Bool.{_&&_};
+ghost use Rattle.table.specs.Table.{tableOf, tagged};
+ghost use Rattle.table.specs.Counts.{countsOf};
+ghost use Rattle.sequent.specs.Numbers.{numbers, numbersOf};
+ghost use Rattle.sequent.specs.Walk.{rowOfEvent, isAbstract, isConvergent, matchedBy, ownKind, identifierAt, actionRow};
+ghost use Rattle.sequent.specs.Segments.{isWFIS, headerKind, beforeIn, headerItem, goalOf, goalAt, isInitial, hasAbstract, hasConcrete, isVariableNumber, hasMoves, hasWitnesses};
+ghost use Rattle.sequent.specs.Segments.{witnessIn, hasAbstractMoves, segmentTest, segmentEntry};
+
+// Whether an event is the abstract machine's.
+fn is_abstract(words: &[u64], table: Table, event: u64) -> bool
+    requires { ⌜ table ≡ countsOf (tableOf (now words)) ⌝ }
+    ensures { λ r. ⌜ r ≡ isAbstract (tableOf (now (words .entry))) event ⌝ }
+{
+    event_field(words, table, event, Table::MACHINE) == 1
+}
+
+fn is_initial(words: &[u64], table: Table, event: u64) -> bool
+    requires { ⌜ table ≡ countsOf (tableOf (now words)) ⌝ }
+    ensures { λ r. ⌜ r ≡ isInitial (tableOf (now (words .entry))) event ⌝ }
+{
+    event_field(words, table, event, Table::CLASS) == 0
+}
+
+fn is_convergent(words: &[u64], table: Table, event: u64) -> bool
+    requires { ⌜ table ≡ countsOf (tableOf (now words)) ⌝ }
+    ensures { λ r. ⌜ r ≡ isConvergent (tableOf (now (words .entry))) event ⌝ }
+{
+    let class = event_field(words, table, event, Table::CLASS);
+    !is_abstract(words, table, event) & !((class == 0) | (class == 1))
+}
+
+// The abstract event that an event's steps are matched by.
+fn matched_by(words: &[u64], table: Table, event: u64) -> u64
+    requires { ⌜ table ≡ countsOf (tableOf (now words)) ⌝ }
+    ensures { λ r. ⌜ r ≡ matchedBy (tableOf (now (words .entry))) event ⌝ }
+{
+    if is_initial(words, table, event) {
+        return 1;
+    }
+    event_field(words, table, event, Table::REFINED)
+}
+
+// The kind of the variables of an event's own machine.
+fn own_kind(words: &[u64], table: Table, event: u64) -> u64
+    requires { ⌜ table ≡ countsOf (tableOf (now words)) ⌝ }
+    ensures { λ r. ⌜ r ≡ ownKind (tableOf (now (words .entry))) event ⌝ }
+{
+    if is_abstract(words, table, event) {
+        return 2;
+    }
+    3
+}
+
+fn is_variable(words: &[u64], table: Table, x: u64) -> bool
+    requires { ⌜ table ≡ countsOf (tableOf (now words)) ⌝ }
+    ensures { λ r. ⌜ r ≡ isVariableNumber (tableOf (now (words .entry))) x ⌝ }
+{
+    let kind = identifier_field(words, table, x, Table::KIND);
+    (kind == 2) | (kind == 3)
+}
+
+// Whether there is an identifier j + 1, of a kind.
+fn identifier_at(words: &[u64], table: Table, kind: u64, j: usize) -> bool
+    requires { ⌜ (table ≡ countsOf (tableOf (now words))) × (j < tableOf (now words) .size) ⌝ }
+    ensures { λ r. ⌜ r ≡ identifierAt (tableOf (now (words .entry))) kind j ⌝ }
+{
+    let found = identifier_field(words, table, j as u64 + 1, Table::KIND);
+    ((j as u64) < table.identifiers) & (found == kind)
+}
+
+// Whether row j has a tag and belongs to an event.
+fn row_of_event(words: &[u64], tag: u64, event: u64, j: usize) -> bool
+    ensures { λ r. ⌜ r ≡ rowOfEvent (tableOf (now (words .entry))) tag event j ⌝ }
+{
+    let found = tag_at(words, j);
+    (found == tag) & (a_at(words, j) == event)
+}
+
+// The row of an event's action for a variable; the number of rows where it is unassigned.
+fn action_row(words: &[u64], event: u64, x: u64) -> usize
+    ensures { λ r. ⌜ r ≡ actionRow (tableOf (now (words .entry))) event x ⌝ }
+{
+    find_row(words, Query::Assigns { event, target: x })
+}
+
+// "those before it": in one group only rows before the slot's own.
+fn before_in(only: u64, group: u64, row: usize, j: usize) -> bool
+    ensures { λ r. ⌜ r ≡ beforeIn only group row j ⌝ }
+{
+    !(group == only) | (j < row)
+}
+
+// Whether row j is an axiom or invariant of a tag that a slot's sequents may assume.
+fn formula_test(words: &[u64], tag: u64, group: u64, row: usize, j: usize) -> bool
+    ensures { λ r. ⌜ r ≡ beforeIn 0 group row j && tagged (tableOf (now (words .entry))) tag j ⌝ }
+{
+    before_in(0, group, row, j) & (tag_at(words, j) == tag)
+}
+
+// "except for initialisations, the abstract invariants"
+fn has_abstract(words: &[u64], table: Table, event: u64, group: u64) -> bool
+    requires { ⌜ table ≡ countsOf (tableOf (now words)) ⌝ }
+    ensures { λ r. ⌜ r ≡ hasAbstract (tableOf (now (words .entry))) event group ⌝ }
+{
+    (group < 2) | !is_initial(words, table, event)
+}
+
+// "and, for concrete events, the concrete ones"
+fn has_concrete(words: &[u64], table: Table, event: u64, group: u64) -> bool
+    requires { ⌜ table ≡ countsOf (tableOf (now words)) ⌝ }
+    ensures { λ r. ⌜ r ≡ hasConcrete (tableOf (now (words .entry))) event group ⌝ }
+{
+    (group < 2) | (!is_initial(words, table, event) & !is_abstract(words, table, event))
+}
+
+// SIM, INV, VAR, and "moves for a variable witness".
+fn has_moves(words: &[u64], table: Table, group: u64, row: usize) -> bool
+    requires { ⌜ table ≡ countsOf (tableOf (now words)) ⌝ }
+    ensures { λ r. ⌜ r ≡ hasMoves (tableOf (now (words .entry))) group row ⌝ }
+{
+    let variable = is_variable(words, table, b_at(words, row));
+    ((group == 7) | ((group == 8) | (group == 10))) | ((group == 5) & variable)
+}
+
+// GRD, SIM, INV but of a convergent event.
+fn has_witnesses(words: &[u64], table: Table, event: u64, group: u64) -> bool
+    requires { ⌜ table ≡ countsOf (tableOf (now words)) ⌝ }
+    ensures { λ r. ⌜ r ≡ hasWitnesses (tableOf (now (words .entry))) event group ⌝ }
+{
+    (group == 6) | ((group == 7) | ((group == 8) & !is_convergent(words, table, event)))
+}
+
+// GRD: "parameter witnesses".
+fn witness_in(words: &[u64], table: Table, group: u64, j: usize) -> bool
+    requires { ⌜ table ≡ countsOf (tableOf (now words)) ⌝ }
+    ensures { λ r. ⌜ r ≡ witnessIn (tableOf (now (words .entry))) group j ⌝ }
+{
+    !(group == 6) | !is_variable(words, table, b_at(words, j))
+}
+
+// "for a convergent event form 4 of each abstract variable instead of witnesses"
+fn has_abstract_moves(words: &[u64], table: Table, event: u64, group: u64) -> bool
+    requires { ⌜ table ≡ countsOf (tableOf (now words)) ⌝ }
+    ensures { λ r. ⌜ r ≡ hasAbstractMoves (tableOf (now (words .entry))) event group ⌝ }
+{
+    (group == 8) & is_convergent(words, table, event)
+}
+
+// Whether row j has an entry in a segment of the slot's sequents.
+fn segment_test(
+    words: &[u64],
+    table: Table,
+    event: u64,
+    group: u64,
+    row: usize,
+    segment: u64,
+    j: usize,
+) -> bool
+    requires { ⌜ (table ≡ countsOf (tableOf (now words))) × (j < tableOf (now words) .size) ⌝ }
+    ensures { λ r. ⌜ r ≡ segmentTest (tableOf (now (words .entry))) event group row segment j ⌝ }
+{
+    match segment {
+        0 => formula_test(words, 30, group, row, j),
+        1 => has_abstract(words, table, event, group) & formula_test(words, 31, group, row, j),
+        2 => has_concrete(words, table, event, group) & formula_test(words, 32, group, row, j),
+        3 => (2 <= group) & (before_in(2, group, row, j) & row_of_event(words, 50, event, j)),
+        4 => {
+            has_moves(words, table, group, row)
+                & identifier_at(words, table, own_kind(words, table, event), j)
+        }
+        5 => {
+            has_witnesses(words, table, event, group)
+                & (witness_in(words, table, group, j) & row_of_event(words, 60, event, j))
+        }
+        6 => has_abstract_moves(words, table, event, group) & identifier_at(words, table, 2, j),
+        7 => j == row,
+        _ => false,
+    }
+}
+
+// Whether a slot's sequent is the WFIS of a witness.
+fn is_wfis(group: u64, which: u64) -> bool
+    ensures { λ r. ⌜ r ≡ isWFIS group which ⌝ }
+{
+    (group == 5) & (which == 1)
+}
+
+// The kind of a slot's sequent.
+pub fn header_kind(group: u64, which: u64) -> u64
+    ensures { λ r. ⌜ r ≡ headerKind group which ⌝ }
+{
+    if is_wfis(group, which) {
+        return 6;
+    }
+    match group {
+        4 => 3,
+        6 => 4,
+        7 => 5,
+        8 => 2,
+        9 => 7,
+        10 => 8,
+        _ => 1,
+    }
+}
+
+// The item of a slot's sequent: root, variable or identifier.
+pub fn header_item(words: &[u64], event: u64, group: u64, row: usize, which: u64) -> u64
+    requires { ⌜ row < tableOf (now words) .size ⌝ }
+    ensures { λ r. ⌜ r ≡ headerItem (tableOf (now (words .entry))) event group row which ⌝ }
+{
+    if is_wfis(group, which) {
+        return b_at(words, row);
+    }
+    match group {
+        2 => b_at(words, row),
+        3 => c_at(words, action_row(words, event, row as u64 + 1)),
+        4 => row as u64 + 1,
+        5 => c_at(words, row),
+        6 => b_at(words, row),
+        7 => row as u64 + 1,
+        _ => a_at(words, row),
+    }
+}
+
+// An entry of one root: its form, the root, then 0.
+fn of_root(form: u64, root: u64) -> Entry
+    ensures { λ r. ⌜ r ≡ numbers form root 0 ⌝ }
+{
+    Entry {
+        form,
+        first: root,
+        second: 0,
+    }
+}
+
+// An entry of an event and an identifier.
+fn of_event(form: u64, event: u64, x: u64) -> Entry
+    ensures { λ r. ⌜ r ≡ numbers form event x ⌝ }
+{
+    Entry {
+        form,
+        first: event,
+        second: x,
+    }
+}
+
+// The goal of a kind, for an event and an item.
+fn goal_of(words: &[u64], table: Table, kind: u64, event: u64, item: u64) -> Entry
+    requires { ⌜ table ≡ countsOf (tableOf (now words)) ⌝ }
+    ensures { λ r. ⌜ r ≡ numbersOf (goalOf (tableOf (now (words .entry))) kind event item) ⌝ }
+{
+    match kind {
+        2 => of_root(2, item),
+        3 => of_event(5, event, item),
+        4 => of_root(1, item),
+        5 => of_event(4, matched_by(words, table, event), item),
+        6 => of_event(6, event, item),
+        7 => of_root(7, item),
+        8 => of_root(8, item),
+        _ => of_root(3, item),
+    }
+}
+
+// The goal of a slot's sequent.
+fn goal_at(words: &[u64], table: Table, event: u64, group: u64, row: usize, which: u64) -> Entry
+    requires { ⌜ (table ≡ countsOf (tableOf (now words))) × (row < tableOf (now words) .size) ⌝ }
+    ensures { λ r. ⌜ r ≡ numbersOf (goalAt (tableOf (now (words .entry))) event group row which) ⌝ }
+{
+    let kind = header_kind(group, which);
+    let item = header_item(words, event, group, row, which);
+    goal_of(words, table, kind, event, item)
+}
+
+// The entry of row j in a segment of a slot's sequent; in the goal's segment the goal.
+fn segment_entry(
+    words: &[u64],
+    table: Table,
+    event: u64,
+    group: u64,
+    row: usize,
+    which: u64,
+    segment: u64,
+    j: usize,
+) -> Entry
+    requires { ⌜ (table ≡ countsOf (tableOf (now words))) × (row < tableOf (now words) .size) × (j < tableOf (now words) .size) ⌝ }
+    ensures { λ r. ⌜ r ≡ numbersOf (segmentEntry (tableOf (now (words .entry))) event group row which segment j) ⌝ }
+{
+    match segment {
+        3 => of_root(1, b_at(words, j)),
+        4 => of_event(4, event, j as u64 + 1),
+        5 => of_root(1, c_at(words, j)),
+        6 => of_event(4, event, j as u64 + 1),
+        7 => goal_at(words, table, event, group, row, which),
+        _ => of_root(1, a_at(words, j)),
+    }
+}
