@@ -116,6 +116,12 @@ unfolding countBelow
 count-sum P Q R h zero = refl
 count-sum P Q R h (suc n) = omega (arith, count-sum P Q R h n, h n)
 
+-- a test that passes only where another does
+pub count-less : (P Q : ℕ → Bool) → ((i : ℕ) → oneIf (P i) ≤ oneIf (Q i)) → (n : ℕ) → countBelow P n ≤ countBelow Q n
+unfolding countBelow
+count-less P Q h zero = omega arith
+count-less P Q h (suc n) = omega (arith, count-less P Q h n, h n)
+
 -- the n numbers from i on
 pub numbers-in : (n i j : ℕ) → i ≤ j → j < i + n → In j (numbers n i)
 unfolding numbers

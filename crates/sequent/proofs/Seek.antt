@@ -1,18 +1,63 @@
 -- Where the k-th entry of a slot's sequent comes from: `entriesTo` is how many entries stand before a row of a segment. A walk over segments and rows that takes one
--- from k at each row that passes keeps `entriesTo` + what is left of k equal to k, by the steps below.
-use Prim.Native.Nat.{ℕ, _+_, _*_, _≤_, _<_}
+-- from k at each row that passes keeps `entriesTo` + what is left of k equal to k, by the steps below. A row's tag puts it into one segment at most, identifiers aside.
+use Prim.Native.Nat.{ℕ, zero, suc, _+_, _*_, _≤_, _<_}
 use mathlib.Core.Path.{_≡_, refl, sym, ap, _∙_}
-use mathlib.Core.Bool.{true}
-use mathlib.Core.List.{flatMap}
+use mathlib.Core.Bool.{Bool, true, false, _&&_}
+use mathlib.Core.List.{List, map, flatMap}
 use native.Mathlib.Omega.{arith}
 use native.Mathlib.Numerals.{add-one}
+use native.Mathlib.Decide.{ℕ-discrete}
+use lib.Dec.{leb, eqb}
 use lib.ListN.{length, getD, length-map}
+use borrow.Author.Tests.{eq-eqb, ne-eqb}
 use Rattle.lists.specs.Rows.{oneIf, countBelow, sumBelow, numbers, keep}
-use Rattle.lists.proofs.Rows.{count-none, count-next, count-at-most, count-passes}
-use Rattle.lists.proofs.Flat.{keep-length, flat-length, sum-same, sum-reaches, sum-at-most, flat-at, kept-at}
-use Rattle.table.specs.Table.{Table}
+use Rattle.lists.proofs.Rows.{count-at-most, count-passes, count-less}
+use Rattle.lists.proofs.Flat.{keep-length, flat-length, sum-same, sum-reaches, flat-at, kept-at}
+use Rattle.table.specs.Table.{Table, tagged}
 use Rattle.sequent.specs.Entry.{Entry}
-use Rattle.sequent.specs.Segments.{segments, segmentTest, segmentEntry, segment, entryWalk, segmentCount, entriesTo}
+use Rattle.sequent.specs.Segments.{segments, beforeIn, hasAbstract, hasConcrete, hasWitnesses, witnessIn, segmentTest, segmentEntry, entryWalk, segmentCount, entriesTo}
+
+-- a row has one tag
+one-tag : (x : ℕ) → oneIf (eqb x 30) + oneIf (eqb x 31) + oneIf (eqb x 32) + oneIf (eqb x 50) + oneIf (eqb x 60) ≤ 1
+one-tag x = go (ℕ-discrete x 30) (ℕ-discrete x 31) (ℕ-discrete x 32) (ℕ-discrete x 50)
+  where
+    last : (b : Bool) → oneIf b ≤ 1
+    last true = omega arith
+    last false = omega arith
+
+    go : Dec (x ≡ 30) → Dec (x ≡ 31) → Dec (x ≡ 32) → Dec (x ≡ 50)
+        → oneIf (eqb x 30) + oneIf (eqb x 31) + oneIf (eqb x 32) + oneIf (eqb x 50) + oneIf (eqb x 60) ≤ 1
+    go (yes e) b c d = rw (eq-eqb x 30 e, ne-eqb x 31 (omega arith), ne-eqb x 32 (omega arith), ne-eqb x 50 (omega arith), ne-eqb x 60 (omega arith)) (omega arith)
+    go (no a) (yes e) c d = rw (ne-eqb x 30 a, eq-eqb x 31 e, ne-eqb x 32 (omega arith), ne-eqb x 50 (omega arith), ne-eqb x 60 (omega arith)) (omega arith)
+    go (no a) (no b) (yes e) d = rw (ne-eqb x 30 a, ne-eqb x 31 b, eq-eqb x 32 e, ne-eqb x 50 (omega arith), ne-eqb x 60 (omega arith)) (omega arith)
+    go (no a) (no b) (no c) (yes e) = rw (ne-eqb x 30 a, ne-eqb x 31 b, ne-eqb x 32 c, eq-eqb x 50 e, ne-eqb x 60 (omega arith)) (omega arith)
+    go (no a) (no b) (no c) (no d) = rw (ne-eqb x 30 a, ne-eqb x 31 b, ne-eqb x 32 c, ne-eqb x 50 d) (omega (arith, last (eqb x 60)))
+
+tags-at-most : (t : Table) (n : ℕ)
+    → countBelow (tagged t 30) n + countBelow (tagged t 31) n + countBelow (tagged t 32) n + countBelow (tagged t 50) n + countBelow (tagged t 60) n ≤ n
+unfolding countBelow
+tags-at-most t zero = omega arith
+tags-at-most t (suc n) = omega (arith, tags-at-most t n, one-tag (t .tag n))
+
+-- a test among others
+among : (p q : Bool) → oneIf (p && q) ≤ oneIf q
+among true q = omega arith
+among false true = omega arith
+among false false = omega arith
+
+among-three : (p q r : Bool) → oneIf (p && (q && r)) ≤ oneIf r
+among-three true q r = among q r
+among-three false q true = omega arith
+among-three false q false = omega arith
+
+among-four : (p q r s : Bool) → oneIf (p && (q && (r && s))) ≤ oneIf r
+among-four true true true true = omega arith
+among-four true true true false = omega arith
+among-four true true false s = omega arith
+among-four true false true s = omega arith
+among-four true false false s = omega arith
+among-four false q true s = omega arith
+among-four false q false s = omega arith
 
 module _ (t : Table) (e g i : ℕ) where
   -- the steps of the walk: from the start, to the next row, past the last row to the next segment
@@ -28,33 +73,58 @@ module _ (t : Table) (e g i : ℕ) where
   unfolding entriesTo sumBelow countBelow
   entries-segment s = rw (add-one s) (omega arith)
 
-  -- the end: all entries, of which there are at most eight a row
-  segment-length : (w s : ℕ) → length (segment t e g i w s) ≡ segmentCount t e g i s
-  segment-length w s = length-map (keep (segmentTest t e g i s) (numbers (t .size) 0)) (segmentEntry t e g i w s) ∙ keep-length (segmentTest t e g i s) (t .size)
+  -- the end: no more entries than words
+  pub entries-at-most : entriesTo t e g i segments 0 ≤ 4 * t .size
+  unfolding entriesTo sumBelow countBelow segmentTest
+  entries-at-most =
+      let n = t .size in
+      omega (
+        arith,
+        tags-at-most t n,
+        count-less (segmentTest t e g i 0) (tagged t 30) (λ j. among (beforeIn 0 g i j) (tagged t 30 j)) n,
+        count-less (segmentTest t e g i 1) (tagged t 31) (λ j. among-three (hasAbstract t e g) (beforeIn 0 g i j) (tagged t 31 j)) n,
+        count-less (segmentTest t e g i 2) (tagged t 32) (λ j. among-three (hasConcrete t e g) (beforeIn 0 g i j) (tagged t 32 j)) n,
+        count-less (segmentTest t e g i 3) (tagged t 50) (λ j. among-four (leb 2 g) (beforeIn 2 g i j) (tagged t 50 j) (eqb (t .a j) e)) n,
+        count-less (segmentTest t e g i 5) (tagged t 60) (λ j. among-four (hasWitnesses t e g) (witnessIn t g j) (tagged t 60 j) (eqb (t .a j) e)) n,
+        count-at-most (segmentTest t e g i 4) n,
+        count-at-most (segmentTest t e g i 6) n,
+        count-at-most (segmentTest t e g i 7) n,
+      )
 
-  walk-length : (w : ℕ) → length (entryWalk t e g i w) ≡ sumBelow (segmentCount t e g i) segments
-  unfolding entryWalk
-  walk-length w = flat-length (segment t e g i w) segments ∙ sum-same _ (segmentCount t e g i) segments (segment-length w)
+  -- what is made of the rows of all segments
+  module _ {A : Type 0} (f : ℕ → ℕ → A) where
+    abbrev part : ℕ → List A
+    part s = map (f s) (keep (segmentTest t e g i s) (numbers (t .size) 0))
 
-  pub entries-end : (w : ℕ) → entriesTo t e g i segments 0 ≡ length (entryWalk t e g i w)
-  unfolding entriesTo countBelow
-  entries-end w = let p : sumBelow (segmentCount t e g i) segments + 0 ≡ sumBelow (segmentCount t e g i) segments = omega arith in p ∙ sym (walk-length w)
+    unfoldable pub made-of : List A
+    made-of = flatMap part (numbers segments 0)
 
-  pub entries-at-most : (w : ℕ) → length (entryWalk t e g i w) ≤ segments * t .size
-  entries-at-most w =
-      omega (arith, walk-length w, sum-at-most (segmentCount t e g i) (t .size) (λ s. count-at-most (segmentTest t e g i s) (t .size)) segments)
+    part-length : (s : ℕ) → length (part s) ≡ segmentCount t e g i s
+    part-length s = length-map (keep (segmentTest t e g i s) (numbers (t .size) 0)) (f s) ∙ keep-length (segmentTest t e g i s) (t .size)
+
+    pub made-length : length made-of ≡ entriesTo t e g i segments 0
+    unfolding made-of entriesTo countBelow
+    made-length = flat-length part segments ∙ sum-same _ (segmentCount t e g i) segments part-length ∙ omega arith
 
   -- a row that passes holds the entry behind those that stand before it
   module _ (s j : ℕ) (hs : s < segments) (hj : j < t .size) (p : segmentTest t e g i s j ≡ true) where
     inside : countBelow (segmentTest t e g i s) j < segmentCount t e g i s
     inside = count-passes (segmentTest t e g i s) (t .size) j hj p
 
-    pub entries-reach : (w : ℕ) → entriesTo t e g i s j < length (entryWalk t e g i w)
+    pub entries-reach : entriesTo t e g i s j < entriesTo t e g i segments 0
     unfolding entriesTo
-    entries-reach w = omega (arith, walk-length w, inside, sum-reaches (segmentCount t e g i) segments s hs)
+    entries-reach = omega (arith, inside, sum-reaches (segmentCount t e g i) segments s hs)
+
+    pub made-at : {A : Type 0} (f : ℕ → ℕ → A) (d : A) → getD (made-of f) (entriesTo t e g i s j) d ≡ f s j
+    unfolding made-of entriesTo
+    made-at f d =
+        flat-at (part f) (segmentCount t e g i) (part-length f) segments s (countBelow (segmentTest t e g i s) j) d hs inside
+        ∙ kept-at (segmentTest t e g i s) (f s) (t .size) j d hj p
 
     pub entry-at : (w : ℕ) (d : Entry) → getD (entryWalk t e g i w) (entriesTo t e g i s j) d ≡ segmentEntry t e g i w s j
-    unfolding entryWalk entriesTo
-    entry-at w d =
-        flat-at (segment t e g i w) (segmentCount t e g i) (segment-length w) segments s (countBelow (segmentTest t e g i s) j) d hs inside
-        ∙ kept-at (segmentTest t e g i s) (segmentEntry t e g i w s) (t .size) j d hj p
+    unfolding made-of entryWalk
+    entry-at w d = made-at (segmentEntry t e g i w) d
+
+  pub entries-end : (w : ℕ) → length (entryWalk t e g i w) ≡ entriesTo t e g i segments 0
+  unfolding made-of entryWalk
+  entries-end w = made-length (segmentEntry t e g i w)
