@@ -9,16 +9,20 @@ use table::b_at;
 use table::c_at;
 use table::event_field;
 use table::identifier_field;
+use table::one_if;
+use table::size;
 use table::tag_at;
 ghost use mathlib.Core.Path.{_≡_};
-ghost use Prim.Native.Nat.{_<_};
+ghost use Prim.Native.Nat.{_<_, _≤_};
 ghost use mathlib.Core.Bool.{_&&_};
+ghost use Rattle.lists.specs.Rows.{oneIf};
 ghost use Rattle.table.specs.Table.{tableOf, tagged};
 ghost use Rattle.table.specs.Counts.{countsOf};
 ghost use Rattle.sequent.specs.Numbers.{numbers, numbersOf};
 ghost use Rattle.sequent.specs.Walk.{rowOfEvent, isAbstract, isConvergent, matchedBy, ownKind, identifierAt, actionRow};
 ghost use Rattle.sequent.specs.Segments.{isWFIS, headerKind, beforeIn, headerItem, goalOf, goalAt, isInitial, hasAbstract, hasConcrete, isVariableNumber, hasMoves, hasWitnesses};
-ghost use Rattle.sequent.specs.Segments.{witnessIn, hasAbstractMoves, segmentTest, segmentEntry};
+ghost use Rattle.sequent.specs.Segments.{witnessIn, hasAbstractMoves, segments, segmentTest, segmentEntry};
+ghost use Rattle.entries.specs.Seek.{place, nextPlace, Stands, Sought};
 
 // Whether an event is the abstract machine's.
 fn is_abstract(words: &[u64], table: Table, event: u64) -> bool
@@ -307,4 +311,87 @@ fn segment_entry(
         7 => goal_at(words, table, event, group, row, which),
         _ => of_root(1, a_at(words, j)),
     }
+}
+
+// A place in the walk of a slot's entries: a row of a segment, and how many entries are left to pass. Segment 8 is the end.
+pub struct Cursor {
+    pub segment: u64,
+    pub row: usize,
+    pub left: u64,
+}
+
+impl Cursor {
+    // The segment of the goal, and the end.
+    pub const GOAL: u64 = 7;
+
+    pub const END: u64 = 8;
+
+    // The place of the first row, with entries to pass.
+    pub fn start(left: u64) -> Self
+        ensures { λ r. ⌜ r ≡ place 0 0 left ⌝ }
+    {
+        Self {
+            segment: 0,
+            row: 0,
+            left,
+        }
+    }
+
+    // The same place, with its own entry to pass.
+    pub fn passing(self) -> Self
+        ensures { λ r. ⌜ r ≡ place (self .segment) (self .row) 1 ⌝ }
+    {
+        Self {
+            segment: self.segment,
+            row: self.row,
+            left: 1,
+        }
+    }
+
+    // The place after this one, of so many rows a segment.
+    fn next(self, passes: bool, rows: usize) -> Self
+        requires { ⌜ (oneIf passes ≤ self .left) × (self .row < rows) × (self .segment < segments) ⌝ }
+        ensures { λ r. ⌜ r ≡ nextPlace self passes rows ⌝ }
+    {
+        let left = self.left - one_if(passes);
+        let row = self.row + 1;
+        if row < rows {
+            return Self {
+                segment: self.segment,
+                row,
+                left,
+            };
+        }
+        Self {
+            segment: self.segment + 1,
+            row: 0,
+            left,
+        }
+    }
+}
+
+// Walks on from a place to the entry after as many as are left to pass, or to the end.
+pub fn seek_entry(
+    words: &[u64],
+    table: Table,
+    event: u64,
+    group: u64,
+    row: usize,
+    from: Cursor,
+) -> Cursor
+    requires { ⌜ (table ≡ countsOf (tableOf (now words))) × Stands (tableOf (now words)) from ⌝ }
+    ensures { λ r. ⌜ Sought (tableOf (now (words .entry))) event group row from r ⌝ }
+{
+    let rows = size(words);
+    let mut cursor = from;
+    while cursor.segment < Cursor::END {
+        let segment = cursor.segment;
+        let at = cursor.row;
+        let passes = segment_test(words, table, event, group, row, segment, at);
+        if passes & (cursor.left == 0) {
+            return cursor;
+        }
+        cursor = cursor.next(passes, rows);
+    }
+    cursor
 }

@@ -1,0 +1,21 @@
+-- 01, Sequents: "rows 81 (hypotheses), row 82 (goal)" of a slot's sequent.
+use Prim.Native.Nat.{ℕ}
+use mathlib.Core.Bool.{cond}
+use mathlib.Core.List.{List, [], _∷_, _++_, map}
+use lib.Dec.{eqb}
+use Rattle.row.specs.declared.Row.{Row}
+use Rattle.table.specs.Table.{Table}
+use Rattle.sequent.specs.Segments.{segmentEntry, hypothesisWalk, goalAt}
+use Rattle.service.specs.Printed.{entryRow}
+
+-- the tag of a segment's rows
+abbrev pub segmentTag : ℕ → ℕ
+segmentTag s = cond (eqb s 7) 82 81
+
+module _ (t : Table) (e g i w : ℕ) where
+  -- the row of a segment's entry
+  abbrev pub segmentRow : ℕ → ℕ → Row
+  segmentRow s j = entryRow (segmentTag s) (segmentEntry t e g i w s j)
+
+  unfoldable pub entryRows : List Row
+  entryRows = map (entryRow 81) (hypothesisWalk t e g i w) ++ (entryRow 82 (goalAt t e g i w) ∷ [])
