@@ -5,12 +5,17 @@ use mathlib.Core.List.{List, [], _∷_, _++_, map}
 use lib.Dec.{eqb}
 use Rattle.row.specs.declared.Row.{Row}
 use Rattle.table.specs.Table.{Table}
+use Rattle.sequent.specs.declared.Entry.{Entry as Numbers}
 use Rattle.sequent.specs.Segments.{segmentEntry, hypothesisWalk, goalAt}
-use Rattle.service.specs.Printed.{entryRow}
+use Rattle.service.specs.Printed.{row, entryRow}
 
 -- the tag of a segment's rows
 abbrev pub segmentTag : ℕ → ℕ
 segmentTag s = cond (eqb s 7) 82 81
+
+-- the row of an entry as the code holds it
+abbrev pub numbersRow : ℕ → Numbers → Row
+numbersRow tag n = row tag (n .form) (n .first) (n .second)
 
 module _ (t : Table) (e g i w : ℕ) where
   -- the row of a segment's entry

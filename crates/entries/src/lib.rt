@@ -1,5 +1,6 @@
 // 01, Sequents: the entries of one sequent, hypotheses and then goal, by a walk of segments. A slot is an event, a group and a row; `which` is 1 for the WFIS of a
 // witness, else 0.
+use row::Row;
 use scan::Query;
 use scan::find_row;
 use sequent::Entry;
@@ -13,16 +14,21 @@ use table::one_if;
 use table::size;
 use table::tag_at;
 ghost use mathlib.Core.Path.{_≡_};
-ghost use Prim.Native.Nat.{_<_, _≤_};
+ghost use Prim.Native.Nat.{_*_, _<_, _≤_};
+ghost use lib.ListN.{length, getD};
 ghost use mathlib.Core.Bool.{_&&_};
+ghost use Rattle.lists.specs.Over.{over};
 ghost use Rattle.lists.specs.Rows.{oneIf};
 ghost use Rattle.table.specs.Table.{tableOf, tagged};
 ghost use Rattle.table.specs.Counts.{countsOf};
+ghost use Rattle.sequent.specs.Entry.{written};
 ghost use Rattle.sequent.specs.Numbers.{numbers, numbersOf};
 ghost use Rattle.sequent.specs.Walk.{rowOfEvent, isAbstract, isConvergent, matchedBy, ownKind, identifierAt, actionRow};
 ghost use Rattle.sequent.specs.Segments.{isWFIS, headerKind, beforeIn, headerItem, goalOf, goalAt, isInitial, hasAbstract, hasConcrete, isVariableNumber, hasMoves, hasWitnesses};
-ghost use Rattle.sequent.specs.Segments.{witnessIn, hasAbstractMoves, segments, segmentTest, segmentEntry};
+ghost use Rattle.sequent.specs.Segments.{witnessIn, hasAbstractMoves, segments, segmentTest, segmentEntry, entryWalk, entriesTo};
+ghost use Rattle.service.specs.Printed.{rowsBytes};
 ghost use Rattle.entries.specs.Seek.{place, nextPlace, Stands, Sought};
+ghost use Rattle.entries.specs.Written.{numbersRow, segmentTag, segmentRow, entryRows};
 
 // Whether an event is the abstract machine's.
 fn is_abstract(words: &[u64], table: Table, event: u64) -> bool
@@ -394,4 +400,100 @@ pub fn seek_entry(
         cursor = cursor.next(passes, rows);
     }
     cursor
+}
+
+// How many entries a slot's sequents have, the goal among them: as many as a walk passes that has more to pass than there are.
+pub fn count_entries(words: &[u64], table: Table, event: u64, group: u64, row: usize) -> u64
+    requires { ⌜ (table ≡ countsOf (tableOf (now words))) × (row < tableOf (now words) .size) ⌝ }
+    ensures { λ r. ⌜ r ≡ entriesTo (tableOf (now (words .entry))) event group row segments 0 ⌝ }
+{
+    let most = words.len() as u64;
+    let end = seek_entry(words, table, event, group, row, Cursor::start(most));
+    most - end.left
+}
+
+// Entry k of a slot's sequent, counted from 0; node 0 as written where there is none.
+pub fn entry_at(
+    words: &[u64],
+    table: Table,
+    event: u64,
+    group: u64,
+    row: usize,
+    which: u64,
+    k: u64,
+) -> Entry
+    requires { ⌜ (table ≡ countsOf (tableOf (now words))) × (row < tableOf (now words) .size) ⌝ }
+    ensures { λ r. ⌜ r ≡ numbersOf (getD (entryWalk (tableOf (now (words .entry))) event group row which) k (written 0)) ⌝ }
+{
+    let found = seek_entry(words, table, event, group, row, Cursor::start(k));
+    let segment = found.segment;
+    let at = found.row;
+    if segment == Cursor::END {
+        return of_root(1, 0);
+    }
+    segment_entry(words, table, event, group, row, which, segment, at)
+}
+
+// The tag of a segment's rows: 82 for the goal, else 81.
+fn segment_tag(segment: u64) -> u64
+    ensures { λ r. ⌜ r ≡ segmentTag segment ⌝ }
+{
+    if segment == Cursor::GOAL {
+        return 82;
+    }
+    81
+}
+
+// The row of an entry.
+fn entry_row(tag: u64, entry: Entry) -> Row
+    ensures { λ r. ⌜ r ≡ numbersRow tag entry ⌝ }
+{
+    Row {
+        tag,
+        a: entry.form,
+        b: entry.first,
+        c: entry.second,
+    }
+}
+
+// The row of the entry at a place.
+fn row_at(
+    words: &[u64],
+    table: Table,
+    event: u64,
+    group: u64,
+    row: usize,
+    which: u64,
+    cursor: Cursor,
+) -> Row
+    requires { ⌜ (table ≡ countsOf (tableOf (now words))) × (row < tableOf (now words) .size) × (cursor .row < tableOf (now words) .size) ⌝ }
+    ensures { λ r. ⌜ r ≡ segmentRow (tableOf (now (words .entry))) event group row which (cursor .segment) (cursor .row) ⌝ }
+{
+    let segment = cursor.segment;
+    let at = cursor.row;
+    let entry = segment_entry(words, table, event, group, row, which, segment, at);
+    entry_row(segment_tag(segment), entry)
+}
+
+// Writes a slot's sequent without its header: rows 81 for the hypotheses, then row 82 for the goal.
+pub fn write_entries(
+    words: &[u64],
+    table: Table,
+    event: u64,
+    group: u64,
+    row: usize,
+    which: u64,
+    out: &mut [u8],
+)
+    requires { ⌜ (table ≡ countsOf (tableOf (now words))) × (row < tableOf (now words) .size) ⌝ }
+    requires { ⌜ 38 * entriesTo (tableOf (now words)) event group row segments 0 ≤ length (now out) ⌝ }
+    ensures { λ _. ⌜ now (out .exit) ≡ over (rowsBytes (entryRows (tableOf (now (words .entry))) event group row which)) (now (out .entry)) ⌝ }
+{
+    let mut cursor = seek_entry(words, table, event, group, row, Cursor::start(0));
+    let mut at = 0;
+    while cursor.segment < Cursor::END {
+        row_at(words, table, event, group, row, which, cursor).write(&mut out[at..]);
+        cursor = seek_entry(words, table, event, group, row, cursor.passing());
+        at += Row::LENGTH;
+    }
 }

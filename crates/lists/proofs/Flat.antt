@@ -59,6 +59,11 @@ module _ {A B : Type 0} where
   flat-map f g [] = refl
   flat-map f g (x ∷ xs) = ap (λ r. f (g x) ++ r) (flat-map f g xs)
 
+  pub map-flat : {C : Type 0} (h : B → C) (f : A → List B) (xs : List A) → map h (flatMap f xs) ≡ flatMap (λ x. map h (f x)) xs
+  unfolding flatMap
+  map-flat h f [] = refl
+  map-flat h f (x ∷ xs) = map-append h (f x) (flatMap f xs) ∙ ap (λ r. map h (f x) ++ r) (map-flat h f xs)
+
   pub flat-ext : (f g : A → List B) (xs : List A) → ((x : A) → f x ≡ g x) → flatMap f xs ≡ flatMap g xs
   flat-ext f g xs h = ap (λ k. flatMap k xs) (fun-ext h)
 

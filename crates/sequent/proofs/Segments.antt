@@ -91,7 +91,7 @@ module _ (t : Table) where
       seven f = simp append-assoc
 
   -- all entries are the hypotheses and then the goal
-  goal-segment : (e g i w : ℕ) → i < t .size → segment t e g i w 7 ≡ goalAt t e g i w ∷ []
+  pub goal-segment : (e g i w : ℕ) → i < t .size → segment t e g i w 7 ≡ goalAt t e g i w ∷ []
   unfolding segmentTest segmentEntry
   goal-segment e g i w h = ap (map (λ j. goalAt t e g i w)) (keep-only (t .size) i h)
 
