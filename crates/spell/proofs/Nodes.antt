@@ -1,0 +1,268 @@
+-- A node's tree, as written or with its variables at their after values, is spelled by its row and the rows of its operands: by the case of its operator, whose
+-- number the row shows. Its operands have smaller numbers.
+use Prim.Native.Nat.{ℕ, zero, suc, _≤_, _<_}
+use mathlib.Core.Path.{_≡_, refl, sym, ap, ap₂, _∙_, subst}
+use mathlib.Core.Bool.{Bool, true, false, cond, _&&_, _||_}
+use mathlib.Core.List.{List, [], _∷_, _++_}
+use native.Mathlib.Omega.{arith}
+use lib.Dec.{T, eqb, ltb, ltb→lt, eqb→eq}
+use borrow.Author.Tests.{eq-eqb, ne-eqb, eqb-true}
+use Rattle.lists.specs.Choice.{pick}
+use Rattle.row.specs.declared.Row.{Row}
+use Rattle.formula.specs.Tree.{Constant, literal, TRUE, FALSE, top, bottom, Tree, constant, identifier, after}
+use Rattle.formula.specs.AfterValues.{atAfter}
+use Rattle.formula.proofs.Truth.{and-split, true-test}
+use Rattle.table.specs.Table.{Table, kindOf, operatorOf, leftOf, rightOf}
+use Rattle.machine.specs.Machine.{isVariable, constantKind, abstractVariable, concreteVariable, abstractParameter, concreteParameter}
+use Rattle.machine.specs.Operator as meaning
+use Rattle.machine.specs.Operator.{Operator, Numbered, literalOf, identifierOf, afterOf, constantOf, unaryOf, binaryOf, divisionOf, connectiveOf, operatorNumbered}
+use Rattle.machine.specs.Described.{node, earlier, kindNumbered, treeTo, treeOf, machineOf}
+use Rattle.machine.proofs.Described.{operandOf, tree-step}
+use Rattle.sequent.specs.Entry.{variable}
+use Rattle.rules.specs.Sorts.{Shape, value, anIdentifier, aVariable, none, one, two, unknown, shapeOf}
+use Rattle.rules.proofs.Operators.{shapeFor, shape-agrees}
+use Rattle.rule_references.specs.declared.Operator as found
+use Rattle.rule_references.specs.Operator.{meant, meantShape}
+use Rattle.rule_references.proofs.Found.{shape-found}
+use Rattle.service.specs.Spelled.{spelled, constantRow, unaryNumber, binaryNumber, divisionNumber, connectiveNumber, spellTree}
+use Rattle.spell.specs.declared.Node.{Node}
+use Rattle.spell.specs.Spell.{leaf, nodeBy, operandNode, variableKind, nodeOf, shownTree, shownRows}
+
+-- the operator that a number names has that number in its row
+abbrev constantIs : Constant → ℕ → Bool
+constantIs (literal w) n = false
+constantIs TRUE n = eqb 4 n
+constantIs FALSE n = eqb 5 n
+constantIs top n = eqb 30 n
+constantIs bottom n = eqb 31 n
+
+abbrev pub numberIs : Operator → ℕ → Bool
+numberIs literalOf n = eqb 1 n
+numberIs identifierOf n = true
+numberIs afterOf n = eqb 3 n
+numberIs (constantOf c) n = constantIs c n
+numberIs (unaryOf o) n = eqb (unaryNumber o) n
+numberIs (binaryOf o) n = eqb (binaryNumber o) n
+numberIs (divisionOf o) n = eqb (divisionNumber o) n
+numberIs (connectiveOf o) n = eqb (connectiveNumber o) n
+numberIs meaning.unknown n = true
+
+abbrev allNumbered : List Numbered → Bool
+allNumbered [] = true
+allNumbered (o ∷ os) = numberIs (o .operator) (o .number) && allNumbered os
+
+find-numbered : (os : List Numbered) → T (allNumbered os) → (n : ℕ) → T (numberIs (meaning.find os n) n)
+find-numbered [] h n = tt
+find-numbered (o ∷ os) h n = go (eqb (o .number) n) refl (and-split (numberIs (o .operator) (o .number)) (allNumbered os) h) (λ h. find-numbered os h n)
+  where
+    go : (b : Bool) → eqb (o .number) n ≡ b → T (numberIs (o .operator) (o .number)) × T (allNumbered os) → (T (allNumbered os) → T (numberIs (meaning.find os n) n))
+        → T (numberIs (elim b [ true ↦ o .operator | false ↦ meaning.find os n ]) n)
+    go true e h rest = subst (λ k. T (numberIs (o .operator) k)) (eqb-true (o .number) n e) (h .0)
+    go false e h rest = rest (h .1)
+
+pub operator-numbered : (n : ℕ) → T (numberIs (operatorNumbered n) n)
+unfolding operatorNumbered
+operator-numbered n = find-numbered meaning.operators tt n
+
+-- 01's variables are those of kind 2 or 3
+kind-variable : (k : ℕ) → isVariable (kindNumbered k) ≡ eqb k 2 || eqb k 3
+unfolding kindNumbered
+kind-variable k = go (eqb k 1) (eqb k 2) (eqb k 3) (eqb k 4) (λ e. rw (eqb-true k 1 e))
+  where
+    go : (a b c d : Bool) → (a ≡ true → false ≡ b || c)
+        → isVariable (elim a [
+          | true ↦ constantKind
+          | false ↦ elim b [ true ↦ abstractVariable | false ↦ elim c [ true ↦ concreteVariable | false ↦ elim d [ true ↦ abstractParameter | false ↦ concreteParameter ] ] ]
+        ]) ≡ b || c
+    go true b c d f = f refl
+    go false true c d f = refl
+    go false false true d f = refl
+    go false false false true f = refl
+    go false false false false f = refl
+
+-- how many operands follow a row, and their rows
+abbrev pub operandRows : ℕ → List Row → List Row → List Row
+operandRows zero l r = []
+operandRows (suc zero) l r = l
+operandRows (suc (suc k)) l r = l ++ r
+
+abbrev rowsBy : Node → List Row → List Row → List Row
+rowsBy d l r = spelled (d .operator) (d .b) ∷ operandRows (d .operands) l r
+
+-- operands of a shape that has them
+operands-shown : (s : Shape) (o : ℕ) (primed : Bool) (b x y : ℕ) (rows : ℕ → List Row)
+    → operandRows (nodeBy s o primed b x y .operands) (rows x) (rows y)
+    ≡ operandRows (nodeBy s o primed b x y .operands) (rows (nodeBy s o primed b x y .left)) (rows (nodeBy s o primed b x y .right))
+operands-shown value o primed b x y rows = refl
+operands-shown anIdentifier o primed b x y rows = refl
+operands-shown aVariable o primed b x y rows = refl
+operands-shown none o primed b x y rows = refl
+operands-shown one o primed b x y rows = refl
+operands-shown two o primed b x y rows = refl
+operands-shown unknown o primed b x y rows = refl
+
+operands-below : (s : Shape) (o : ℕ) (primed : Bool) (b x y n : ℕ) → x < n → y < n → (nodeBy s o primed b x y .left < n) × (nodeBy s o primed b x y .right < n)
+operands-below value o primed b x y n f g = (omega arith, omega arith)
+operands-below anIdentifier o primed b x y n f g = (omega arith, omega arith)
+operands-below aVariable o primed b x y n f g = (omega arith, omega arith)
+operands-below none o primed b x y n f g = (omega arith, omega arith)
+operands-below one o primed b x y n f g = (f, omega arith)
+operands-below two o primed b x y n f g = (f, g)
+operands-below unknown o primed b x y n f g = (omega arith, omega arith)
+
+module _ (v : ℕ → Bool) where
+  -- a tree as it is spelled
+  abbrev shown : Bool → Tree → List Row
+  shown primed a = spellTree (pick primed (atAfter v a) a)
+
+  shown-identifier : (primed : Bool) (b : ℕ) → shown primed (identifier b) ≡ spelled (pick (primed && v b) 3 2) b ∷ []
+  unfolding spellTree atAfter
+  shown-identifier true b = go (v b)
+    where
+      go : (p : Bool) → spellTree (cond p (after b) (identifier b)) ≡ spelled (pick p 3 2) b ∷ []
+      go true = refl
+      go false = refl
+  shown-identifier false b = refl
+
+  constant-row : (c : Constant) (n : ℕ) → T (constantIs c n) → constantRow c ≡ spelled n 0
+  constant-row (literal w) n h = absurd h
+  constant-row TRUE n h = ap (λ k. spelled k 0) (eqb→eq 4 n h)
+  constant-row FALSE n h = ap (λ k. spelled k 0) (eqb→eq 5 n h)
+  constant-row top n h = ap (λ k. spelled k 0) (eqb→eq 30 n h)
+  constant-row bottom n h = ap (λ k. spelled k 0) (eqb→eq 31 n h)
+
+  -- a row of the number k is one of the number n
+  headed : (k n b : ℕ) (rs ss : List Row) → T (eqb k n) → rs ≡ spelled k b ∷ ss → rs ≡ spelled n b ∷ ss
+  headed k n b rs ss h e = e ∙ ap (λ k. spelled k b ∷ ss) (eqb→eq k n h)
+
+  shown-by : (o : Operator) (n : ℕ) → T (numberIs o n) → (primed : Bool) (b x y : ℕ) (l r : Tree)
+      → shown primed (node o b l r) ≡ rowsBy (nodeBy (shapeFor o) n (primed && v b) b x y) (shown primed l) (shown primed r)
+  unfolding spellTree atAfter
+  shown-by literalOf n h true b x y l r = headed 1 n b _ [] h refl
+  shown-by literalOf n h false b x y l r = headed 1 n b _ [] h refl
+  shown-by identifierOf n h true b x y l r = shown-identifier true b
+  shown-by identifierOf n h false b x y l r = shown-identifier false b
+  shown-by afterOf n h true b x y l r = headed 3 n b _ [] h refl
+  shown-by afterOf n h false b x y l r = headed 3 n b _ [] h refl
+  shown-by (constantOf c) n h true b x y l r = ap (λ r. r ∷ []) (constant-row c n h)
+  shown-by (constantOf c) n h false b x y l r = ap (λ r. r ∷ []) (constant-row c n h)
+  shown-by (unaryOf o) n h true b x y l r = headed (unaryNumber o) n 0 _ (shown true l) h refl
+  shown-by (unaryOf o) n h false b x y l r = headed (unaryNumber o) n 0 _ (shown false l) h refl
+  shown-by (binaryOf o) n h true b x y l r = headed (binaryNumber o) n 0 _ (shown true l ++ shown true r) h refl
+  shown-by (binaryOf o) n h false b x y l r = headed (binaryNumber o) n 0 _ (shown false l ++ shown false r) h refl
+  shown-by (divisionOf o) n h true b x y l r = headed (divisionNumber o) n 0 _ (shown true l ++ shown true r) h refl
+  shown-by (divisionOf o) n h false b x y l r = headed (divisionNumber o) n 0 _ (shown false l ++ shown false r) h refl
+  shown-by (connectiveOf o) n h true b x y l r = headed (connectiveNumber o) n 0 _ (shown true l ++ shown true r) h refl
+  shown-by (connectiveOf o) n h false b x y l r = headed (connectiveNumber o) n 0 _ (shown false l ++ shown false r) h refl
+  shown-by meaning.unknown n h true b x y l r = refl
+  shown-by meaning.unknown n h false b x y l r = refl
+
+-- an operand that is an earlier node falls
+operand-falls : (n x : ℕ) → 1 ≤ n → operandNode n x < n
+operand-falls n x h = go (earlier n x) refl
+  where
+    go : (b : Bool) → earlier n x ≡ b → pick b x 0 < n
+    go true e = ltb→lt x n (and-split (ltb 0 x) (ltb x n) (true-test _ e) .1)
+    go false e = h
+
+module _ (t : Table) where
+  operand-tree : (n x : ℕ) → treeOf t (operandNode n x) ≡ operandOf t n x
+  unfolding treeOf treeTo
+  operand-tree n x = go (earlier n x)
+    where
+      go : (b : Bool) → treeOf t (pick b x 0) ≡ elim b [ true ↦ treeOf t x | false ↦ constant bottom ]
+      go true = refl
+      go false = refl
+
+  pub variable-kind : (x : ℕ) → variable (machineOf t) x ≡ variableKind t x
+  unfolding machineOf
+  variable-kind x = kind-variable (kindOf t x)
+
+  -- a node's tree from those of its operands
+  pub tree-at : (n : ℕ) → 1 ≤ n
+      → treeOf t n ≡ node (operatorNumbered (operatorOf t n)) (leftOf t n) (treeOf t (operandNode n (leftOf t n))) (treeOf t (operandNode n (rightOf t n)))
+  tree-at n h =
+      tree-step t n h
+      ∙ ap₂ (node (operatorNumbered (operatorOf t n)) (leftOf t n)) (sym (operand-tree n (leftOf t n))) (sym (operand-tree n (rightOf t n)))
+
+  -- the node that was read is the table's
+  pub node-none : (primed : Bool) (n : ℕ) → n ≡ 0 → leaf 31 0 ≡ nodeOf t primed n
+  unfolding nodeOf
+  node-none primed n e = simp (eq-eqb n 0 e)
+
+  abbrev pub nodeFrom : Bool → ℕ → Node
+  nodeFrom primed n =
+      nodeBy (shapeOf (operatorOf t n)) (operatorOf t n) (primed && variableKind t (leftOf t n)) (leftOf t n) (operandNode n (leftOf t n)) (operandNode n (rightOf t n))
+
+  pub node-from : (primed : Bool) (n : ℕ) → (n ≡ 0 → ⊥) → nodeFrom primed n ≡ nodeOf t primed n
+  unfolding nodeOf
+  node-from primed n f = simp (ne-eqb n 0 f)
+
+  shown-zero : (primed : Bool) → shownRows t primed 0 ≡ spelled 31 0 ∷ []
+  unfolding shownRows treeOf treeTo spellTree atAfter
+  shown-zero true = refl
+  shown-zero false = refl
+
+  shown-step : (primed : Bool) (n : ℕ) → 1 ≤ n
+      → shownRows t primed n ≡ rowsBy (nodeFrom primed n) (shownRows t primed (operandNode n (leftOf t n))) (shownRows t primed (operandNode n (rightOf t n)))
+  unfolding shownRows
+  shown-step primed n h =
+      let v = variable (machineOf t) in
+      let m = operatorOf t n in
+      let b = leftOf t n in
+      let x = operandNode n b in
+      let y = operandNode n (rightOf t n) in
+      ap (shown v primed) (tree-at n h)
+      ∙ shown-by v (operatorNumbered m) m (operator-numbered m) primed b x y (treeOf t x) (treeOf t y)
+      ∙ ap₂ (λ s after. rowsBy (nodeBy s m (primed && after) b x y) (shown v primed (treeOf t x)) (shown v primed (treeOf t y))) (sym (shape-agrees m)) (variable-kind b)
+
+  pub shown-node : (primed : Bool) (n : ℕ)
+      → shownRows t primed n ≡ rowsBy (nodeOf t primed n) (shownRows t primed (nodeOf t primed n .left)) (shownRows t primed (nodeOf t primed n .right))
+  shown-node primed zero = shown-zero primed ∙ ap (λ d. rowsBy d (shownRows t primed (d .left)) (shownRows t primed (d .right))) (node-none primed 0 refl)
+  shown-node primed (suc m) =
+      let n = suc m in
+      let b = leftOf t n in
+      shown-step primed n (omega arith)
+      ∙ ap (λ rs. spelled (nodeFrom primed n .operator) (nodeFrom primed n .b) ∷ rs)
+      (operands-shown (shapeOf (operatorOf t n)) (operatorOf t n) (primed && variableKind t b) b (operandNode n b) (operandNode n (rightOf t n)) (shownRows t primed))
+      ∙ ap (λ d. rowsBy d (shownRows t primed (d .left)) (shownRows t primed (d .right))) (node-from primed n (λ e. omega arith))
+
+  pub operands-fall : (primed : Bool) (n : ℕ) → (nodeOf t primed n .operands ≡ 0 → ⊥) → (nodeOf t primed n .left < n) × (nodeOf t primed n .right < n)
+  operands-fall primed zero f = absurd (f (ap (λ d. d .operands) (sym (node-none primed 0 refl))))
+  operands-fall primed (suc m) f =
+      let n = suc m in
+      let b = leftOf t n in
+      subst (λ d. (d .left < n) × (d .right < n)) (node-from primed n (λ e. omega arith))
+      (operands-below (shapeOf (operatorOf t n)) (operatorOf t n) (primed && variableKind t b) b (operandNode n b) (operandNode n (rightOf t n)) n (operand-falls n b (omega arith))
+      (operand-falls n (rightOf t n) (omega arith)))
+
+-- Node n, read as d: its rows, by how many operands it has.
+module _ (t : Table) (primed : Bool) (n : ℕ) (d : Node) (e : d ≡ nodeOf t primed n) where
+  shown-read : (k : ℕ) → d .operands ≡ k
+      → spelled (d .operator) (d .b) ∷ operandRows k (shownRows t primed (d .left)) (shownRows t primed (d .right)) ≡ shownRows t primed n
+  shown-read k q =
+      ap (λ k. spelled (d .operator) (d .b) ∷ operandRows k (shownRows t primed (d .left)) (shownRows t primed (d .right))) (sym q)
+      ∙ ap (λ d. rowsBy d (shownRows t primed (d .left)) (shownRows t primed (d .right))) e
+      ∙ sym (shown-node t primed n)
+
+  pub shown-none : d .operands ≡ 0 → spelled (d .operator) (d .b) ∷ [] ≡ shownRows t primed n
+  shown-none q = shown-read 0 q
+
+  pub shown-one : d .operands ≡ 1 → (spelled (d .operator) (d .b) ∷ []) ++ shownRows t primed (d .left) ≡ shownRows t primed n
+  shown-one q = shown-read 1 q
+
+  pub shown-two : (d .operands ≡ 0 → ⊥) → (d .operands ≡ 1 → ⊥)
+      → ((spelled (d .operator) (d .b) ∷ []) ++ shownRows t primed (d .left)) ++ shownRows t primed (d .right) ≡ shownRows t primed n
+  shown-two f g = go (d .operands) refl
+    where
+      go : (k : ℕ) → d .operands ≡ k
+          → spelled (d .operator) (d .b) ∷ (shownRows t primed (d .left) ++ shownRows t primed (d .right)) ≡ shownRows t primed n
+      go zero q = absurd (f q)
+      go (suc zero) q = absurd (g q)
+      go (suc (suc k)) q = shown-read (suc (suc k)) q
+
+  pub left-falls : (d .operands ≡ 0 → ⊥) → d .left < n
+  left-falls f = subst (λ d. (d .operands ≡ 0 → ⊥) → d .left < n) (sym e) (λ f. operands-fall t primed n f .0) f
+
+  pub right-falls : (d .operands ≡ 0 → ⊥) → d .right < n
+  right-falls f = subst (λ d. (d .operands ≡ 0 → ⊥) → d .right < n) (sym e) (λ f. operands-fall t primed n f .1) f

@@ -1,0 +1,77 @@
+-- 01, Sequents: "An entry spelled out is rows 83 in prefix order", as the code counts and writes them: "Rows are written one after another into what is left of
+-- the buffer."
+use Prim.Native.Nat.{ℕ, zero, suc, _+_, _*_, _/_, _≤_, _^_}
+use mathlib.Core.Path.{_≡_}
+use mathlib.Core.Bool.{Bool, true, false, _&&_, _||_}
+use mathlib.Core.List.{List, [], _∷_, _++_}
+use lib.Dec.{eqb, ltb}
+use lib.ListN.{length}
+use Rattle.lists.specs.Choice.{pick}
+use Rattle.lists.specs.Over.{over}
+use Rattle.row.specs.declared.Row.{Row}
+use Rattle.formula.specs.Tree.{Tree}
+use Rattle.formula.specs.AfterValues.{atAfter}
+use Rattle.formula.specs.WellDefined.{wellDefined}
+use Rattle.table.specs.Table.{Table, kindOf, operatorOf, leftOf, rightOf}
+use Rattle.machine.specs.Described.{earlier, treeOf, actionOf, machineOf}
+use Rattle.sequent.specs.Entry.{variable, actionTree}
+use Rattle.rules.specs.Sorts.{Shape, value, anIdentifier, aVariable, none, one, two, unknown, shapeOf}
+use Rattle.service.specs.Printed.{rowsBytes}
+use Rattle.service.specs.Spelled.{spelled, spellTree}
+use Rattle.spell.specs.declared.Node.{Node}
+
+-- refusal 15, room: a count above every buffer's room is as good as the cap, since a buffer has fewer than 2^64 bytes
+abbrev pub cap : ℕ
+cap = 2 ^ 60
+
+unfoldable pub capped : ℕ → ℕ
+capped n = pick (ltb n cap) n cap
+
+-- "into what is left of the buffer": where that starts after some rows; at the end where they have no room
+unfoldable pub restStart : ℕ → ℕ → ℕ
+restStart size rows = pick (ltb (size / 38) rows) size (38 * rows)
+
+-- rows were counted and, where the buffer has room for them, written into its front
+pub record Spelled (rs : List Row) (r : ℕ) (entry exit : List ℕ) : Type 0 where
+  pub counted : r ≡ capped (length rs)
+  pub written : 38 * length rs ≤ length entry → exit ≡ over (rowsBytes rs) entry
+
+-- "(operator, b of operators 1 to 3, 0)": a node without operands
+abbrev pub leaf : ℕ → ℕ → Node
+leaf operator b = record { operator = operator; b = b; operands = 0; left = 0; right = 0 }
+
+-- a node by its operator's shape: an identifier's row is operator 3 where it is a variable at its after value
+abbrev pub nodeBy : Shape → ℕ → Bool → ℕ → ℕ → ℕ → Node
+nodeBy value o primed b l r = leaf o b
+nodeBy anIdentifier o primed b l r = leaf (pick primed 3 2) b
+nodeBy aVariable o primed b l r = leaf o b
+nodeBy none o primed b l r = leaf o 0
+nodeBy one o primed b l r = record { operator = o; b = 0; operands = 1; left = l; right = 0 }
+nodeBy two o primed b l r = record { operator = o; b = 0; operands = 2; left = l; right = r }
+nodeBy unknown o primed b l r = leaf 31 0
+
+-- an operand that is no earlier node counts as ⊥, as node 0 does
+abbrev pub operandNode : ℕ → ℕ → ℕ
+operandNode n x = pick (earlier n x) x 0
+
+module _ (t : Table) where
+  -- 01: "kind: .. 2 abstract variable, 3 concrete variable"
+  abbrev pub variableKind : ℕ → Bool
+  variableKind x = eqb (kindOf t x) 2 || eqb (kindOf t x) 3
+
+  -- what node n is spelled by: the operator and b of its row, how many operands follow it, and their nodes; primed is form 2
+  unfoldable pub nodeOf : Bool → ℕ → Node
+  nodeOf primed n =
+      pick (eqb n 0) (leaf 31 0)
+      (nodeBy (shapeOf (operatorOf t n)) (operatorOf t n) (primed && variableKind (leftOf t n)) (leftOf t n) (operandNode n (leftOf t n)) (operandNode n (rightOf t n)))
+
+  -- "1 node as written; 2 node with every variable at its after value", the latter where primed
+  abbrev pub shownTree : Bool → ℕ → Tree
+  shownTree primed n = pick primed (atAfter (variable (machineOf t)) (treeOf t n)) (treeOf t n)
+
+  unfoldable pub shownRows : Bool → ℕ → List Row
+  shownRows primed n = spellTree (shownTree primed n)
+
+  -- "3 WD of a node"
+  unfoldable pub definedRows : ℕ → List Row
+  definedRows n = spellTree (wellDefined (treeOf t n))

@@ -1,0 +1,154 @@
+// 01, Sequents: an entry spelled out as rows 83. Each function gives the count of its rows, capped, and writes them into the front of the buffer where they
+// have room; with an empty buffer it only counts.
+use row::Row;
+use rule_references::Shape;
+use rule_references::find_operator;
+use table::Table;
+use table::identifier_field;
+use table::node_field;
+ghost use mathlib.Core.Path.{_≡_};
+ghost use Prim.Native.Nat.{_+_, _≤_};
+ghost use mathlib.Core.List.{[], _∷_};
+ghost use Rattle.lists.specs.Choice.{pick};
+ghost use Rattle.table.specs.Table.{tableOf};
+ghost use Rattle.table.specs.Counts.{countsOf};
+ghost use Rattle.rule_references.specs.Operator.{meantShape};
+ghost use Rattle.service.specs.Spelled.{spelled};
+ghost use Rattle.spell.specs.Spell.{capped, restStart, Spelled, leaf, nodeBy, operandNode, variableKind, nodeOf};
+
+// More rows than any buffer has room for.
+const ROWS_CAP: u64 = 1152921504606846976;
+
+// What a node is spelled by: the operator and b of its row, how many operands follow it, and their nodes.
+struct Node {
+    operator: u64,
+    b: u64,
+    operands: u64,
+    left: u64,
+    right: u64,
+}
+
+// The capped count of some rows and then others.
+fn add_rows(rows: u64, more: u64) -> u64
+    ensures { λ r. ⌜ r ≡ capped (rows + more) ⌝ }
+{
+    if ROWS_CAP <= rows {
+        return ROWS_CAP;
+    }
+    if ROWS_CAP - rows <= more {
+        return ROWS_CAP;
+    }
+    rows + more
+}
+
+// Where what is left of a buffer starts after some rows: at its end where they have no room.
+fn rest_start(size: usize, rows: u64) -> usize
+    ensures { λ r. ⌜ r ≡ restStart size rows ⌝ }
+    ensures { λ r. ⌜ r ≤ size ⌝ }
+{
+    if ((size / Row::LENGTH) as u64) < rows {
+        return size;
+    }
+    Row::LENGTH * rows as usize
+}
+
+// One row 83 into the front of the buffer.
+fn row_83(out: &mut [u8], operator: u64, b: u64) -> u64
+    ensures { λ r. ⌜ Spelled (spelled operator b ∷ []) r (now (out .entry)) (now (out .exit)) ⌝ }
+{
+    if Row::LENGTH <= out.len() {
+        let row = Row {
+            tag: 83,
+            a: operator,
+            b,
+            c: 0,
+        };
+        row.write(out);
+    }
+    1
+}
+
+// Whether an identifier is a variable of one of the machines.
+fn is_variable(words: &[u64], table: Table, x: u64) -> bool
+    requires { ⌜ table ≡ countsOf (tableOf (now words)) ⌝ }
+    ensures { λ r. ⌜ r ≡ variableKind (tableOf (now (words .entry))) x ⌝ }
+{
+    let kind = identifier_field(words, table, x, Table::KIND);
+    (kind == 2) | (kind == 3)
+}
+
+// An operand of the node n, or 0 where it is no earlier node.
+fn operand(n: u64, x: u64) -> u64
+    ensures { λ r. ⌜ r ≡ operandNode n x ⌝ }
+{
+    if (0 < x) & (x < n) {
+        return x;
+    }
+    0
+}
+
+// A node without operands.
+fn leaf(operator: u64, b: u64) -> Node
+    ensures { λ r. ⌜ r ≡ leaf operator b ⌝ }
+{
+    Node {
+        operator,
+        b,
+        operands: 0,
+        left: 0,
+        right: 0,
+    }
+}
+
+// The operator of an identifier's row, its after value where primed.
+fn identifier_operator(primed: bool) -> u64
+    ensures { λ r. ⌜ r ≡ pick primed 3 2 ⌝ }
+{
+    if primed { 3 } else { 2 }
+}
+
+// A node by its operator's shape.
+fn shaped_node(shape: Shape, operator: u64, primed: bool, b: u64, left: u64, right: u64) -> Node
+    ensures { λ r. ⌜ r ≡ nodeBy (meantShape shape) operator primed b left right ⌝ }
+{
+    match shape {
+        Shape::Value => leaf(operator, b),
+        Shape::Identifier => leaf(identifier_operator(primed), b),
+        Shape::Variable => leaf(operator, b),
+        Shape::NoOperand => leaf(operator, 0),
+        Shape::OneOperand => Node {
+            operator,
+            b: 0,
+            operands: 1,
+            left,
+            right: 0,
+        },
+        Shape::TwoOperands => Node {
+            operator,
+            b: 0,
+            operands: 2,
+            left,
+            right,
+        },
+        Shape::Unknown => leaf(31, 0),
+    }
+}
+
+// What node n is spelled by.
+fn node_at(words: &[u64], table: Table, n: u64, primed: bool) -> Node
+    requires { ⌜ table ≡ countsOf (tableOf (now words)) ⌝ }
+    ensures { λ r. ⌜ r ≡ nodeOf (tableOf (now (words .entry))) primed n ⌝ }
+{
+    if n == 0 {
+        return leaf(31, 0);
+    }
+    let operator = node_field(words, table, n, Table::OPERATOR);
+    let b = node_field(words, table, n, Table::LEFT);
+    let c = node_field(words, table, n, Table::RIGHT);
+    let found = find_operator(operator);
+    let shape = found.shape;
+    let variable = is_variable(words, table, b);
+    let left = operand(n, b);
+    let right = operand(n, c);
+    shaped_node(shape, operator, primed & variable, b, left, right)
+}
