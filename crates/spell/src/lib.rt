@@ -14,7 +14,7 @@ ghost use Rattle.table.specs.Table.{tableOf};
 ghost use Rattle.table.specs.Counts.{countsOf};
 ghost use Rattle.rule_references.specs.Operator.{meantShape};
 ghost use Rattle.service.specs.Spelled.{spelled};
-ghost use Rattle.spell.specs.Spell.{capped, restStart, Spelled, leaf, nodeBy, operandNode, variableKind, nodeOf};
+ghost use Rattle.spell.specs.Spell.{capped, restStart, Spelled, leaf, nodeBy, operandNode, variableKind, nodeOf, shownRows};
 
 // More rows than any buffer has room for.
 const ROWS_CAP: u64 = 1152921504606846976;
@@ -151,4 +151,49 @@ fn node_at(words: &[u64], table: Table, n: u64, primed: bool) -> Node
     let left = operand(n, b);
     let right = operand(n, c);
     shaped_node(shape, operator, primed & variable, b, left, right)
+}
+
+// The tree of node n, an expression: its row, then its operands' rows. A predicate is handed on.
+pub fn spell_expression(words: &[u64], table: Table, n: u64, primed: bool, out: &mut [u8]) -> u64
+    requires { ⌜ table ≡ countsOf (tableOf (now words)) ⌝ }
+    ensures { λ r. ⌜ Spelled (shownRows (tableOf (now (words .entry))) primed n) r (now (out .entry)) (now (out .exit)) ⌝ }
+{
+    let node = node_at(words, table, n, primed);
+    if 15 < node.operator {
+        return spell_predicate(words, table, n, primed, out);
+    }
+    let head = row_83(out, node.operator, node.b);
+    if node.operands == 0 {
+        return head;
+    }
+    let left_at = rest_start(out.len(), head);
+    let left = spell_expression(words, table, node.left, primed, &mut out[left_at..]);
+    let rows = add_rows(head, left);
+    if node.operands == 1 {
+        return rows;
+    }
+    let right_at = rest_start(out.len(), rows);
+    let right = spell_expression(words, table, node.right, primed, &mut out[right_at..]);
+    add_rows(rows, right)
+}
+
+// The tree of node n, a predicate: its row, then its operands' rows. Operands may be expressions, which hand predicates on.
+pub fn spell_predicate(words: &[u64], table: Table, n: u64, primed: bool, out: &mut [u8]) -> u64
+    requires { ⌜ table ≡ countsOf (tableOf (now words)) ⌝ }
+    ensures { λ r. ⌜ Spelled (shownRows (tableOf (now (words .entry))) primed n) r (now (out .entry)) (now (out .exit)) ⌝ }
+{
+    let node = node_at(words, table, n, primed);
+    let head = row_83(out, node.operator, node.b);
+    if node.operands == 0 {
+        return head;
+    }
+    let left_at = rest_start(out.len(), head);
+    let left = spell_expression(words, table, node.left, primed, &mut out[left_at..]);
+    let rows = add_rows(head, left);
+    if node.operands == 1 {
+        return rows;
+    }
+    let right_at = rest_start(out.len(), rows);
+    let right = spell_expression(words, table, node.right, primed, &mut out[right_at..]);
+    add_rows(rows, right)
 }
