@@ -1,3 +1,4 @@
 pub mod Capped
 pub mod Written
 pub mod Nodes
+pub mod Defined

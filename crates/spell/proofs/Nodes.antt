@@ -89,17 +89,17 @@ operandRows (suc (suc k)) l r = l ++ r
 abbrev rowsBy : Node → List Row → List Row → List Row
 rowsBy d l r = spelled (d .operator) (d .b) ∷ operandRows (d .operands) l r
 
--- operands of a shape that has them
-operands-shown : (s : Shape) (o : ℕ) (primed : Bool) (b x y : ℕ) (rows : ℕ → List Row)
-    → operandRows (nodeBy s o primed b x y .operands) (rows x) (rows y)
-    ≡ operandRows (nodeBy s o primed b x y .operands) (rows (nodeBy s o primed b x y .left)) (rows (nodeBy s o primed b x y .right))
-operands-shown value o primed b x y rows = refl
-operands-shown anIdentifier o primed b x y rows = refl
-operands-shown aVariable o primed b x y rows = refl
-operands-shown none o primed b x y rows = refl
-operands-shown one o primed b x y rows = refl
-operands-shown two o primed b x y rows = refl
-operands-shown unknown o primed b x y rows = refl
+-- what depends only on the operands that a node has
+pub operands-same : (s : Shape) (o : ℕ) (primed : Bool) (b x y : ℕ) (f : ℕ → ℕ → ℕ → List Row)
+    → ((x y x′ y′ : ℕ) → f 0 x y ≡ f 0 x′ y′) → ((x y y′ : ℕ) → f 1 x y ≡ f 1 x y′)
+    → f (nodeBy s o primed b x y .operands) x y ≡ f (nodeBy s o primed b x y .operands) (nodeBy s o primed b x y .left) (nodeBy s o primed b x y .right)
+operands-same value o primed b x y f g h = g x y 0 0
+operands-same anIdentifier o primed b x y f g h = g x y 0 0
+operands-same aVariable o primed b x y f g h = g x y 0 0
+operands-same none o primed b x y f g h = g x y 0 0
+operands-same one o primed b x y f g h = h x y 0
+operands-same two o primed b x y f g h = refl
+operands-same unknown o primed b x y f g h = g x y 0 0
 
 operands-below : (s : Shape) (o : ℕ) (primed : Bool) (b x y n : ℕ) → x < n → y < n → (nodeBy s o primed b x y .left < n) × (nodeBy s o primed b x y .right < n)
 operands-below value o primed b x y n f g = (omega arith, omega arith)
@@ -224,7 +224,8 @@ module _ (t : Table) where
       let b = leftOf t n in
       shown-step primed n (omega arith)
       ∙ ap (λ rs. spelled (nodeFrom primed n .operator) (nodeFrom primed n .b) ∷ rs)
-      (operands-shown (shapeOf (operatorOf t n)) (operatorOf t n) (primed && variableKind t b) b (operandNode n b) (operandNode n (rightOf t n)) (shownRows t primed))
+      (operands-same (shapeOf (operatorOf t n)) (operatorOf t n) (primed && variableKind t b) b (operandNode n b) (operandNode n (rightOf t n))
+      (λ k x y. operandRows k (shownRows t primed x) (shownRows t primed y)) (λ x y x′ y′. refl) (λ x y y′. refl))
       ∙ ap (λ d. rowsBy d (shownRows t primed (d .left)) (shownRows t primed (d .right))) (node-from primed n (λ e. omega arith))
 
   pub operands-fall : (primed : Bool) (n : ℕ) → (nodeOf t primed n .operands ≡ 0 → ⊥) → (nodeOf t primed n .left < n) × (nodeOf t primed n .right < n)

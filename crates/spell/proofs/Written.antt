@@ -7,7 +7,7 @@ use lib.ListN.{length, take, drop, length-append, length-take, length-drop}
 use borrow.Rule.Slice.PartMut.{putMid}
 use Rattle.lists.specs.Over.{over}
 use Rattle.lists.proofs.Flat.{flat-join}
-use Rattle.lists.proofs.Over.{over-length, over-tail}
+use Rattle.lists.proofs.Over.{over-none, over-tail}
 use Rattle.row.specs.declared.Row.{Row}
 use Rattle.row.specs.Row.{rowBytes, width}
 use Rattle.row.proofs.Form.{row-length}
@@ -52,3 +52,8 @@ spelled-join {rs} {ss} {r} {s} {sum} {at} {entry} {mid} {part} small same h plac
 -- the same rows by another name
 pub spelled-as : {rs ss : List Row} {r : ℕ} {entry exit : List ℕ} → rs ≡ ss → Spelled rs r entry exit → Spelled ss r entry exit
 spelled-as {r} {entry} {exit} e h = subst (λ rs. Spelled rs r entry exit) e h
+
+-- no rows
+pub spelled-none : (entry : List ℕ) → Spelled [] 0 entry entry
+unfolding rowsBytes flatMap
+spelled-none entry = record { counted = sym (capped-below 0 (omega arith)); written = λ h. over-none entry }

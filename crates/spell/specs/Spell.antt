@@ -54,6 +54,21 @@ nodeBy unknown o primed b l r = leaf 31 0
 abbrev pub operandNode : ℕ → ℕ → ℕ
 operandNode n x = pick (earlier n x) x 0
 
+-- 01, Well-definedness, of a pair in prefix order: the rows before WD(a), those between it and WD(b), given a's, and those after it, given b's
+-- "÷ and mod: (WD(a) ∧ WD(b)) ∧ ¬(b = 0)"
+abbrev pub divides : ℕ → Bool
+divides operator = eqb operator 13 || eqb operator 14
+
+unfoldable pub openingRows : ℕ → List Row
+openingRows operator = pick (divides operator) (spelled 33 0 ∷ spelled 33 0 ∷ []) (spelled 33 0 ∷ [])
+
+-- "P ∧ Q and P ⇒ Q: WD(P) ∧ (P ⇒ WD(Q)); P ∨ Q: WD(P) ∧ (P ∨ WD(Q))"
+unfoldable pub guardRows : ℕ → List Row → List Row
+guardRows operator left = pick (eqb operator 33 || eqb operator 35) (spelled 35 0 ∷ left) (pick (eqb operator 34) (spelled 34 0 ∷ left) [])
+
+unfoldable pub closingRows : ℕ → List Row → List Row
+closingRows operator right = pick (divides operator) (spelled 32 0 ∷ ((spelled 20 0 ∷ right) ++ (spelled 1 0 ∷ []))) []
+
 module _ (t : Table) where
   -- 01: "kind: .. 2 abstract variable, 3 concrete variable"
   abbrev pub variableKind : ℕ → Bool

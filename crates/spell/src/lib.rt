@@ -8,13 +8,14 @@ use table::identifier_field;
 use table::node_field;
 ghost use mathlib.Core.Path.{_≡_};
 ghost use Prim.Native.Nat.{_+_, _≤_};
-ghost use mathlib.Core.List.{[], _∷_};
+ghost use mathlib.Core.Bool.{true, false};
+ghost use mathlib.Core.List.{[], _∷_, _++_};
 ghost use Rattle.lists.specs.Choice.{pick};
 ghost use Rattle.table.specs.Table.{tableOf};
 ghost use Rattle.table.specs.Counts.{countsOf};
 ghost use Rattle.rule_references.specs.Operator.{meantShape};
 ghost use Rattle.service.specs.Spelled.{spelled};
-ghost use Rattle.spell.specs.Spell.{capped, restStart, Spelled, leaf, nodeBy, operandNode, variableKind, nodeOf, shownRows};
+ghost use Rattle.spell.specs.Spell.{capped, restStart, Spelled, leaf, nodeBy, operandNode, variableKind, nodeOf, shownRows, definedRows, openingRows, guardRows, closingRows};
 
 // More rows than any buffer has room for.
 const ROWS_CAP: u64 = 1152921504606846976;
@@ -196,4 +197,108 @@ pub fn spell_predicate(words: &[u64], table: Table, n: u64, primed: bool, out: &
     let right_at = rest_start(out.len(), rows);
     let right = spell_expression(words, table, node.right, primed, &mut out[right_at..]);
     add_rows(rows, right)
+}
+
+// A row, then the tree of node n.
+fn spell_under(
+    words: &[u64],
+    table: Table,
+    operator: u64,
+    b: u64,
+    n: u64,
+    primed: bool,
+    out: &mut [u8],
+) -> u64
+    requires { ⌜ table ≡ countsOf (tableOf (now words)) ⌝ }
+    ensures { λ r. ⌜ Spelled (spelled operator b ∷ shownRows (tableOf (now (words .entry))) primed n) r (now (out .entry)) (now (out .exit)) ⌝ }
+{
+    let head = row_83(out, operator, b);
+    let at = rest_start(out.len(), head);
+    let tree = spell_expression(words, table, n, primed, &mut out[at..]);
+    add_rows(head, tree)
+}
+
+// What stands before WD(a) in the WD of a pair: ∧, and one more for ÷ and mod.
+fn spell_opening(operator: u64, out: &mut [u8]) -> u64
+    ensures { λ r. ⌜ Spelled (openingRows operator) r (now (out .entry)) (now (out .exit)) ⌝ }
+{
+    let head = row_83(out, 33, 0);
+    if (operator == 13) | (operator == 14) {
+        let at = rest_start(out.len(), head);
+        let second = row_83(&mut out[at..], 33, 0);
+        return add_rows(head, second);
+    }
+    head
+}
+
+// What stands between WD(a) and WD(b): for ∧ and ⇒ that a implies the rest, for ∨ that a or the rest holds.
+fn spell_guard(words: &[u64], table: Table, operator: u64, left: u64, out: &mut [u8]) -> u64
+    requires { ⌜ table ≡ countsOf (tableOf (now words)) ⌝ }
+    ensures { λ r. ⌜ Spelled (guardRows operator (shownRows (tableOf (now (words .entry))) false left)) r (now (out .entry)) (now (out .exit)) ⌝ }
+{
+    if (operator == 33) | (operator == 35) {
+        return spell_under(words, table, 35, 0, left, false, out);
+    }
+    if operator == 34 {
+        return spell_under(words, table, 34, 0, left, false, out);
+    }
+    0
+}
+
+// The equation of node n and the literal 0.
+fn spell_equals_zero(words: &[u64], table: Table, n: u64, out: &mut [u8]) -> u64
+    requires { ⌜ table ≡ countsOf (tableOf (now words)) ⌝ }
+    ensures { λ r. ⌜ Spelled ((spelled 20 0 ∷ shownRows (tableOf (now (words .entry))) false n) ++ (spelled 1 0 ∷ [])) r (now (out .entry)) (now (out .exit)) ⌝ }
+{
+    let equal = spell_under(words, table, 20, 0, n, false, out);
+    let at = rest_start(out.len(), equal);
+    let zero = row_83(&mut out[at..], 1, 0);
+    add_rows(equal, zero)
+}
+
+// What stands after WD(b): for ÷ and mod ¬(b = 0).
+fn spell_closing(words: &[u64], table: Table, operator: u64, right: u64, out: &mut [u8]) -> u64
+    requires { ⌜ table ≡ countsOf (tableOf (now words)) ⌝ }
+    ensures { λ r. ⌜ Spelled (closingRows operator (shownRows (tableOf (now (words .entry))) false right)) r (now (out .entry)) (now (out .exit)) ⌝ }
+{
+    if (operator == 13) | (operator == 14) {
+        let head = row_83(out, 32, 0);
+        let equal_at = rest_start(out.len(), head);
+        let equal = spell_equals_zero(words, table, right, &mut out[equal_at..]);
+        return add_rows(head, equal);
+    }
+    0
+}
+
+// The WD of node n.
+pub fn spell_defined(words: &[u64], table: Table, n: u64, out: &mut [u8]) -> u64
+    requires { ⌜ table ≡ countsOf (tableOf (now words)) ⌝ }
+    ensures { λ r. ⌜ Spelled (definedRows (tableOf (now (words .entry))) n) r (now (out .entry)) (now (out .exit)) ⌝ }
+{
+    let node = node_at(words, table, n, false);
+    if node.operands == 0 {
+        return row_83(out, 30, 0);
+    }
+    if node.operands == 1 {
+        return spell_defined(words, table, node.left, out);
+    }
+    let opening = spell_opening(node.operator, out);
+    let left_at = rest_start(out.len(), opening);
+    let left = spell_defined(words, table, node.left, &mut out[left_at..]);
+    let to_left = add_rows(opening, left);
+    let guard_at = rest_start(out.len(), to_left);
+    let guard = spell_guard(words, table, node.operator, node.left, &mut out[guard_at..]);
+    let to_guard = add_rows(to_left, guard);
+    let right_at = rest_start(out.len(), to_guard);
+    let right = spell_defined(words, table, node.right, &mut out[right_at..]);
+    let to_right = add_rows(to_guard, right);
+    let closing_at = rest_start(out.len(), to_right);
+    let closing = spell_closing(
+        words,
+        table,
+        node.operator,
+        node.right,
+        &mut out[closing_at..],
+    );
+    add_rows(to_right, closing)
 }
