@@ -13,11 +13,13 @@ use Rattle.formula.specs.Tree.{Tree}
 use Rattle.formula.specs.AfterValues.{atAfter}
 use Rattle.formula.specs.WellDefined.{wellDefined}
 use Rattle.table.specs.Table.{Table, kindOf, operatorOf, leftOf, rightOf}
-use Rattle.machine.specs.Described.{earlier, treeOf, actionOf, machineOf}
-use Rattle.sequent.specs.Entry.{variable, actionTree}
+use Rattle.machine.specs.Described.{earlier, treeOf, machineOf}
+use Rattle.sequent.specs.declared.Entry.{Entry as Numbers}
+use Rattle.sequent.specs.Entry.{variable, actionTree, witnessRoot, formula}
+use Rattle.sequent.specs.Numbers.{entryOf}
 use Rattle.rules.specs.Sorts.{Shape, value, anIdentifier, aVariable, none, one, two, unknown, shapeOf}
 use Rattle.service.specs.Printed.{rowsBytes}
-use Rattle.service.specs.Spelled.{spelled, spellTree}
+use Rattle.service.specs.Spelled.{spelled, spellTree, spell}
 use Rattle.spell.specs.declared.Node.{Node}
 
 -- refusal 15, room: a count above every buffer's room is as good as the cap, since a buffer has fewer than 2^64 bytes
@@ -90,3 +92,15 @@ module _ (t : Table) where
   -- "3 WD of a node"
   unfoldable pub definedRows : ℕ → List Row
   definedRows n = spellTree (wellDefined (treeOf t n))
+
+  -- "4 event and variable: the action's equation or predicate, or "after equals before" if unassigned"
+  unfoldable pub movesRows : ℕ → ℕ → List Row
+  movesRows e x = spellTree (actionTree (machineOf t) (machineOf t .action e x) x)
+
+  -- the node of the witness of an event for an identifier
+  unfoldable pub witnessNode : ℕ → ℕ → ℕ
+  witnessNode e x = witnessRoot (machineOf t .witnesses e) x
+
+  -- an entry spelled out
+  unfoldable pub entryRows : Numbers → List Row
+  entryRows entry = spell (formula (machineOf t) (entryOf entry))

@@ -3,9 +3,15 @@
 use row::Row;
 use rule_references::Shape;
 use rule_references::find_operator;
+use scan::Query;
+use scan::find_row;
+use sequent::Entry;
 use table::Table;
+use table::c_at;
 use table::identifier_field;
 use table::node_field;
+use table::size;
+use table::tag_at;
 ghost use mathlib.Core.Path.{_≡_};
 ghost use Prim.Native.Nat.{_+_, _≤_};
 ghost use mathlib.Core.Bool.{true, false};
@@ -15,7 +21,7 @@ ghost use Rattle.table.specs.Table.{tableOf};
 ghost use Rattle.table.specs.Counts.{countsOf};
 ghost use Rattle.rule_references.specs.Operator.{meantShape};
 ghost use Rattle.service.specs.Spelled.{spelled};
-ghost use Rattle.spell.specs.Spell.{capped, restStart, Spelled, leaf, nodeBy, operandNode, variableKind, nodeOf, shownRows, definedRows, openingRows, guardRows, closingRows};
+ghost use Rattle.spell.specs.Spell.{capped, restStart, Spelled, leaf, nodeBy, operandNode, variableKind, nodeOf, shownRows, definedRows, openingRows, guardRows, closingRows, movesRows, witnessNode, entryRows};
 
 // More rows than any buffer has room for.
 const ROWS_CAP: u64 = 1152921504606846976;
@@ -301,4 +307,129 @@ pub fn spell_defined(words: &[u64], table: Table, n: u64, out: &mut [u8]) -> u64
         &mut out[closing_at..],
     );
     add_rows(to_right, closing)
+}
+
+// An equation of two values of x, each by its row's operator: 2 the value, 3 the after value.
+fn spell_equation(x: u64, left: u64, right: u64, out: &mut [u8]) -> u64
+    ensures { λ r. ⌜ Spelled ((spelled 20 0 ∷ spelled left x ∷ []) ++ (spelled right x ∷ [])) r (now (out .entry)) (now (out .exit)) ⌝ }
+{
+    let head = row_83(out, 20, 0);
+    let left_at = rest_start(out.len(), head);
+    let first = row_83(&mut out[left_at..], left, x);
+    let to_left = add_rows(head, first);
+    let right_at = rest_start(out.len(), to_left);
+    let second = row_83(&mut out[right_at..], right, x);
+    add_rows(to_left, second)
+}
+
+// The equation of an action 51: the after value of x and the tree of its root.
+fn spell_becomes_equal(words: &[u64], table: Table, x: u64, root: u64, out: &mut [u8]) -> u64
+    requires { ⌜ table ≡ countsOf (tableOf (now words)) ⌝ }
+    ensures { λ r. ⌜ Spelled (spelled 20 0 ∷ spelled 3 x ∷ shownRows (tableOf (now (words .entry))) false root) r (now (out .entry)) (now (out .exit)) ⌝ }
+{
+    let head = row_83(out, 20, 0);
+    let at = rest_start(out.len(), head);
+    let sides = spell_under(words, table, 3, x, root, false, &mut out[at..]);
+    add_rows(head, sides)
+}
+
+// Form 4: the action of the event e for the variable x.
+fn spell_moves(words: &[u64], table: Table, e: u64, x: u64, out: &mut [u8]) -> u64
+    requires { ⌜ table ≡ countsOf (tableOf (now words)) ⌝ }
+    ensures { λ r. ⌜ Spelled (movesRows (tableOf (now (words .entry))) e x) r (now (out .entry)) (now (out .exit)) ⌝ }
+{
+    let query = Query::Assigns {
+        event: e,
+        target: x,
+    };
+    let i = find_row(words, query);
+    if size(words) <= i {
+        return spell_equation(x, 3, 2, out);
+    }
+    let root = c_at(words, i);
+    if tag_at(words, i) == 51 {
+        return spell_becomes_equal(words, table, x, root, out);
+    }
+    spell_expression(words, table, root, false, out)
+}
+
+// Form 5: some after value of x meets the action.
+fn spell_feasible(words: &[u64], table: Table, e: u64, x: u64, out: &mut [u8]) -> u64
+    requires { ⌜ table ≡ countsOf (tableOf (now words)) ⌝ }
+    ensures { λ r. ⌜ Spelled (spelled 41 x ∷ movesRows (tableOf (now (words .entry))) e x) r (now (out .entry)) (now (out .exit)) ⌝ }
+{
+    let head = row_83(out, 41, x);
+    let at = rest_start(out.len(), head);
+    let action = spell_moves(words, table, e, x, &mut out[at..]);
+    add_rows(head, action)
+}
+
+// The root of the witness of the event e for x; 0 where there is none, as the columns past the last row are.
+fn witness_root(words: &[u64], e: u64, x: u64) -> u64
+    ensures { λ r. ⌜ r ≡ witnessNode (tableOf (now (words .entry))) e x ⌝ }
+{
+    let query = Query::Witnesses {
+        event: e,
+        target: x,
+    };
+    c_at(words, find_row(words, query))
+}
+
+// "some value of", or "some after value of" a variable.
+fn some_operator(variable: bool) -> u64
+    ensures { λ r. ⌜ r ≡ pick variable 41 40 ⌝ }
+{
+    if variable { 41 } else { 40 }
+}
+
+// Form 6: some value of x, or some after value of a variable, meets the witness.
+fn spell_witnessed(words: &[u64], table: Table, e: u64, x: u64, out: &mut [u8]) -> u64
+    requires { ⌜ table ≡ countsOf (tableOf (now words)) ⌝ }
+    ensures { λ r. ⌜ Spelled (spelled (pick (variableKind (tableOf (now (words .entry))) x) 41 40) x ∷ shownRows (tableOf (now (words .entry))) false (witnessNode (tableOf (now (words .entry))) e x)) r (now (out .entry)) (now (out .exit)) ⌝ }
+{
+    let operator = some_operator(is_variable(words, table, x));
+    let root = witness_root(words, e, x);
+    spell_under(words, table, operator, x, root, false, out)
+}
+
+// Form 7: 0 ≤ variant.
+fn spell_natural(words: &[u64], table: Table, root: u64, out: &mut [u8]) -> u64
+    requires { ⌜ table ≡ countsOf (tableOf (now words)) ⌝ }
+    ensures { λ r. ⌜ Spelled (spelled 22 0 ∷ spelled 1 0 ∷ shownRows (tableOf (now (words .entry))) false root) r (now (out .entry)) (now (out .exit)) ⌝ }
+{
+    let head = row_83(out, 22, 0);
+    let at = rest_start(out.len(), head);
+    let sides = spell_under(words, table, 1, 0, root, false, &mut out[at..]);
+    add_rows(head, sides)
+}
+
+// Form 8: variant after < variant.
+fn spell_decreases(words: &[u64], table: Table, root: u64, out: &mut [u8]) -> u64
+    requires { ⌜ table ≡ countsOf (tableOf (now words)) ⌝ }
+    ensures { λ r. ⌜ Spelled ((spelled 21 0 ∷ shownRows (tableOf (now (words .entry))) true root) ++ shownRows (tableOf (now (words .entry))) false root) r (now (out .entry)) (now (out .exit)) ⌝ }
+{
+    let after = spell_under(words, table, 21, 0, root, true, out);
+    let at = rest_start(out.len(), after);
+    let before = spell_expression(words, table, root, false, &mut out[at..]);
+    add_rows(after, before)
+}
+
+// An entry spelled out: the count of its rows, capped, and the rows where the buffer has room for them.
+pub fn spell(words: &[u64], table: Table, entry: Entry, out: &mut [u8]) -> u64
+    requires { ⌜ table ≡ countsOf (tableOf (now words)) ⌝ }
+    ensures { λ r. ⌜ Spelled (entryRows (tableOf (now (words .entry))) entry) r (now (out .entry)) (now (out .exit)) ⌝ }
+{
+    let form = entry.form;
+    let first = entry.first;
+    let second = entry.second;
+    match form {
+        2 => spell_expression(words, table, first, true, out),
+        3 => spell_defined(words, table, first, out),
+        4 => spell_moves(words, table, first, second, out),
+        5 => spell_feasible(words, table, first, second, out),
+        6 => spell_witnessed(words, table, first, second, out),
+        7 => spell_natural(words, table, first, out),
+        8 => spell_decreases(words, table, first, out),
+        _ => spell_expression(words, table, first, false, out),
+    }
 }
