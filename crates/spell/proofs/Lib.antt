@@ -5,3 +5,4 @@ pub mod Defined
 pub mod Moves
 pub mod Witnesses
 pub mod Entries
+pub mod Room
