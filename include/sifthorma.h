@@ -1,0 +1,86 @@
+/* Sifthorma: the sequents of an Event-B machine and its refinement.
+ *
+ * A table is rows of 38 bytes: a tag in 4 columns, three numbers in 11 columns each, byte 10 (docs/GUIDE.md).
+ * Link with libsifthorma.a, which `rt staticlib sifthorma` writes to target/staticlib/. It is for x86-64.
+ *
+ * Replies. Every function returns 0, or the number of a refusal, and sets *value in either case:
+ *
+ *   return   *value                      meaning
+ *   0        see each function           the reply
+ *   1        0                           frame: over 65,536 bytes, or not whole rows of 38
+ *   2        row                         column: the row isn't in the row form
+ *   3        row                         tag: unknown, lower than the one before it, or a column that the tag doesn't use isn't 0
+ *   4        row                         full: one row more than its limit
+ *   5        row                         event: bad machine, class or refined event; machines or initialisations out of order
+ *   6        row                         identifier: bad kind, type or owning event
+ *   7        row                         reference: unknown operator, unused node column not 0, or a number that names nothing fitting
+ *   8        row                         sort: an operand or a root of the wrong sort
+ *   9        row of the node             use: a node that isn't used exactly once
+ *   10       row that names the root     sight: the formula mentions what it may not
+ *   11       row                         twice: a second action or witness for one target
+ *   12       0                           missing: an initialisation, an initial action, a witness, or variant and convergent events without each other
+ *   13       0                           sequent: k isn't from 1 to the count of sequents
+ *   14       0                           entry: j isn't from 1 to the number of the sequent's entries
+ *   15       0                           room: the buffer is shorter than the rows
+ *
+ * Rows are counted from 1. Checks run in the order of their numbers, each over the whole table, and the first row that
+ * offends is named. Every input gets a reply; none is too damaged.
+ *
+ * Buffers. On a refusal no byte of `out` changes. On 0 the rows stand at the start of `out`, and every byte past them keeps
+ * its value.
+ *
+ * Pointers. No pointer may be null, also where its length is 0: any other pointer then does (such as the address of a
+ * variable), and nothing is read or written through it. `table` points to table_length readable bytes, `out` to out_length
+ * writable ones, `value` to an aligned uint64_t. The three don't overlap. No length is above PTRDIFF_MAX.
+ *
+ * Lifetimes. Nothing is kept after the call: no pointer, no table, no state. Nothing is allocated. Calls from several threads
+ * don't meet, as long as their buffers don't.
+ */
+#ifndef SIFTHORMA_H
+#define SIFTHORMA_H
+
+#include <stddef.h>
+#include <stdint.h>
+
+#ifdef __cplusplus
+extern "C" {
+#endif
+
+/* The bytes of a row: a buffer for n rows has n * SIFTHORMA_ROW bytes. */
+#define SIFTHORMA_ROW 38
+
+/* The refusals, by the numbers that the functions return. */
+enum {
+    SIFTHORMA_FRAME = 1,
+    SIFTHORMA_COLUMN = 2,
+    SIFTHORMA_TAG = 3,
+    SIFTHORMA_FULL = 4,
+    SIFTHORMA_EVENT = 5,
+    SIFTHORMA_IDENTIFIER = 6,
+    SIFTHORMA_REFERENCE = 7,
+    SIFTHORMA_SORT = 8,
+    SIFTHORMA_USE = 9,
+    SIFTHORMA_SIGHT = 10,
+    SIFTHORMA_TWICE = 11,
+    SIFTHORMA_MISSING = 12,
+    SIFTHORMA_SEQUENT = 13,
+    SIFTHORMA_ENTRY = 14,
+    SIFTHORMA_ROOM = 15
+};
+
+/* Checks the table. 0: it is accepted, and *value is the count of its sequents. Refusals 1 to 12. */
+uint64_t sifthorma_check(const uint8_t *table, size_t table_length, uint64_t *value);
+
+/* Writes sequent k, counted from 1: a row 80 (kind, event or 0, item), rows 81 (hypotheses), a row 82 (goal).
+ * 0: *value is the number of rows written. Refusals 1 to 13 and 15. A sequent has at most 178 rows. */
+uint64_t sifthorma_write_sequent(const uint8_t *table, size_t table_length, uint64_t k, uint8_t *out, size_t out_length, uint64_t *value);
+
+/* Spells entry j of sequent k, both counted from 1: the hypotheses in the order of the rows 81, then the goal. Writes rows 83
+ * (operator, identifier or literal or 0, 0) in prefix order. 0: *value is the number of rows written. Refusals 1 to 15. */
+uint64_t sifthorma_spell_entry(const uint8_t *table, size_t table_length, uint64_t k, uint64_t j, uint8_t *out, size_t out_length, uint64_t *value);
+
+#ifdef __cplusplus
+}
+#endif
+
+#endif
