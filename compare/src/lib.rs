@@ -4,6 +4,7 @@ pub mod checks;
 pub mod evaluate;
 pub mod formula;
 pub mod generate;
+pub mod refute;
 pub mod rows;
 pub mod sequents;
 pub mod services;
