@@ -33,15 +33,26 @@ pub const ROUND: u64 = 50;
 /// The case of a seed: 15 are aimed at one refusal each, 12 damaged anyhow, 23 accepted.
 pub fn case(seed: u64) -> Case {
     let mut random = Random::new(seed);
+    let table = seeded(seed, &mut random);
+    let refusal = match seed % ROUND {
+        slot @ 12..=14 => slot as i32 + 1,
+        _ => 0,
+    };
+    called(table, refusal, &mut random)
+}
+
+/// The table of a seed's case alone.
+pub fn table(seed: u64) -> Vec<u8> {
+    seeded(seed, &mut Random::new(seed))
+}
+
+fn seeded(seed: u64, random: &mut Random) -> Vec<u8> {
     let slot = (seed % ROUND) as i32;
     match slot {
-        0..=11 => called(refused(slot + FRAME, &mut random), 0, &mut random),
-        12..=14 => called(with_sequents(&mut random), slot + 1, &mut random),
-        15..=26 => {
-            let table = wild(&accepted_draft(&mut random), &mut random);
-            called(table, 0, &mut random)
-        }
-        _ => called(accepted(&mut random), 0, &mut random),
+        0..=11 => refused(slot + FRAME, random),
+        12..=14 => with_sequents(random),
+        15..=26 => wild(&accepted_draft(random), random),
+        _ => accepted(random),
     }
 }
 
@@ -79,7 +90,7 @@ fn with_sequents(random: &mut Random) -> Vec<u8> {
 fn refused(number: i32, random: &mut Random) -> Vec<u8> {
     for _ in 0..200 {
         let table = aimed(number, &accepted_draft(random), random);
-        if check(&table).is_err_and(|refusal| refusal.number == number) {
+        if accept(&table).is_err_and(|refusal| refusal.number == number) {
             return table;
         }
     }

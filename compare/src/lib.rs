@@ -1,12 +1,17 @@
 //! Sequents for an Event-B machine and its refinement: a plain reading of the paper.
 
+pub mod against;
+pub mod campaign;
 pub mod checks;
 pub mod evaluate;
 pub mod formula;
 pub mod generate;
+#[cfg(library)]
+pub mod library;
 pub mod refute;
 pub mod rows;
 pub mod sequents;
 pub mod services;
+pub mod shrink;
 pub mod statistics;
 pub mod table;

@@ -1,20 +1,20 @@
-//! compare print | layout | refute LOW HIGH | table SEED | statistics SEEDS [FIRST]
+//! compare print | layout | refute LOW HIGH | table SEED | statistics SEEDS [FIRST] | against-library TABLES [FIRST]
 
 use compare::checks::accept;
-use compare::evaluate::Value;
-use compare::generate::case;
-use compare::refute::{counterexample, Name};
+use compare::generate;
+use compare::refute;
 use compare::rows::{bytes_of, layout};
-use compare::sequents::{sequents, Sequent};
 use compare::services::print;
 use compare::statistics::Statistics;
 use compare::table::Table;
 use std::io::{stdin, stdout, Read, Write};
-use std::ops::RangeInclusive;
 use std::process::ExitCode;
 
-const USAGE: &str =
-    "use: compare print | layout | refute LOW HIGH | table SEED | statistics SEEDS [FIRST]";
+#[cfg(library)]
+use compare::{campaign, library::Library};
+
+const USAGE: &str = "use: compare print | layout | refute LOW HIGH | table SEED
+     | statistics SEEDS [FIRST] | against-library TABLES [FIRST]";
 
 fn main() -> ExitCode {
     let words: Vec<String> = std::env::args().skip(1).collect();
@@ -41,8 +41,13 @@ fn answer(words: &[&str]) -> Result<Vec<u8>, String> {
                 .map_err(|error| error.to_string())?;
             Ok(bytes_of(&layout(&text)?))
         }
-        ["refute", low, high] => refute(&read_table()?, integer(low)?..=integer(high)?),
-        ["table", seed] => Ok(case(number(seed)?).table),
+        ["refute", low, high] => {
+            let table = accept(&read_table()?).map_err(|refusal| format!("{refusal:?}"))?;
+            Ok(refute::report(&table, integer(low)?..=integer(high)?).into_bytes())
+        }
+        ["against-library", count] => against_library(number(count)?, 0),
+        ["against-library", count, first] => against_library(number(count)?, number(first)?),
+        ["table", seed] => Ok(generate::table(number(seed)?)),
         ["statistics", seeds] => Ok(Statistics::of(0, number(seeds)?).report().into_bytes()),
         ["statistics", seeds, first] => {
             let statistics = Statistics::of(number(first)?, number(seeds)?);
@@ -52,45 +57,24 @@ fn answer(words: &[&str]) -> Result<Vec<u8>, String> {
     }
 }
 
+/// Compares the proved library with this program on the tables of so many seeds.
+#[cfg(library)]
+fn against_library(count: u64, first: u64) -> Result<Vec<u8>, String> {
+    let threads = std::thread::available_parallelism().map_or(1, |threads| threads.get());
+    let (summary, found) = campaign::compare(&Library, first, count, threads, true);
+    match found {
+        None => Ok((summary.report() + "no difference\n").into_bytes()),
+        Some(found) => Err(summary.report() + &found.report()),
+    }
+}
+
+#[cfg(not(library))]
+fn against_library(_: u64, _: u64) -> Result<Vec<u8>, String> {
+    Err("build with SIFTHORMA_LIBRARY=.../libsifthorma.a".to_string())
+}
+
 fn integer(text: &str) -> Result<i128, String> {
     text.parse().map_err(|_| USAGE.to_string())
-}
-
-/// A line for each sequent that some values of this range refute, and how many there are.
-fn refute(table: &[u8], integers: RangeInclusive<i128>) -> Result<Vec<u8>, String> {
-    let table = accept(table).map_err(|refusal| format!("{refusal:?}"))?;
-    let list = sequents(&table);
-    let mut text = String::new();
-    let mut refuted = 0;
-    for (place, sequent) in list.iter().enumerate() {
-        if let Some(values) = counterexample(&table, sequent, integers.clone()) {
-            refuted += 1;
-            let Sequent {
-                kind, event, item, ..
-            } = sequent;
-            text += &format!(
-                "{}: 80 {kind} {event} {item}:{}\n",
-                place + 1,
-                shown(&values)
-            );
-        }
-    }
-    text += &format!("{refuted} of {} refuted\n", list.len());
-    Ok(text.into_bytes())
-}
-
-/// The values by identifier numbers, after values with a prime.
-fn shown(values: &[(Name, Value)]) -> String {
-    let mut text = String::new();
-    for &((place, after), value) in values {
-        let prime = if after { "'" } else { "" };
-        let value = match value {
-            Value::Integer(integer) => integer.to_string(),
-            Value::Truth(truth) => truth.to_string().to_uppercase(),
-        };
-        text += &format!(" {}{prime} = {value}", place + 1);
-    }
-    text
 }
 
 fn number(text: &str) -> Result<u64, String> {

@@ -2,7 +2,7 @@
 
 use crate::evaluate::{evaluate, Reading, Value, Values};
 use crate::formula::{Symbol, AFTER, EQUAL, IDENTIFIER};
-use crate::sequents::{spell_out, Sequent};
+use crate::sequents::{sequents, spell_out, Sequent};
 use crate::table::{Table, INTEGER};
 use std::ops::RangeInclusive;
 
@@ -48,6 +48,41 @@ pub fn counterexample(
         known: Vec::new(),
     };
     search.all_met().then(|| search.found())
+}
+
+/// A line for each sequent that some values of this range refute, and how many there are.
+pub fn report(table: &Table, integers: RangeInclusive<i128>) -> String {
+    let list = sequents(table);
+    let mut text = String::new();
+    let mut refuted = 0;
+    for (place, sequent) in list.iter().enumerate() {
+        if let Some(values) = counterexample(table, sequent, integers.clone()) {
+            refuted += 1;
+            let Sequent {
+                kind, event, item, ..
+            } = sequent;
+            text += &format!(
+                "{}: 80 {kind} {event} {item}:{}\n",
+                place + 1,
+                shown(&values)
+            );
+        }
+    }
+    text + &format!("{refuted} of {} refuted\n", list.len())
+}
+
+/// The values by identifier numbers, after values with a prime.
+fn shown(values: &[(Name, Value)]) -> String {
+    let mut text = String::new();
+    for &((place, after), value) in values {
+        let prime = if after { "'" } else { "" };
+        let value = match value {
+            Value::Integer(integer) => integer.to_string(),
+            Value::Truth(truth) => truth.to_string().to_uppercase(),
+        };
+        text += &format!(" {}{prime} = {value}", place + 1);
+    }
+    text
 }
 
 impl Demand {

@@ -1,32 +1,60 @@
 //! The services: check, write sequent k, spell entry j of sequent k, and print.
 
 use crate::checks::{accept, Refusal, ENTRY, ROOM, SEQUENT};
+use crate::formula::Symbol;
 use crate::rows::{bytes_of, Row, ROW_BYTES};
 use crate::sequents::{sequents, spell_out, Sequent};
+use crate::table::Table;
+
+/// A table read once, for any number of calls: the table and its sequents, or its refusal.
+pub struct Answers {
+    accepted: Result<(Table, Vec<Sequent>), Refusal>,
+}
+
+impl Answers {
+    pub fn of(table: &[u8]) -> Answers {
+        let accepted = accept(table).map(|table| {
+            let list = sequents(&table);
+            (table, list)
+        });
+        Answers { accepted }
+    }
+
+    /// The count of sequents.
+    pub fn check(&self) -> Result<usize, Refusal> {
+        let (_, list) = self.accepted.as_ref().map_err(|&refusal| refusal)?;
+        Ok(list.len())
+    }
+
+    /// The rows of sequent k (from 1).
+    pub fn sequent(&self, k: usize) -> Result<Vec<Row>, Refusal> {
+        let (_, list) = self.accepted.as_ref().map_err(|&refusal| refusal)?;
+        Ok(sequent_rows(numbered(list, k, SEQUENT)?))
+    }
+
+    /// The rows of entry j (from 1, the goal last) of sequent k.
+    pub fn entry(&self, k: usize, j: usize) -> Result<Vec<Row>, Refusal> {
+        let (table, list) = self.accepted.as_ref().map_err(|&refusal| refusal)?;
+        let entries = numbered(list, k, SEQUENT)?.entries();
+        let entry = numbered(&entries, j, ENTRY)?;
+        let row = |symbol: Symbol| Row::new(83, symbol.operator, symbol.b, 0);
+        Ok(spell_out(table, *entry).into_iter().map(row).collect())
+    }
+}
 
 /// Accepts a table by giving the count of its sequents.
 pub fn check(table: &[u8]) -> Result<usize, Refusal> {
-    Ok(sequents(&accept(table)?).len())
+    Answers::of(table).check()
 }
 
 /// Writes sequent k (from 1) and gives the number of rows.
 pub fn write_sequent(table: &[u8], k: usize, out: &mut [u8]) -> Result<usize, Refusal> {
-    let list = sequents(&accept(table)?);
-    let sequent = numbered(&list, k, SEQUENT)?;
-    write_rows(&sequent_rows(sequent), out)
+    write_rows(&Answers::of(table).sequent(k)?, out)
 }
 
 /// Spells entry j (from 1, the goal last) of sequent k and gives the number of rows.
 pub fn spell_entry(table: &[u8], k: usize, j: usize, out: &mut [u8]) -> Result<usize, Refusal> {
-    let table = accept(table)?;
-    let list = sequents(&table);
-    let entries = numbered(&list, k, SEQUENT)?.entries();
-    let entry = numbered(&entries, j, ENTRY)?;
-    let rows: Vec<Row> = spell_out(&table, *entry)
-        .into_iter()
-        .map(|symbol| Row::new(83, symbol.operator, symbol.b, 0))
-        .collect();
-    write_rows(&rows, out)
+    write_rows(&Answers::of(table).entry(k, j)?, out)
 }
 
 /// All sequents, or one row 89 (refusal, row, 0).

@@ -1,0 +1,260 @@
+//! Compares an implementation with this one over the tables of many seeds.
+
+use crate::against::{Call, Comparison, Difference, Effort, Outcome, Services};
+use crate::generate;
+use crate::generate::random::Random;
+use crate::rows::ROW_BYTES;
+use crate::shrink::{rows_of, shrink};
+use std::sync::atomic::{AtomicBool, AtomicU64, Ordering};
+use std::sync::Mutex;
+use std::thread;
+use std::time::{Duration, Instant};
+
+/// Tables of at most so many bytes get every call that is chosen with buffers of each length.
+const SMALL: usize = 20 * ROW_BYTES;
+
+/// Time for making a table with a difference smaller.
+const SHRINKING: Duration = Duration::from_secs(60);
+
+/// Time between two lines of progress.
+const PAUSE: Duration = Duration::from_secs(10);
+
+/// Counts over the tables that were compared.
+#[derive(Clone, Debug, Default)]
+pub struct Summary {
+    pub tables: u64,
+    pub calls: u64,
+    pub accepted: u64,
+    /// Tables refused by 1 to 12, then calls refused by 13 to 15.
+    pub refused: [u64; 15],
+}
+
+/// A table with a difference, and the smallest one made from it.
+#[derive(Clone, Debug)]
+pub struct Found {
+    pub seed: u64,
+    pub rows: usize,
+    pub table: Vec<u8>,
+    pub difference: Difference,
+}
+
+/// The seeds still to be taken, and the first difference.
+struct Work<'a> {
+    services: &'a dyn Services,
+    next: AtomicU64,
+    end: u64,
+    found: AtomicBool,
+}
+
+/// Compares the tables of so many seeds from the first on. Stops at a difference, made smaller.
+pub fn compare(
+    services: &dyn Services,
+    first: u64,
+    count: u64,
+    threads: usize,
+    progress: bool,
+) -> (Summary, Option<Found>) {
+    let work = Work {
+        services,
+        next: AtomicU64::new(first),
+        end: first + count,
+        found: AtomicBool::new(false),
+    };
+    let all = Mutex::new((Summary::default(), Vec::new()));
+    thread::scope(|scope| {
+        for _ in 0..threads {
+            scope.spawn(|| {
+                let (summary, found) = take_seeds(&work);
+                let mut all = all
+                    .lock()
+                    .expect("no thread panics while it holds the sums");
+                all.0.add(&summary);
+                all.1.extend(found);
+            });
+        }
+        if progress {
+            scope.spawn(|| show_progress(&work, first));
+        }
+    });
+    let (summary, mut found) = all.into_inner().expect("all threads have ended");
+    found.sort_by_key(|one: &Found| one.seed);
+    let found = found.into_iter().next();
+    (summary, found.map(|one| smaller(services, one)))
+}
+
+/// Takes one seed after another, until there are none or a difference is found by any thread.
+fn take_seeds(work: &Work) -> (Summary, Option<Found>) {
+    let mut summary = Summary::default();
+    loop {
+        let seed = work.next.fetch_add(1, Ordering::Relaxed);
+        if seed >= work.end || work.found.load(Ordering::Relaxed) {
+            return (summary, None);
+        }
+        let table = generate::table(seed);
+        let comparison = compare_table(work.services, &table, seed);
+        summary.count(&comparison);
+        if let Some(difference) = comparison.difference {
+            work.found.store(true, Ordering::Relaxed);
+            let found = Found {
+                seed,
+                rows: table.len() / ROW_BYTES,
+                table,
+                difference,
+            };
+            return (summary, Some(found));
+        }
+    }
+}
+
+fn compare_table<'a>(services: &'a dyn Services, table: &'a [u8], seed: u64) -> Comparison<'a> {
+    let effort = if table.len() <= SMALL {
+        Effort::All
+    } else {
+        Effort::Some
+    };
+    Comparison::new(services, table).run(effort, &mut Random::new(!seed))
+}
+
+/// Makes the table smaller as long as some call differs.
+fn smaller(services: &dyn Services, mut found: Found) -> Found {
+    let mut last = found.difference.clone();
+    found.table = shrink(&found.table, SHRINKING, |table| {
+        let comparison = Comparison::new(services, table).run_near(&last, &mut Random::new(0));
+        let mut difference = comparison.difference;
+        if difference.is_none() && table.len() <= 5 * SMALL {
+            let again = Comparison::new(services, table).run(Effort::Every, &mut Random::new(0));
+            difference = again.difference;
+        }
+        let differs = difference.is_some();
+        last = difference.unwrap_or(last.clone());
+        differs
+    });
+    found.difference = last;
+    found
+}
+
+/// Writes a line now and then, until all seeds are taken or a difference is found.
+fn show_progress(work: &Work, first: u64) {
+    let start = Instant::now();
+    let mut shown = start;
+    loop {
+        thread::sleep(Duration::from_millis(100));
+        let next = work.next.load(Ordering::Relaxed).min(work.end);
+        if next == work.end || work.found.load(Ordering::Relaxed) {
+            return;
+        }
+        if shown.elapsed() >= PAUSE {
+            shown = Instant::now();
+            let (done, count) = (next - first, work.end - first);
+            eprintln!("{done} of {count} tables, {} s", start.elapsed().as_secs());
+        }
+    }
+}
+
+impl Summary {
+    fn count(&mut self, comparison: &Comparison) {
+        self.tables += 1;
+        self.calls += comparison.calls;
+        match comparison.checked() {
+            Ok(_) => self.accepted += 1,
+            Err(refusal) => self.refused[refusal.number as usize - 1] += 1,
+        }
+        for (sum, calls) in self.refused[12..].iter_mut().zip(comparison.refused) {
+            *sum += calls;
+        }
+    }
+
+    fn add(&mut self, other: &Summary) {
+        self.tables += other.tables;
+        self.calls += other.calls;
+        self.accepted += other.accepted;
+        for (sum, one) in self.refused.iter_mut().zip(other.refused) {
+            *sum += one;
+        }
+    }
+
+    /// The counts as lines of text.
+    pub fn report(&self) -> String {
+        let mut text = format!(
+            "{} tables, {} calls\naccepted {}\nrefused (tables)",
+            self.tables, self.calls, self.accepted
+        );
+        for (place, count) in self.refused.iter().enumerate() {
+            if place == 12 {
+                text += "\nrefused (calls with accepted tables)";
+            }
+            text += &format!(" {}:{count}", place + 1);
+        }
+        text + "\n"
+    }
+}
+
+impl Found {
+    /// The difference and its table as lines of text.
+    pub fn report(&self) -> String {
+        let Difference {
+            call,
+            expected,
+            got,
+            ..
+        } = &self.difference;
+        let mut text = format!(
+            "DIFFERENCE at seed {}, a table of {} rows\n{}\n",
+            self.seed,
+            self.rows,
+            shown_call(*call)
+        );
+        text += &format!("expected {}\ngot      {}\n", shown(expected), shown(got));
+        text += &first_byte(&expected.buffer, &got.buffer);
+        text += &format!("the smallest table found, {} bytes:\n", self.table.len());
+        text + &shown_table(&self.table)
+    }
+}
+
+fn shown_call(call: Call) -> String {
+    match call {
+        Call::Check => "check".to_string(),
+        Call::Write { k, room } => format!("write sequent {k}, {room} bytes of room"),
+        Call::Spell { k, j, room } => {
+            format!("spell entry {j} of sequent {k}, {room} bytes of room")
+        }
+    }
+}
+
+fn shown(outcome: &Outcome) -> String {
+    format!("{}, value {}", outcome.reply.number, outcome.reply.value)
+}
+
+/// The first byte that differs, counted from the buffer's start, and the bytes around it.
+fn first_byte(expected: &[u8], got: &[u8]) -> String {
+    let Some(place) = expected
+        .iter()
+        .zip(got)
+        .position(|(one, other)| one != other)
+    else {
+        return String::new();
+    };
+    let around = |bytes: &[u8]| {
+        let end = bytes.len().min(place + ROW_BYTES);
+        bytes[place.saturating_sub(8)..end]
+            .escape_ascii()
+            .to_string()
+    };
+    format!(
+        "the buffers differ first at byte {}\nexpected {}\ngot      {}\n",
+        place as i64 - crate::against::MARGIN as i64,
+        around(expected),
+        around(got)
+    )
+}
+
+/// The rows as text that can be laid out again, or the bytes escaped.
+fn shown_table(table: &[u8]) -> String {
+    let Some(rows) = rows_of(table) else {
+        return format!("\"{}\"\n", table.escape_ascii());
+    };
+    let lines = rows
+        .iter()
+        .map(|row| format!("{} {} {} {}\n", row.tag, row.a, row.b, row.c));
+    lines.collect()
+}

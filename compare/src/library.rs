@@ -1,0 +1,56 @@
+//! The proved library behind its C header. Built only where build.rs has found it.
+
+use crate::against::{Reply, Services};
+
+extern "C" {
+    fn sifthorma_check(table: *const u8, table_length: usize, value: *mut u64) -> u64;
+    fn sifthorma_write_sequent(
+        table: *const u8,
+        table_length: usize,
+        k: u64,
+        out: *mut u8,
+        out_length: usize,
+        value: *mut u64,
+    ) -> u64;
+    fn sifthorma_spell_entry(
+        table: *const u8,
+        table_length: usize,
+        k: u64,
+        j: u64,
+        out: *mut u8,
+        out_length: usize,
+        value: *mut u64,
+    ) -> u64;
+}
+
+/// No call answers this; it stands in `value` before each.
+const UNSET: u64 = 0xA5A5_A5A5_A5A5_A5A5;
+
+pub struct Library;
+
+// The pointers below come from slices and live references, as the header asks.
+impl Services for Library {
+    fn check(&self, table: &[u8]) -> Reply {
+        let mut value = UNSET;
+        let number = unsafe { sifthorma_check(table.as_ptr(), table.len(), &mut value) };
+        Reply { number, value }
+    }
+
+    fn write_sequent(&self, table: &[u8], k: u64, out: &mut [u8]) -> Reply {
+        let mut value = UNSET;
+        let (start, length) = (out.as_mut_ptr(), out.len());
+        let number = unsafe {
+            sifthorma_write_sequent(table.as_ptr(), table.len(), k, start, length, &mut value)
+        };
+        Reply { number, value }
+    }
+
+    fn spell_entry(&self, table: &[u8], k: u64, j: u64, out: &mut [u8]) -> Reply {
+        let mut value = UNSET;
+        let (start, length) = (out.as_mut_ptr(), out.len());
+        let number = unsafe {
+            sifthorma_spell_entry(table.as_ptr(), table.len(), k, j, start, length, &mut value)
+        };
+        Reply { number, value }
+    }
+}

@@ -1,0 +1,154 @@
+//! The comparison finds faults that are put in on purpose, and shows them on small tables.
+
+use compare::against::{Call, Reply, Services};
+use compare::campaign::{compare, Found};
+use compare::checks::Refusal;
+use compare::rows::{Row, ROW_BYTES};
+use compare::services::{check, spell_entry, write_sequent};
+use compare::shrink::{rows_of, shrink};
+use std::time::Duration;
+
+/// What goes wrong with a call that this program has answered.
+type Fault = fn(Call, &mut Reply, &mut [u8]);
+
+struct Faulty(Fault);
+
+fn reply(answer: Result<usize, Refusal>) -> Reply {
+    let (number, value) = match answer {
+        Ok(value) => (0, value),
+        Err(refusal) => (refusal.number as u64, refusal.row),
+    };
+    Reply {
+        number,
+        value: value as u64,
+    }
+}
+
+impl Services for Faulty {
+    fn check(&self, table: &[u8]) -> Reply {
+        let mut reply = reply(check(table));
+        self.0(Call::Check, &mut reply, &mut []);
+        reply
+    }
+
+    fn write_sequent(&self, table: &[u8], k: u64, out: &mut [u8]) -> Reply {
+        let mut reply = reply(write_sequent(table, k as usize, out));
+        let room = out.len();
+        self.0(Call::Write { k, room }, &mut reply, out);
+        reply
+    }
+
+    fn spell_entry(&self, table: &[u8], k: u64, j: u64, out: &mut [u8]) -> Reply {
+        let mut reply = reply(spell_entry(table, k as usize, j as usize, out));
+        let room = out.len();
+        self.0(Call::Spell { k, j, room }, &mut reply, out);
+        reply
+    }
+}
+
+fn found(fault: Fault) -> Option<Found> {
+    compare(&Faulty(fault), 0, 300, 1, false).1
+}
+
+#[test]
+fn no_fault_is_no_difference() {
+    let (summary, found) = compare(&Faulty(|_, _, _| {}), 0, 300, 2, false);
+    assert!(found.is_none());
+    assert_eq!(summary.tables, 300);
+    assert!(summary.refused.iter().all(|&count| count > 0));
+    assert_eq!(
+        summary.accepted + summary.refused[..12].iter().sum::<u64>(),
+        300
+    );
+}
+
+/// The row that a refusal names is one too low.
+#[test]
+fn a_wrong_row_is_found() {
+    let found = found(|_, reply, _| {
+        if reply.number == 8 {
+            reply.value -= 1;
+        }
+    });
+    let found = found.expect("found");
+    assert_eq!(found.difference.call, Call::Check);
+    assert!(found.table.len() <= 4 * ROW_BYTES, "{}", found.report());
+}
+
+/// The last row of a GRD sequent has a wrong byte.
+#[test]
+fn a_wrong_byte_is_found() {
+    let found = found(|_, reply, out| {
+        if reply.number == 0 && out.starts_with(b"  80          4") {
+            out[reply.value as usize * ROW_BYTES - 2] = b'7';
+        }
+    });
+    let found = found.expect("found");
+    assert!(matches!(found.difference.call, Call::Write { .. }));
+    assert!(found.table.len() <= 8 * ROW_BYTES, "{}", found.report());
+    assert!(found.report().contains("the buffers differ first at byte"));
+}
+
+/// The byte after the rows is changed.
+#[test]
+fn a_byte_past_the_rows_is_found() {
+    let found = found(|call, reply, out| {
+        let end = reply.value as usize * ROW_BYTES;
+        if matches!(call, Call::Spell { .. }) && reply.number == 0 && end < out.len() {
+            out[end] = b'\n';
+        }
+    });
+    let found = found.expect("found");
+    assert!(found.table.len() <= 6 * ROW_BYTES, "{}", found.report());
+}
+
+/// A buffer that is too short is written to.
+#[test]
+fn a_byte_written_on_a_refusal_is_found() {
+    let found = found(|_, reply, out| {
+        if reply.number == 15 && !out.is_empty() {
+            out[0] = b' ';
+        }
+    });
+    assert_eq!(found.expect("found").difference.got.reply.number, 15);
+}
+
+/// Only the one number just past the list is taken for its last.
+#[test]
+fn an_accepted_number_past_the_list_is_found() {
+    let found = found(|call, reply, _| {
+        if matches!(call, Call::Write { k: 7, .. }) && reply.number == 13 {
+            *reply = Reply {
+                number: 0,
+                value: 0,
+            };
+        }
+    });
+    let k = found.expect("found").difference.call;
+    assert!(matches!(k, Call::Write { k: 7, .. }));
+}
+
+#[test]
+fn a_torn_table_is_made_smaller_by_bytes() {
+    let mut table = vec![b' '; 5 * ROW_BYTES + 3];
+    table[100] = b'x';
+    let torn = |table: &[u8]| table.contains(&b'x') && !table.len().is_multiple_of(ROW_BYTES);
+    let small = shrink(&table, Duration::from_secs(5), torn);
+    assert_eq!(small, b"x");
+}
+
+/// A division below an accepted table's formula is kept, and little else.
+#[test]
+fn an_accepted_table_is_made_smaller() {
+    let divides = |table: &[u8]| {
+        let rows = rows_of(table).unwrap_or_default();
+        check(table).is_ok() && rows.iter().any(|row: &Row| row.tag == 20 && row.a == 13)
+    };
+    let seeds = 0..400;
+    let tables = seeds.map(compare::generate::table);
+    let large = tables.filter(|table| divides(table) && table.len() > 200 * ROW_BYTES);
+    for table in large.take(5) {
+        let small = shrink(&table, Duration::from_secs(20), divides);
+        assert!(small.len() <= 12 * ROW_BYTES, "{}", small.len());
+    }
+}
