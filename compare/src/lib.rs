@@ -1,6 +1,7 @@
 //! Sequents for an Event-B machine and its refinement: a plain reading of the paper.
 
 pub mod against;
+pub mod bench;
 pub mod campaign;
 pub mod checks;
 pub mod evaluate;

@@ -1,5 +1,6 @@
-//! compare print | layout | refute LOW HIGH | table SEED | statistics SEEDS [FIRST] | against-library TABLES [FIRST]
+//! The commands of the program `compare`; READINGS.md has the readings of the paper behind it.
 
+use compare::bench;
 use compare::checks::accept;
 use compare::generate;
 use compare::refute;
@@ -8,13 +9,14 @@ use compare::services::print;
 use compare::statistics::Statistics;
 use compare::table::Table;
 use std::io::{stdin, stdout, Read, Write};
+use std::path::Path;
 use std::process::ExitCode;
 
 #[cfg(library)]
 use compare::{campaign, library::Library};
 
 const USAGE: &str = "use: compare print | layout | refute LOW HIGH | table SEED
-     | statistics SEEDS [FIRST] | against-library TABLES [FIRST]";
+     | statistics SEEDS [FIRST] | against-library TABLES [FIRST] | bench [PROGRAM]";
 
 fn main() -> ExitCode {
     let words: Vec<String> = std::env::args().skip(1).collect();
@@ -47,6 +49,11 @@ fn answer(words: &[&str]) -> Result<Vec<u8>, String> {
         }
         ["against-library", count] => against_library(number(count)?, 0),
         ["against-library", count, first] => against_library(number(count)?, number(first)?),
+        ["bench"] => bench_library(),
+        ["bench", program] => {
+            let this = std::env::current_exe().map_err(|error| error.to_string())?;
+            Ok(bench::program(Path::new(program), &this)?.into_bytes())
+        }
         ["table", seed] => Ok(generate::table(number(seed)?)),
         ["statistics", seeds] => Ok(Statistics::of(0, number(seeds)?).report().into_bytes()),
         ["statistics", seeds, first] => {
@@ -68,9 +75,24 @@ fn against_library(count: u64, first: u64) -> Result<Vec<u8>, String> {
     }
 }
 
+/// Times the proved library against this program.
+#[cfg(library)]
+fn bench_library() -> Result<Vec<u8>, String> {
+    Ok(bench::library(&Library)?.into_bytes())
+}
+
+#[cfg(not(library))]
+const NO_LIBRARY: &str =
+    "this was built without the library: set SIFTHORMA_LIBRARY to the path of libsifthorma.a";
+
 #[cfg(not(library))]
 fn against_library(_: u64, _: u64) -> Result<Vec<u8>, String> {
-    Err("build with SIFTHORMA_LIBRARY=.../libsifthorma.a".to_string())
+    Err(NO_LIBRARY.to_string())
+}
+
+#[cfg(not(library))]
+fn bench_library() -> Result<Vec<u8>, String> {
+    Err(NO_LIBRARY.to_string())
 }
 
 fn integer(text: &str) -> Result<i128, String> {

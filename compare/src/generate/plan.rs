@@ -364,6 +364,28 @@ fn everything(full: Plan) -> Plan {
     }
 }
 
+/// So many quarters of a table at every limit.
+pub fn growing(quarters: usize) -> Plan {
+    let part = |whole: usize| whole * quarters / 4;
+    Plan {
+        constants: part(6),
+        abstract_variables: part(8),
+        concrete_variables: part(30),
+        concrete_parameters: part(20),
+        abstract_events: part(5),
+        ordinary: part(15),
+        convergent: part(10),
+        axioms: part(16),
+        abstract_invariants: part(16),
+        concrete_invariants: part(16),
+        guards: part(64),
+        actions: part(128),
+        nodes: part(512),
+        spare_nodes: 512 - part(512),
+        ..Plan::default()
+    }
+}
+
 fn most_sequents(full: Plan) -> Plan {
     Plan {
         abstract_variables: 4,
@@ -388,10 +410,14 @@ fn longest_sequent(full: Plan) -> Plan {
     }
 }
 
-/// A division of divisions, deep on the right, as the one initial action.
 fn longest_entry(random: &mut Random) -> Draft {
+    deep(255, random)
+}
+
+/// A division of so many divisions, deep on the right, as the one initial action.
+pub fn deep(depth: usize, random: &mut Random) -> Draft {
     let mut tree = Tree::one(NEGATION, Tree::leaf(LITERAL, 7));
-    for _ in 0..255 {
+    for _ in 0..depth {
         let left = Tree::leaf(LITERAL, random.below(9) as i32);
         tree = Tree::two(DIVIDE, left, tree);
     }
