@@ -1,11 +1,11 @@
 //! The commands of the program `compare`; READINGS.md has the readings of the paper behind it.
 
 use compare::bench;
-use compare::checks::accept;
+use compare::checks::{accept, Refusal};
 use compare::generate;
 use compare::refute;
-use compare::rows::{bytes_of, layout};
-use compare::services::print;
+use compare::rows::{bytes_of, layout, Row};
+use compare::services::{print, refusal_row, Answers};
 use compare::statistics::Statistics;
 use compare::table::Table;
 use std::io::{stdin, stdout, Read, Write};
@@ -15,7 +15,8 @@ use std::process::ExitCode;
 #[cfg(library)]
 use compare::{campaign, library::Library};
 
-const USAGE: &str = "use: compare print | layout | refute LOW HIGH | table SEED
+const USAGE: &str =
+    "use: compare print | sequent K | entry K J | layout | refute LOW HIGH | table SEED
      | statistics SEEDS [FIRST] | against-library TABLES [FIRST] | bench [PROGRAM]";
 
 fn main() -> ExitCode {
@@ -36,6 +37,11 @@ fn main() -> ExitCode {
 fn answer(words: &[&str]) -> Result<Vec<u8>, String> {
     match words {
         ["print"] => Ok(print(&read_table()?)),
+        ["sequent", k] => answered(Answers::of(&read_table()?).sequent(number(k)? as usize)),
+        ["entry", k, j] => {
+            let (k, j) = (number(k)? as usize, number(j)? as usize);
+            answered(Answers::of(&read_table()?).entry(k, j))
+        }
         ["layout"] => {
             let mut text = String::new();
             stdin()
@@ -93,6 +99,12 @@ fn against_library(_: u64, _: u64) -> Result<Vec<u8>, String> {
 #[cfg(not(library))]
 fn bench_library() -> Result<Vec<u8>, String> {
     Err(NO_LIBRARY.to_string())
+}
+
+/// The rows, or one row 89.
+fn answered(rows: Result<Vec<Row>, Refusal>) -> Result<Vec<u8>, String> {
+    let rows = rows.unwrap_or_else(|refusal| vec![refusal_row(refusal)]);
+    Ok(bytes_of(&rows))
 }
 
 fn integer(text: &str) -> Result<i128, String> {

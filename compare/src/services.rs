@@ -64,8 +64,13 @@ pub fn print(table: &[u8]) -> Vec<u8> {
             let rows: Vec<Row> = sequents(&table).iter().flat_map(sequent_rows).collect();
             bytes_of(&rows)
         }
-        Err(refusal) => bytes_of(&[Row::new(89, refusal.number, refusal.row as i32, 0)]),
+        Err(refusal) => bytes_of(&[refusal_row(refusal)]),
     }
+}
+
+/// Row 89 (refusal, row, 0).
+pub fn refusal_row(refusal: Refusal) -> Row {
+    Row::new(89, refusal.number, refusal.row as i32, 0)
 }
 
 /// Row 80 (kind, event or 0, item), rows 81 (hypotheses), row 82 (goal).
