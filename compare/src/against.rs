@@ -49,6 +49,8 @@ pub const MARGIN: usize = 64;
 /// How many calls to make.
 #[derive(Clone, Copy, Debug, PartialEq, Eq)]
 pub enum Effort {
+    /// Three calls of those that are chosen, and check.
+    Few,
     /// A buffer of one length for most calls, of each length for some.
     Some,
     /// Buffers of each length for every call.
@@ -85,17 +87,23 @@ impl<'a> Comparison<'a> {
         self.answers.check()
     }
 
-    /// Makes all calls, up to the first difference.
+    /// Makes the calls, up to the first difference.
     pub fn run(mut self, effort: Effort, random: &mut Random) -> Self {
         self.compare_check();
         let count = self.count();
-        for k in chosen(count, effort, random) {
+        let mut written = chosen(count, effort, random);
+        let mut spelled = spelled(count, effort, random);
+        if effort == Effort::Few {
+            written = vec![random.pick(&written)];
+            spelled = vec![random.pick(&spelled), random.pick(&spelled)];
+        }
+        for k in written {
             self.compare_write(k, effort, random);
         }
         let all_at = random.between(1, 3);
-        for (n, k) in spelled(count, effort, random).into_iter().enumerate() {
+        for (n, k) in spelled.into_iter().enumerate() {
             let mut places = chosen(self.entries(k), effort, random);
-            if effort == Effort::Some && n != all_at {
+            if effort == Effort::Few || effort == Effort::Some && n != all_at {
                 places = vec![random.pick(&places)];
             }
             for j in places {
@@ -260,7 +268,7 @@ fn write(rows: &Result<Vec<Row>, Refusal>, out: &mut [u8]) -> Reply {
 fn chosen(count: u64, effort: Effort, random: &mut Random) -> Vec<u64> {
     let mut numbers = vec![0, 1, count, count + 1, u64::MAX];
     match effort {
-        Effort::Some => numbers.push(1 + random.below(count as usize) as u64),
+        Effort::Few | Effort::Some => numbers.push(1 + random.below(count as usize) as u64),
         Effort::Every if count <= 64 => numbers.extend(1..=count),
         _ => numbers.extend((0..12).map(|_| 1 + random.below(count as usize) as u64)),
     }
@@ -271,7 +279,7 @@ fn chosen(count: u64, effort: Effort, random: &mut Random) -> Vec<u64> {
 
 /// Sequents to spell entries of: one outside the list, its ends and one between, or all that are chosen.
 fn spelled(count: u64, effort: Effort, random: &mut Random) -> Vec<u64> {
-    if effort != Effort::Some {
+    if effort == Effort::All || effort == Effort::Every {
         return chosen(count, effort, random);
     }
     let outside = random.pick(&[0, count + 1, u64::MAX]);
@@ -291,9 +299,9 @@ fn rooms(rows: &Result<Vec<Row>, Refusal>, effort: Effort, random: &mut Random) 
             vec![exact, exact - 1, 0, exact + more]
         }
     };
-    if effort != Effort::Some || random.one_in(8) {
-        all
-    } else {
-        vec![random.pick(&all)]
+    match effort {
+        Effort::Few => vec![random.pick(&all)],
+        Effort::Some if !random.one_in(8) => vec![random.pick(&all)],
+        _ => all,
     }
 }

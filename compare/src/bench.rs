@@ -5,13 +5,11 @@ use crate::checks::accept;
 use crate::generate::draft::Draft;
 use crate::generate::plan::{deep, extreme, growing};
 use crate::generate::random::Random;
+use crate::program::Program;
 use crate::rows::{bytes_of, layout, ROW_BYTES};
 use crate::sequents::{sequents, spell_out};
 use crate::services::{check, print, spell_entry, write_sequent};
-use std::fs::{remove_file, write, File};
 use std::hint::black_box;
-use std::path::Path;
-use std::process::Command;
 use std::time::{Duration, Instant};
 
 /// A table, and the longest goal of its sequents.
@@ -206,31 +204,20 @@ fn spell_times(proved: &dyn Services, subject: &Subject) -> Times {
 }
 
 /// Times the whole run of a program that reads a table and prints, and of this program.
-pub fn program(proved: &Path, rust: &Path) -> Result<String, String> {
-    let input = std::env::temp_dir().join(format!("compare-bench-{}", std::process::id()));
-    let text = report(|subject| {
-        write(&input, &subject.table).map_err(|error| error.to_string())?;
+pub fn program(proved: &Program, rust: &Program) -> Result<String, String> {
+    report(|subject| {
         let wanted = print(&subject.table);
-        let run = |path: &Path, words: &[&str]| {
-            if output(path, words, &input)? != wanted {
-                return Err(format!("{}: {} differs", subject.name, path.display()));
+        let run = |program: &Program| {
+            program.read(&subject.table)?;
+            if program.output()? != wanted {
+                return Err(format!("{}: the output differs", subject.name));
             }
-            Ok(time(|| output(path, words, &input)))
+            Ok(time(|| program.output()))
         };
         Ok(vec![Times {
             call: "print",
-            proved: run(proved, &[])?,
-            rust: run(rust, &["print"])?,
+            proved: run(proved)?,
+            rust: run(rust)?,
         }])
-    });
-    remove_file(&input).map_err(|error| error.to_string())?;
-    text
-}
-
-/// What the program writes when it reads this file.
-fn output(program: &Path, words: &[&str], input: &Path) -> Result<Vec<u8>, String> {
-    let file = File::open(input).map_err(|error| error.to_string())?;
-    let output = Command::new(program).args(words).stdin(file).output();
-    let output = output.map_err(|error| format!("{}: {error}", program.display()))?;
-    Ok(output.stdout)
+    })
 }

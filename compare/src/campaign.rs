@@ -13,6 +13,9 @@ use std::time::{Duration, Instant};
 /// Tables of at most so many bytes get every call that is chosen with buffers of each length.
 const SMALL: usize = 20 * ROW_BYTES;
 
+/// Tables of more bytes get few calls.
+const LARGE: usize = 250 * ROW_BYTES;
+
 /// Time for making a table with a difference smaller.
 const SHRINKING: Duration = Duration::from_secs(60);
 
@@ -107,10 +110,10 @@ fn take_seeds(work: &Work) -> (Summary, Option<Found>) {
 }
 
 fn compare_table<'a>(services: &'a dyn Services, table: &'a [u8], seed: u64) -> Comparison<'a> {
-    let effort = if table.len() <= SMALL {
-        Effort::All
-    } else {
-        Effort::Some
+    let effort = match table.len() {
+        0..=SMALL => Effort::All,
+        LARGE.. => Effort::Few,
+        _ => Effort::Some,
     };
     Comparison::new(services, table).run(effort, &mut Random::new(!seed))
 }
@@ -249,7 +252,7 @@ fn first_byte(expected: &[u8], got: &[u8]) -> String {
 }
 
 /// The rows as text that can be laid out again, or the bytes escaped.
-fn shown_table(table: &[u8]) -> String {
+pub fn shown_table(table: &[u8]) -> String {
     let Some(rows) = rows_of(table) else {
         return format!("\"{}\"\n", table.escape_ascii());
     };

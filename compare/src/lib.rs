@@ -9,6 +9,7 @@ pub mod formula;
 pub mod generate;
 #[cfg(library)]
 pub mod library;
+pub mod program;
 pub mod refute;
 pub mod rows;
 pub mod sequents;

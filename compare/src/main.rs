@@ -3,6 +3,7 @@
 use compare::bench;
 use compare::checks::{accept, Refusal};
 use compare::generate;
+use compare::program::{self, Program};
 use compare::refute;
 use compare::rows::{bytes_of, layout, Row};
 use compare::services::{print, refusal_row, Answers};
@@ -17,7 +18,8 @@ use compare::{campaign, library::Library};
 
 const USAGE: &str =
     "use: compare print | sequent K | entry K J | layout | refute LOW HIGH | table SEED
-     | statistics SEEDS [FIRST] | against-library TABLES [FIRST] | bench [PROGRAM]";
+     | statistics SEEDS [FIRST] | against-library TABLES [FIRST]
+     | against-program PROGRAM TABLES [FIRST] | bench [PROGRAM]";
 
 fn main() -> ExitCode {
     let words: Vec<String> = std::env::args().skip(1).collect();
@@ -53,18 +55,30 @@ fn answer(words: &[&str]) -> Result<Vec<u8>, String> {
             let table = accept(&read_table()?).map_err(|refusal| format!("{refusal:?}"))?;
             Ok(refute::report(&table, integer(low)?..=integer(high)?).into_bytes())
         }
-        ["against-library", count] => against_library(number(count)?, 0),
-        ["against-library", count, first] => against_library(number(count)?, number(first)?),
-        ["bench"] => bench_library(),
-        ["bench", program] => {
-            let this = std::env::current_exe().map_err(|error| error.to_string())?;
-            Ok(bench::program(Path::new(program), &this)?.into_bytes())
-        }
         ["table", seed] => Ok(generate::table(number(seed)?)),
         ["statistics", seeds] => Ok(Statistics::of(0, number(seeds)?).report().into_bytes()),
         ["statistics", seeds, first] => {
             let statistics = Statistics::of(number(first)?, number(seeds)?);
             Ok(statistics.report().into_bytes())
+        }
+        _ => compared(words),
+    }
+}
+
+/// The commands that hold another implementation against this one.
+fn compared(words: &[&str]) -> Result<Vec<u8>, String> {
+    match words {
+        ["against-library", count] => against_library(number(count)?, 0),
+        ["against-library", count, first] => against_library(number(count)?, number(first)?),
+        ["against-program", program, count] => against_program(program, number(count)?, 0),
+        ["against-program", program, count, first] => {
+            against_program(program, number(count)?, number(first)?)
+        }
+        ["bench"] => bench_library(),
+        ["bench", program] => {
+            let this = std::env::current_exe().map_err(|error| error.to_string())?;
+            let (proved, rust) = (program_of(program), Program::new(&this, &["print"]));
+            Ok(bench::program(&proved, &rust)?.into_bytes())
         }
         _ => Err(USAGE.to_string()),
     }
@@ -99,6 +113,17 @@ fn against_library(_: u64, _: u64) -> Result<Vec<u8>, String> {
 #[cfg(not(library))]
 fn bench_library() -> Result<Vec<u8>, String> {
     Err(NO_LIBRARY.to_string())
+}
+
+/// Compares a program that prints a table's sequents with this one on the tables of so many seeds.
+fn against_program(program: &str, count: u64, first: u64) -> Result<Vec<u8>, String> {
+    let same = program::compare(&program_of(program), first, count)?;
+    Ok(same.into_bytes())
+}
+
+/// A program named by its path alone.
+fn program_of(path: &str) -> Program {
+    Program::new(Path::new(path), &[])
 }
 
 /// The rows, or one row 89.

@@ -112,11 +112,10 @@ fn rows_quoted_from_models_stand_there() {
     let mut all = rows(model("counter"));
     all.extend(rows(free_list));
     for block in blocks() {
-        let quoted = layout(&block.join("\n"));
-        if title(block[0]).is_none() && quoted.is_ok() {
-            for row in quoted.expect("rows") {
-                assert!(all.contains(&row), "{row:?}");
-            }
+        // Commands and machines on paper are no rows.
+        let quoted = layout(&block.join("\n")).unwrap_or_default();
+        if title(block[0]).is_none() {
+            assert!(quoted.iter().all(|row| all.contains(row)), "{block:?}");
         }
     }
 }
