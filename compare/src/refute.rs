@@ -162,7 +162,7 @@ impl Search<'_> {
         evaluate(rest, self.table, &self.values, Reading::Sequent).ok()
     }
 
-    /// Whether no demand whose names are all known is broken. One that can't be evaluated isn't.
+    /// Whether no demand whose names are all known is broken.
     fn holds_so_far(&self) -> bool {
         self.demands.iter().all(|demand| {
             let closed = demand.names.iter().all(|name| self.known.contains(name));
@@ -170,7 +170,7 @@ impl Search<'_> {
         })
     }
 
-    /// A "some value" that isn't found counts as false.
+    /// What has no value, or is "some value" and isn't found, counts as false.
     fn truth_of(&self, demand: &Demand) -> bool {
         let answer = evaluate(&demand.spelled, self.table, &self.values, Reading::Sequent);
         answer == Ok(Value::Truth(true))
