@@ -8,6 +8,7 @@ use lib.ListN.{length, getD}
 use Rattle.lists.specs.Over.{over}
 use Rattle.row.specs.declared.Row.{Row}
 use Rattle.row.specs.Row.{rowBytes, width}
+use Rattle.machine.specs.Machine.{Machine}
 use Rattle.sequent.specs.Entry.{Entry, written, formula}
 use Rattle.sequent.specs.Sequent.{Sequent}
 use Rattle.sequent.specs.Listed.{sequent, sequents}
@@ -48,33 +49,39 @@ sequentAt ss k = getD ss (k - 1) (sequent 0 0 0 [] (written 0))
 abbrev pub entries : Sequent → List Entry
 entries s = s .hypotheses ++ (s .goal ∷ [])
 
-module _ (bytes : List ℕ) where
-  abbrev pub list : List Sequent
-  list = sequents (machine bytes)
-
+module _ (m : Machine) where
   -- refusal 13, sequent: "k not in 1 to the count"
   abbrev pub withSequent : Verdict → ℕ → List ℕ → (Sequent → Outcome) → Outcome
   withSequent (verdict.Refused number at) k out f = refused number at out
-  withSequent (verdict.Accepted n) k out f = elim (among k n) [ true ↦ f (sequentAt list k) | false ↦ refused 13 0 out ]
+  withSequent (verdict.Accepted n) k out f = elim (among k n) [ true ↦ f (sequentAt (sequents m) k) | false ↦ refused 13 0 out ]
 
-  unfoldable pub writeSequent : ℕ → List ℕ → Outcome
-  writeSequent k out = withSequent (verdictOf bytes) k out (λ s. writeRows (sequentRows s) out)
+  -- write sequent k, by the verdict
+  abbrev pub writeBy : Verdict → ℕ → List ℕ → Outcome
+  writeBy v k out = withSequent v k out (λ s. writeRows (sequentRows s) out)
 
   -- refusal 14, entry: "j not in 1 to the entries"
   abbrev pub spellAt : Sequent → ℕ → List ℕ → Outcome
   spellAt s j out =
       elim (among j (length (entries s))) [
-        | true ↦ writeRows (spell (formula (machine bytes) (getD (entries s) (j - 1) (written 0)))) out
+        | true ↦ writeRows (spell (formula m (getD (entries s) (j - 1) (written 0)))) out
         | false ↦ refused 14 0 out
       ]
 
-  unfoldable pub spellEntry : ℕ → ℕ → List ℕ → Outcome
-  spellEntry k j out = withSequent (verdictOf bytes) k out (λ s. spellAt s j out)
+  -- spell entry j of sequent k, by the verdict
+  abbrev pub spellBy : Verdict → ℕ → ℕ → List ℕ → Outcome
+  spellBy v k j out = withSequent v k out (λ s. spellAt s j out)
 
-  -- what the program prints
+  -- what the program prints, by the verdict
   abbrev pub printed : Verdict → List ℕ
   printed (verdict.Refused number at) = rowBytes width (row 89 number at 0)
-  printed (verdict.Accepted n) = rowsBytes (flatMap sequentRows list)
+  printed (verdict.Accepted n) = rowsBytes (flatMap sequentRows (sequents m))
+
+module _ (bytes : List ℕ) where
+  unfoldable pub writeSequent : ℕ → List ℕ → Outcome
+  writeSequent k out = writeBy (machine bytes) (verdictOf bytes) k out
+
+  unfoldable pub spellEntry : ℕ → ℕ → List ℕ → Outcome
+  spellEntry k j out = spellBy (machine bytes) (verdictOf bytes) k j out
 
   unfoldable pub output : List ℕ
-  output = printed (verdictOf bytes)
+  output = printed (machine bytes) (verdictOf bytes)
