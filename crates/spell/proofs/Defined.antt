@@ -1,12 +1,12 @@
 -- The WD of a node's tree is spelled from its operands' trees and their WD, in prefix order: by the case of its operator.
-use Prim.Native.Nat.{ℕ, zero, suc, _≤_, _<_}
-use mathlib.Core.Path.{_≡_, refl, sym, ap, ap₂, _∙_, subst}
-use mathlib.Core.Bool.{Bool, true, false, _&&_, _||_}
+use Prim.Native.Nat.{ℕ, zero, suc, _≤_}
+use mathlib.Core.Path.{_≡_, refl, sym, ap, _∙_}
+use mathlib.Core.Bool.{Bool, true, false, _||_}
 use mathlib.Core.List.{List, [], _∷_, _++_, append-assoc, append-nil}
 use native.Mathlib.Omega.{arith}
 use lib.Dec.{T, eqb, eqb→eq}
 use Rattle.row.specs.declared.Row.{Row}
-use Rattle.formula.specs.Tree.{Binary, plus, minus, times, equal, less, atMost, iff, Division, quotient, remainder, Connective, and, or, implies, Tree, binary, division, connective}
+use Rattle.formula.specs.Tree.{Binary, plus, minus, times, equal, less, atMost, iff, Division, quotient, remainder, Connective, and, or, implies, Tree}
 use Rattle.formula.specs.WellDefined.{wellDefined}
 use Rattle.table.specs.Table.{Table, operatorOf, leftOf, rightOf}
 use Rattle.machine.specs.Operator as meaning
@@ -16,7 +16,7 @@ use Rattle.rules.specs.Sorts.{shapeOf}
 use Rattle.rules.proofs.Operators.{shapeFor, shape-agrees}
 use Rattle.service.specs.Spelled.{spelled, binaryNumber, divisionNumber, connectiveNumber, spellTree}
 use Rattle.spell.specs.declared.Node.{Node}
-use Rattle.spell.specs.Spell.{divides, openingRows, guardRows, closingRows, nodeBy, operandNode, variableKind, nodeOf, shownRows, definedRows}
+use Rattle.spell.specs.Spell.{divides, openingRows, guardRows, closingRows, nodeBy, operandNode, nodeOf, shownRows, definedRows}
 use Rattle.spell.proofs.Nodes.{numberIs, operator-numbered, operands-same, tree-at, nodeFrom, node-none, node-from}
 
 -- the pieces by the operator's number

@@ -2,11 +2,10 @@
 use Prim.Native.Nat.{ℕ, zero, suc, _≤_, _<_}
 use mathlib.Core.Path.{_≡_, refl, sym, ap, _∙_}
 use mathlib.Core.Bool.{Bool, true, false, cond}
-use mathlib.Core.List.{List, [], _∷_, _++_}
+use mathlib.Core.List.{_∷_, _++_}
 use native.Mathlib.Omega.{arith}
 use lib.ListN.{getD, List·getD-eq-default}
 use Rattle.lists.specs.Choice.{pick}
-use Rattle.row.specs.declared.Row.{Row}
 use Rattle.formula.specs.Tree.{Tree}
 use Rattle.formula.specs.Formula.{someValue, someAfterValue}
 use Rattle.table.specs.Table.{Table}

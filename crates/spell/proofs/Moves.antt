@@ -2,14 +2,13 @@
 use Prim.Native.Nat.{ℕ, _≤_, _<_}
 use mathlib.Core.Path.{_≡_, refl, sym, ap, ap₂, _∙_}
 use mathlib.Core.Bool.{Bool, true, false}
-use mathlib.Core.List.{List, [], _∷_, _++_}
+use mathlib.Core.List.{[], _∷_, _++_}
 use lib.Dec.{ltb}
 use borrow.Author.Tests.{lt-ltb, le-ltb, eq-eqb, ne-eqb}
 use Rattle.lists.specs.Rows.{first}
-use Rattle.row.specs.declared.Row.{Row}
 use Rattle.table.specs.Table.{Table, tagged}
 use Rattle.machine.specs.Machine.{Action, unassigned, becomesEqual, becomesSuchThat}
-use Rattle.machine.specs.Described.{sets, actionOf, treeOf, machineOf}
+use Rattle.machine.specs.Described.{sets, actionOf, machineOf}
 use Rattle.sequent.specs.Entry.{actionTree}
 use Rattle.service.specs.Spelled.{spelled, spellTree}
 use Rattle.spell.specs.Spell.{shownRows, movesRows}

@@ -22,11 +22,9 @@ use Rattle.sequent.specs.Entry.{variable}
 use Rattle.rules.specs.Sorts.{Shape, value, anIdentifier, aVariable, none, one, two, unknown, shapeOf}
 use Rattle.rules.proofs.Operators.{shapeFor, shape-agrees}
 use Rattle.rule_references.specs.declared.Operator as found
-use Rattle.rule_references.specs.Operator.{meant, meantShape}
-use Rattle.rule_references.proofs.Found.{shape-found}
 use Rattle.service.specs.Spelled.{spelled, constantRow, unaryNumber, binaryNumber, divisionNumber, connectiveNumber, spellTree}
 use Rattle.spell.specs.declared.Node.{Node}
-use Rattle.spell.specs.Spell.{leaf, nodeBy, operandNode, variableKind, nodeOf, shownTree, shownRows}
+use Rattle.spell.specs.Spell.{leaf, nodeBy, operandNode, variableKind, nodeOf, shownRows}
 
 -- the operator that a number names has that number in its row
 abbrev constantIs : Constant → ℕ → Bool

@@ -1,6 +1,6 @@
 -- What the capped count and the written rows are to a service that writes rows: whether they have room, the reply, and the buffer.
 use Prim.Native.Nat.{ℕ, _*_, _/_, _≤_, _<_, _^_}
-use mathlib.Core.Path.{_≡_, refl, sym, ap, ap₂, _∙_}
+use mathlib.Core.Path.{_≡_, sym, ap, ap₂, _∙_}
 use mathlib.Core.Bool.{Bool, true, false}
 use mathlib.Core.List.{List}
 use native.Mathlib.Omega.{arith}
@@ -12,7 +12,7 @@ use Rattle.row.specs.declared.Row.{Row}
 use Rattle.service.specs.declared.Reply.the-variants as reply
 use Rattle.service.specs.Printed.{rowsBytes}
 use Rattle.service.specs.Service.{Outcome, refused, writeRows}
-use Rattle.spell.specs.Spell.{cap, capped, Spelled}
+use Rattle.spell.specs.Spell.{capped, Spelled}
 use Rattle.spell.proofs.Capped.{capped-below, capped-room}
 use Rattle.spell.proofs.Written.{rows-length}
 

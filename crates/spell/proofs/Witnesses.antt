@@ -1,14 +1,13 @@
 -- The root of a witness is column c of the first row that witnesses, by recursion on the rows; where there is none, the row past the last has 0 there.
-use Prim.Native.Nat.{ℕ, zero, suc, _+_, _*_, _/_, _≤_}
+use Prim.Native.Nat.{ℕ, zero, suc, _+_, _≤_}
 use mathlib.Core.Path.{_≡_, refl, sym, ap, _∙_}
 use mathlib.Core.Bool.{Bool, true, false, cond, _&&_}
-use mathlib.Core.List.{List, [], _∷_, map}
+use mathlib.Core.List.{List, _∷_, map}
 use native.Mathlib.Omega.{arith}
 use lib.Dec.{eqb}
-use lib.ListN.{length, getD, List·getD-eq-default}
+use lib.ListN.{List·getD-eq-default}
 use Rattle.lists.specs.Rows.{first, numbers, keep}
 use Rattle.table.specs.Table.{Table, tableOf, tagged, section}
-use Rattle.machine.specs.Machine.{Witness}
 use Rattle.machine.specs.Described.{belonging, machineOf}
 use Rattle.sequent.specs.Entry.{witnessRoot}
 use Rattle.spell.specs.Spell.{witnessNode}

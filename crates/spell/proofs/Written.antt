@@ -1,5 +1,5 @@
 -- Rows that are written one after another, each into what is left of the buffer, are counted and written together.
-use Prim.Native.Nat.{ℕ, suc, _+_, _-_, _*_, _≤_, _<_, _^_}
+use Prim.Native.Nat.{ℕ, _+_, _-_, _*_, _≤_, _<_, _^_}
 use mathlib.Core.Path.{_≡_, refl, sym, ap, ap₂, _∙_, subst}
 use mathlib.Core.List.{List, [], _∷_, _++_, flatMap, append-nil}
 use native.Mathlib.Omega.{arith}
@@ -12,7 +12,7 @@ use Rattle.row.specs.declared.Row.{Row}
 use Rattle.row.specs.Row.{rowBytes, width}
 use Rattle.row.proofs.Form.{row-length}
 use Rattle.service.specs.Printed.{rowsBytes}
-use Rattle.spell.specs.Spell.{cap, capped, restStart, Spelled}
+use Rattle.spell.specs.Spell.{capped, restStart, Spelled}
 use Rattle.spell.proofs.Capped.{capped-below, capped-add, start-after}
 
 pub rows-length : (rs : List Row) → length (rowsBytes rs) ≡ 38 * length rs

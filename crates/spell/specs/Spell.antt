@@ -1,8 +1,8 @@
 -- 01, Sequents: "An entry spelled out is rows 83 in prefix order", as the code counts and writes them: "Rows are written one after another into what is left of
 -- the buffer."
-use Prim.Native.Nat.{ℕ, zero, suc, _+_, _*_, _/_, _≤_, _^_}
+use Prim.Native.Nat.{ℕ, _*_, _/_, _≤_, _^_}
 use mathlib.Core.Path.{_≡_}
-use mathlib.Core.Bool.{Bool, true, false, _&&_, _||_}
+use mathlib.Core.Bool.{Bool, _&&_, _||_}
 use mathlib.Core.List.{List, [], _∷_, _++_}
 use lib.Dec.{eqb, ltb}
 use lib.ListN.{length}
@@ -57,10 +57,11 @@ abbrev pub operandNode : ℕ → ℕ → ℕ
 operandNode n x = pick (earlier n x) x 0
 
 -- 01, Well-definedness, of a pair in prefix order: the rows before WD(a), those between it and WD(b), given a's, and those after it, given b's
--- "÷ and mod: (WD(a) ∧ WD(b)) ∧ ¬(b = 0)"
+-- "÷ and mod"
 abbrev pub divides : ℕ → Bool
 divides operator = eqb operator 13 || eqb operator 14
 
+-- "Other pairs: WD(a) ∧ WD(b), but ÷ and mod: (WD(a) ∧ WD(b)) ∧ ¬(b = 0)": one ∧, or two
 unfoldable pub openingRows : ℕ → List Row
 openingRows operator = pick (divides operator) (spelled 33 0 ∷ spelled 33 0 ∷ []) (spelled 33 0 ∷ [])
 
@@ -68,6 +69,7 @@ openingRows operator = pick (divides operator) (spelled 33 0 ∷ spelled 33 0 �
 unfoldable pub guardRows : ℕ → List Row → List Row
 guardRows operator left = pick (eqb operator 33 || eqb operator 35) (spelled 35 0 ∷ left) (pick (eqb operator 34) (spelled 34 0 ∷ left) [])
 
+-- "¬(b = 0)" of ÷ and mod
 unfoldable pub closingRows : ℕ → List Row → List Row
 closingRows operator right = pick (divides operator) (spelled 32 0 ∷ ((spelled 20 0 ∷ right) ++ (spelled 1 0 ∷ []))) []
 
@@ -97,10 +99,10 @@ module _ (t : Table) where
   unfoldable pub movesRows : ℕ → ℕ → List Row
   movesRows e x = spellTree (actionTree (machineOf t) (machineOf t .action e x) x)
 
-  -- the node of the witness of an event for an identifier
+  -- "6 event and identifier: some value meets the witness": the witness's root
   unfoldable pub witnessNode : ℕ → ℕ → ℕ
   witnessNode e x = witnessRoot (machineOf t .witnesses e) x
 
-  -- an entry spelled out
+  -- "An entry spelled out is rows 83 in prefix order"
   unfoldable pub entryRows : Numbers → List Row
   entryRows entry = spell (formula (machineOf t) (entryOf entry))

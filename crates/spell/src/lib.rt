@@ -322,14 +322,22 @@ fn spell_equation(x: u64, left: u64, right: u64, out: &mut [u8]) -> u64
     add_rows(to_left, second)
 }
 
-// The equation of an action 51: the after value of x and the tree of its root.
-fn spell_becomes_equal(words: &[u64], table: Table, x: u64, root: u64, out: &mut [u8]) -> u64
+// A comparison: its row, the row of its left side, and the tree of its right side's root.
+fn spell_comparison(
+    words: &[u64],
+    table: Table,
+    operator: u64,
+    left: u64,
+    b: u64,
+    root: u64,
+    out: &mut [u8],
+) -> u64
     requires { ⌜ table ≡ countsOf (tableOf (now words)) ⌝ }
-    ensures { λ r. ⌜ Spelled (spelled 20 0 ∷ spelled 3 x ∷ shownRows (tableOf (now (words .entry))) false root) r (now (out .entry)) (now (out .exit)) ⌝ }
+    ensures { λ r. ⌜ Spelled (spelled operator 0 ∷ spelled left b ∷ shownRows (tableOf (now (words .entry))) false root) r (now (out .entry)) (now (out .exit)) ⌝ }
 {
-    let head = row_83(out, 20, 0);
+    let head = row_83(out, operator, 0);
     let at = rest_start(out.len(), head);
-    let sides = spell_under(words, table, 3, x, root, false, &mut out[at..]);
+    let sides = spell_under(words, table, left, b, root, false, &mut out[at..]);
     add_rows(head, sides)
 }
 
@@ -348,7 +356,7 @@ fn spell_moves(words: &[u64], table: Table, e: u64, x: u64, out: &mut [u8]) -> u
     }
     let root = c_at(words, i);
     if tag_at(words, i) == 51 {
-        return spell_becomes_equal(words, table, x, root, out);
+        return spell_comparison(words, table, 20, 3, x, root, out);
     }
     spell_expression(words, table, root, false, out)
 }
@@ -392,17 +400,6 @@ fn spell_witnessed(words: &[u64], table: Table, e: u64, x: u64, out: &mut [u8]) 
     spell_under(words, table, operator, x, root, false, out)
 }
 
-// Form 7: 0 ≤ variant.
-fn spell_natural(words: &[u64], table: Table, root: u64, out: &mut [u8]) -> u64
-    requires { ⌜ table ≡ countsOf (tableOf (now words)) ⌝ }
-    ensures { λ r. ⌜ Spelled (spelled 22 0 ∷ spelled 1 0 ∷ shownRows (tableOf (now (words .entry))) false root) r (now (out .entry)) (now (out .exit)) ⌝ }
-{
-    let head = row_83(out, 22, 0);
-    let at = rest_start(out.len(), head);
-    let sides = spell_under(words, table, 1, 0, root, false, &mut out[at..]);
-    add_rows(head, sides)
-}
-
 // Form 8: variant after < variant.
 fn spell_decreases(words: &[u64], table: Table, root: u64, out: &mut [u8]) -> u64
     requires { ⌜ table ≡ countsOf (tableOf (now words)) ⌝ }
@@ -414,7 +411,7 @@ fn spell_decreases(words: &[u64], table: Table, root: u64, out: &mut [u8]) -> u6
     add_rows(after, before)
 }
 
-// An entry spelled out: the count of its rows, capped, and the rows where the buffer has room for them.
+// An entry spelled out: the count of its rows, capped, and the rows where the buffer has room for them. Form 7, 0 ≤ variant, is a comparison with a literal.
 pub fn spell(words: &[u64], table: Table, entry: Entry, out: &mut [u8]) -> u64
     requires { ⌜ table ≡ countsOf (tableOf (now words)) ⌝ }
     ensures { λ r. ⌜ Spelled (entryRows (tableOf (now (words .entry))) entry) r (now (out .entry)) (now (out .exit)) ⌝ }
@@ -428,7 +425,7 @@ pub fn spell(words: &[u64], table: Table, entry: Entry, out: &mut [u8]) -> u64
         4 => spell_moves(words, table, first, second, out),
         5 => spell_feasible(words, table, first, second, out),
         6 => spell_witnessed(words, table, first, second, out),
-        7 => spell_natural(words, table, first, out),
+        7 => spell_comparison(words, table, 22, 1, 0, first, out),
         8 => spell_decreases(words, table, first, out),
         _ => spell_expression(words, table, first, false, out),
     }

@@ -46,7 +46,7 @@ spell-spec = tie.close (tie.spec
     (λ c. let h = c .before .before in
     let m = h .before .before in
     let a = m .before .before .before .args in
-    spelled-as (natural-rows (tableOf (a .words .now)) (a .entry) (m .match .keys6)) (h .spell-natural .ensures))
+    spelled-as (natural-rows (tableOf (a .words .now)) (a .entry) (m .match .keys6)) (h .spell-comparison .ensures))
     (λ c. search needs)
     (λ c. let h = c .before .before in
     let m = h .before .before in

@@ -1,7 +1,5 @@
 -- For a division ¬, then the equation in what it leaves.
 use native.Mathlib.Omega.{arith}
-use Rattle.table.specs.Table.{tableOf}
-use Rattle.spell.specs.Spell.{shownRows}
 use Rattle.spell.proofs.Defined.{closing-division, closing-other}
 use Rattle.spell.proofs.Written.{spelled-none, spelled-as, spelled-join}
 use borrow.Author.Needs.{needs}

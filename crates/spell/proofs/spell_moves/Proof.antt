@@ -29,7 +29,7 @@ spell-moves-spec = tie.close (tie.spec
     let i = f .before .find-row in
     let r = g .before .c-at in
     let a = f .before .before .before .before .args in
-    spelled-as (moves-equal (tableOf (a .words .now)) (a .e) (a .x) (i .result) (i .ensures) (r .result) (r .ensures) (omega (arith, f .size .ensures, g .before .before .if1 .left)) (sym (g .tag-at .ensures) ∙ h .before .before .if2 .taken)) (h .spell-becomes-equal .ensures))
+    spelled-as (moves-equal (tableOf (a .words .now)) (a .e) (a .x) (i .result) (i .ensures) (r .result) (r .ensures) (omega (arith, f .size .ensures, g .before .before .if1 .left)) (sym (g .tag-at .ensures) ∙ h .before .before .if2 .taken)) (h .spell-comparison .ensures))
     (λ c κs. search needs)
     (λ c. search needs)
     (λ c. let h = c .before .before in

@@ -1,12 +1,12 @@
--- The row of =, then both sides in what it leaves.
+-- The row, then both sides in what it leaves.
 use native.Mathlib.Omega.{arith}
 use Rattle.spell.proofs.Written.{spelled-join}
 use borrow.Author.Needs.{needs}
-use Rattle.spell.proofs.spell_becomes_equal.Statement.{statement}
-use Rattle.spell.proofs.spell_becomes_equal.Tie as tie
+use Rattle.spell.proofs.spell_comparison.Statement.{statement}
+use Rattle.spell.proofs.spell_comparison.Tie as tie
 
-pub spell-becomes-equal-spec : {M : Type 1} → statement M
-spell-becomes-equal-spec = tie.close (tie.spec
+pub spell-comparison-spec : {M : Type 1} → statement M
+spell-comparison-spec = tie.close (tie.spec
     (λ c κs. search needs)
     (λ c κs. search needs)
     (λ c. search needs)
