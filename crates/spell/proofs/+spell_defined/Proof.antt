@@ -124,7 +124,6 @@ pub +spell-defined-spec : {M : Type 1} → statement M
     (λ c. let a3 = c .before .before .before .before .before .before in
     let a2 = a3 .before .before .before .before .before .before in
     let a1 = a2 .before .before .before .before .before .before in
-    let o = a1 .before .before .before .before .before .before .before .before in
     omega (arith, c .before .before .out7 .given, a3 .before .before .out6 .given, a2 .before .before .out5 .given, a1 .before .before .out4 .given, a1 .before .before .before .before .before .before .before .out3 .given))
     (λ c. let e4 = c .before .before .before in
     let r4 = e4 .before .before in
