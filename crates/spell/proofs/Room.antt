@@ -1,40 +1,20 @@
--- What the capped count and the written rows are to a service that writes rows: whether they have room, the reply, and the buffer.
+-- The capped count of rows decides whether a buffer has room for them, and is their count where it has: a buffer has fewer than 2^64 bytes.
 use Prim.Native.Nat.{ℕ, _*_, _/_, _≤_, _<_, _^_}
-use mathlib.Core.Path.{_≡_, sym, ap, ap₂, _∙_}
-use mathlib.Core.Bool.{Bool, true, false}
-use mathlib.Core.List.{List}
+use mathlib.Core.Path.{_≡_, sym, ap, _∙_}
 use native.Mathlib.Omega.{arith}
 use lib.Dec.{ltb}
-use lib.ListN.{length}
-use borrow.Author.Tests.{ltb-false}
-use Rattle.lists.specs.Over.{over}
-use Rattle.row.specs.declared.Row.{Row}
-use Rattle.service.specs.declared.Reply.the-variants as reply
-use Rattle.service.specs.Printed.{rowsBytes}
-use Rattle.service.specs.Service.{Outcome, refused, writeRows}
-use Rattle.spell.specs.Spell.{capped, Spelled}
+use borrow.Author.Tests.{ltb-true, ltb-false, lt-ltb, le-ltb}
+use Rattle.spell.specs.Spell.{cap, capped}
 use Rattle.spell.proofs.Capped.{capped-below, capped-room}
-use Rattle.spell.proofs.Written.{rows-length}
 
-module _ {rs : List Row} {r : ℕ} {entry exit : List ℕ} (small : length entry < 2 ^ 64) (h : Spelled rs r entry exit) where
-  -- the test of the count is that of the bytes
-  pub room-decided : ltb (length entry / 38) r ≡ ltb (length entry) (length (rowsBytes rs))
-  room-decided =
-      ap (ltb (length entry / 38)) (h .counted) ∙ capped-room (length entry) (length rs) small ∙ ap (ltb (length entry)) (sym (rows-length rs))
+module _ (size n r : ℕ) (small : size < 2 ^ 64) (counted : r ≡ capped n) where
+  same-test : ltb (size / 38) r ≡ ltb size (38 * n)
+  same-test = ap (ltb (size / 38)) counted ∙ capped-room size n small
 
-  -- what the service answers, by that test
-  abbrev outcomeBy : Bool → Outcome
-  outcomeBy b = elim b [ true ↦ refused 15 0 entry | false ↦ record { reply = reply.Written (length rs); buffer = over (rowsBytes rs) entry } ]
+  pub rows-above : size / 38 < r → size / 38 < n
+  rows-above h = omega (arith, ltb-true size (38 * n) (sym same-test ∙ lt-ltb (size / 38) r h))
 
-  outcome-by : (b : Bool) → ltb (length entry / 38) r ≡ b → writeRows rs entry ≡ outcomeBy b
-  unfolding writeRows
-  outcome-by b e = ap outcomeBy (sym room-decided ∙ e)
-
-  pub without-room : ltb (length entry / 38) r ≡ true → writeRows rs entry ≡ refused 15 0 entry
-  without-room e = outcome-by true e
-
-  pub with-room : ltb (length entry / 38) r ≡ false → writeRows rs entry ≡ record { reply = reply.Written r; buffer = exit }
-  with-room e =
-      let fits : 38 * length rs ≤ length entry = omega (arith, ltb-false (length entry) (length (rowsBytes rs)) (sym room-decided ∙ e), rows-length rs) in
-      let count : r ≡ length rs = h .counted ∙ capped-below (length rs) (omega arith) in
-      outcome-by false e ∙ ap₂ (λ n out. record { reply = reply.Written n; buffer = out }) (sym count) (sym (h .written fits))
+  pub rows-within : r ≤ size / 38 → (n ≤ size / 38) × (r ≡ n)
+  rows-within h =
+      let fits : 38 * n ≤ size = ltb-false size (38 * n) (sym same-test ∙ le-ltb (size / 38) r h) in
+      (omega arith, counted ∙ capped-below n (omega arith))

@@ -28,9 +28,13 @@ module _ (t : Table) where
   pub start-place : (k : ℕ) → place t (slotAt 0 0 0 k) ≡ k
   start-place k = omega (arith, walk-start t)
 
-  pub passed-all : (many : ℕ) (r : Slot) → walkCount t < many → Sought t many r → walkCount t + r .left ≡ many
-  passed-all many r h (p, inl (w, l)) = absurd (omega (arith, walk-reaches t (r .event) (r .group) (r .row) (w .event) (w .group) (w .row)))
-  passed-all many r h (p, inr x) = ap (λ n. n + r .left) (sym (walk-end t) ∙ sym at) ∙ p
+  -- a search that has come to the end has passed over the whole list
+  pub passed-end : (k : ℕ) (r : Slot) → place t r ≡ k → AtEnd t r → walkCount t + r .left ≡ k
+  passed-end k r p x = ap (λ n. n + r .left) (sym (walk-end t) ∙ sym at) ∙ p
     where
       at : walkTo t (r .event) (r .group) (r .row) ≡ walkTo t (count t 40 + 1) 0 0
       at = ap (λ e. walkTo t e (r .group) (r .row)) (x .event) ∙ ap (λ g. walkTo t (count t 40 + 1) g (r .row)) (x .group) ∙ ap (walkTo t (count t 40 + 1) 0) (x .row)
+
+  pub passed-all : (many : ℕ) (r : Slot) → walkCount t < many → Sought t many r → walkCount t + r .left ≡ many
+  passed-all many r h (p, inl (w, l)) = absurd (omega (arith, walk-reaches t (r .event) (r .group) (r .row) (w .event) (w .group) (w .row)))
+  passed-all many r h (p, inr x) = passed-end many r p x

@@ -1,0 +1,36 @@
+-- Where a service finds its sequent, and what it leaves.
+use Prim.Native.Nat.{ℕ, _<_}
+use mathlib.Core.Path.{_≡_}
+use mathlib.Core.List.{List}
+use Rattle.table.specs.Table.{Table}
+use Rattle.machine.specs.Machine.{Machine}
+use Rattle.machine.specs.Described.{machineOf}
+use Rattle.sequent.specs.Sequent.{Sequent}
+use Rattle.sequent.specs.Listed.{sequents}
+use Rattle.sequent.specs.Segments.{slotSequent}
+use Rattle.rules.specs.declared.Verdict.{Verdict}
+use Rattle.walk.specs.declared.Slot.{Slot}
+use Rattle.service.specs.declared.Reply.{Reply}
+use Rattle.service.specs.Printed.{sequentRows}
+use Rattle.service.specs.Service.{Outcome, writeRows, sequentAt, withSequent, spellAt}
+use Rattle.services.specs.declared.Request.{Request}
+use Rattle.services.specs.declared.Request.the-variants as request
+
+abbrev pub outcome : Reply → List ℕ → Outcome
+outcome r out = record { reply = r; buffer = out }
+
+abbrev pub slotSequentOf : Table → Slot → Sequent
+slotSequentOf t s = slotSequent t (s .event) (s .group) (s .row) (s .left)
+
+-- a slot that holds sequent k
+pub record Located (t : Table) (k : ℕ) (s : Slot) : Type 0 where
+  pub row : s .row < t .size
+  pub holds : sequentAt (sequents (machineOf t)) k ≡ slotSequentOf t s
+
+-- what is asked of a sequent of the machines m, and of sequent k
+abbrev pub serveAt : Machine → Request → List ℕ → Sequent → Outcome
+serveAt m request.Write out s = writeRows (sequentRows s) out
+serveAt m (request.Spell j) out s = spellAt m s j out
+
+abbrev pub serveBy : Machine → Verdict → ℕ → Request → List ℕ → Outcome
+serveBy m v k request out = withSequent m v k out (serveAt m request out)

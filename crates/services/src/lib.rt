@@ -1,0 +1,178 @@
+// 01, Sequents: "write sequent k, spell entry j of sequent k (goal last)". check is the crate verdict's.
+use entries::count_entries;
+use entries::entry_at;
+use entries::header_item;
+use entries::header_kind;
+use entries::write_entries;
+use row::Row;
+use rules::Verdict;
+use service::Reply;
+use spell::spell;
+use table::Table;
+use table::among;
+use verdict::Loaded;
+use verdict::judge;
+use verdict::load;
+use walk::Slot;
+use walk::seek;
+ghost use mathlib.Core.Path.{_≡_};
+ghost use Prim.Native.Nat.{_+_, _*_, _<_, _≤_};
+ghost use lib.ListN.{length};
+ghost use Rattle.lists.specs.Over.{over};
+ghost use Rattle.table.specs.Table.{tableOf};
+ghost use Rattle.table.specs.Counts.{countsOf};
+ghost use Rattle.table.proofs.Sections.{Rising};
+ghost use Rattle.machine.specs.Described.{machineOf};
+ghost use Rattle.sequent.specs.Listed.{sequents};
+ghost use Rattle.sequent.specs.Segments.{segments, entriesTo};
+ghost use Rattle.rules.specs.declared.Verdict.the-variants.{Accepted};
+ghost use Rattle.rules.specs.Verdict.{judge as judgeOf, verdict as verdictOf, machine};
+ghost use Rattle.service.specs.Printed.{sequentRows, rowsBytes};
+ghost use Rattle.service.specs.Service.{writeRows, spellAt, writeSequent, spellEntry};
+ghost use Rattle.services.specs.Found.{slotSequentOf, outcome, Located, serveAt, serveBy};
+
+// The slot of sequent k, and which of its sequents it is.
+pub fn find(words: &[u64], table: Table, k: u64) -> Slot
+    requires { ⌜ (table ≡ countsOf (tableOf (now words))) × (1 ≤ k) × (k ≤ length (sequents (machineOf (tableOf (now words))))) ⌝ }
+    requires { ⌜ Rising (tableOf (now words)) ⌝ }
+    ensures { λ r. ⌜ Located (tableOf (now (words .entry))) k r ⌝ }
+{
+    seek(
+        words,
+        table,
+        Slot {
+            event: 0,
+            group: 0,
+            row: 0,
+            left: k - 1,
+        },
+    )
+}
+
+// Writes a slot's sequent: row 80, then its entries into what is left of the buffer.
+pub fn write_slot(words: &[u64], table: Table, slot: Slot, out: &mut [u8])
+    requires { ⌜ (table ≡ countsOf (tableOf (now words))) × (slot .row < tableOf (now words) .size) ⌝ }
+    requires { ⌜ 38 * (1 + entriesTo (tableOf (now words)) (slot .event) (slot .group) (slot .row) segments 0) ≤ length (now out) ⌝ }
+    ensures { λ _. ⌜ now (out .exit) ≡ over (rowsBytes (sequentRows (slotSequentOf (tableOf (now (words .entry))) slot))) (now (out .entry)) ⌝ }
+{
+    let event = slot.event;
+    let group = slot.group;
+    let i = slot.row;
+    let which = slot.left;
+    let item = header_item(words, event, group, i, which);
+    let header = Row {
+        tag: 80,
+        a: header_kind(group, which),
+        b: event,
+        c: item,
+    };
+    header.write(out);
+    write_entries(
+        words,
+        table,
+        event,
+        group,
+        i,
+        which,
+        &mut out[Row::LENGTH..],
+    );
+}
+
+// Writes a slot's sequent where the buffer has room for it.
+fn write_found(words: &[u64], table: Table, slot: Slot, out: &mut [u8]) -> Reply
+    requires { ⌜ (table ≡ countsOf (tableOf (now words))) × (slot .row < tableOf (now words) .size) ⌝ }
+    ensures { λ r. ⌜ outcome r (now (out .exit)) ≡ writeRows (sequentRows (slotSequentOf (tableOf (now (words .entry))) slot)) (now (out .entry)) ⌝ }
+{
+    let entries = count_entries(words, table, slot.event, slot.group, slot.row);
+    if ((out.len() / Row::LENGTH) as u64) <= entries {
+        return Reply::Refused(15, 0);
+    }
+    write_slot(words, table, slot, out);
+    Reply::Written(entries + 1)
+}
+
+// Spells an entry where the buffer has room for it. The first call counts its rows: a buffer of one byte has room for none.
+fn spell_found(words: &[u64], table: Table, slot: Slot, j: u64, out: &mut [u8]) -> Reply
+    requires { ⌜ (table ≡ countsOf (tableOf (now words))) × (slot .row < tableOf (now words) .size) ⌝ }
+    ensures { λ r. ⌜ outcome r (now (out .exit)) ≡ spellAt (machineOf (tableOf (now (words .entry)))) (slotSequentOf (tableOf (now (words .entry))) slot) j (now (out .entry)) ⌝ }
+{
+    let event = slot.event;
+    let group = slot.group;
+    let i = slot.row;
+    if !among(j, count_entries(words, table, event, group, i)) {
+        return Reply::Refused(14, 0);
+    }
+    let entry = entry_at(words, table, event, group, i, slot.left, j - 1);
+    let mut none = [0u8; 1];
+    let rows = spell(words, table, entry, &mut none);
+    if ((out.len() / Row::LENGTH) as u64) < rows {
+        return Reply::Refused(15, 0);
+    }
+    spell(words, table, entry, out);
+    Reply::Written(rows)
+}
+
+// What is asked of a sequent: its rows, or an entry of it spelled.
+pub enum Request {
+    Write,
+    Spell(u64),
+}
+
+// Does what is asked of the sequent in a slot.
+fn serve_found(words: &[u64], table: Table, slot: Slot, request: Request, out: &mut [u8]) -> Reply
+    requires { ⌜ (table ≡ countsOf (tableOf (now words))) × (slot .row < tableOf (now words) .size) ⌝ }
+    ensures { λ r. ⌜ outcome r (now (out .exit)) ≡ serveAt (machineOf (tableOf (now (words .entry)))) request (now (out .entry)) (slotSequentOf (tableOf (now (words .entry))) slot) ⌝ }
+{
+    match request {
+        Request::Write => write_found(words, table, slot, out),
+        Request::Spell(j) => spell_found(words, table, slot, j, out),
+    }
+}
+
+// Does what is asked of sequent k of an accepted table with so many sequents.
+fn serve_accepted(words: &[u64], count: u64, k: u64, request: Request, out: &mut [u8]) -> Reply
+    requires { ⌜ judgeOf (tableOf (now words)) ≡ Accepted count ⌝ }
+    ensures { λ r. ⌜ outcome r (now (out .exit)) ≡ serveBy (machineOf (tableOf (now (words .entry)))) (Accepted count) k request (now (out .entry)) ⌝ }
+{
+    if !among(k, count) {
+        return Reply::Refused(13, 0);
+    }
+    let table = Table::of(words);
+    serve_found(words, table, find(words, table, k), request, out)
+}
+
+// Does what is asked of sequent k of the table of these rows, where it is accepted.
+fn serve_rows(words: &[u64], k: u64, request: Request, out: &mut [u8]) -> Reply
+    requires { ⌜ length (now words) ≤ 6896 ⌝ }
+    ensures { λ r. ⌜ outcome r (now (out .exit)) ≡ serveBy (machineOf (tableOf (now (words .entry)))) (judgeOf (tableOf (now (words .entry)))) k request (now (out .entry)) ⌝ }
+{
+    match judge(words) {
+        Verdict::Refused(number, row) => Reply::Refused(number, row),
+        Verdict::Accepted(count) => serve_accepted(words, count, k, request, out),
+    }
+}
+
+// Does what is asked of sequent k of a table.
+fn serve(bytes: &[u8], k: u64, request: Request, out: &mut [u8]) -> Reply
+    ensures { λ r. ⌜ outcome r (now (out .exit)) ≡ serveBy (machine (now (bytes .entry))) (verdictOf (now (bytes .entry))) k request (now (out .entry)) ⌝ }
+{
+    let mut words = [0u64; 6896];
+    match load(bytes, &mut words) {
+        Loaded::Refused(number, row) => Reply::Refused(number, row),
+        Loaded::Words(n) => serve_rows(&words[..n], k, request, out),
+    }
+}
+
+// "write sequent k": rows 80, 81 and 82 into the front of the buffer.
+pub fn write_sequent(table: &[u8], k: u64, out: &mut [u8]) -> Reply
+    ensures { λ r. ⌜ outcome r (now (out .exit)) ≡ writeSequent (now (table .entry)) k (now (out .entry)) ⌝ }
+{
+    serve(table, k, Request::Write, out)
+}
+
+// "spell entry j of sequent k (goal last)": rows 83 into the front of the buffer.
+pub fn spell_entry(table: &[u8], k: u64, j: u64, out: &mut [u8]) -> Reply
+    ensures { λ r. ⌜ outcome r (now (out .exit)) ≡ spellEntry (now (table .entry)) k j (now (out .entry)) ⌝ }
+{
+    serve(table, k, Request::Spell(j), out)
+}
