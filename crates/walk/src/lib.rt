@@ -210,6 +210,31 @@ pub struct Slot {
 }
 
 impl Slot {
+    // The first slot of the walk, with sequents to pass over.
+    pub fn start(left: u64) -> Self
+        ensures { λ r. ⌜ r ≡ slotAt 0 0 0 left ⌝ }
+    {
+        Self {
+            event: 0,
+            group: 0,
+            row: 0,
+            left,
+        }
+    }
+
+    // The same slot, with one more to pass over.
+    pub fn after(self) -> Self
+        requires { ⌜ self .left < 2 ^ 63 ⌝ }
+        ensures { λ r. ⌜ r ≡ slotAt (self .event) (self .group) (self .row) (self .left + 1) ⌝ }
+    {
+        Self {
+            event: self.event,
+            group: self.group,
+            row: self.row,
+            left: self.left + 1,
+        }
+    }
+
     // The next row, or the next group's first, or the next event's first.
     pub fn next(self, rows: usize) -> Self
         requires { ⌜ (self .event < 2 ^ 63) × (self .group < groups) × (self .row < 2 ^ 63) ⌝ }
