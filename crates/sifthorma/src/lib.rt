@@ -1,0 +1,92 @@
+// The three services for C and Rust (include/sifthorma.h): each answers 0 or a refusal's number, and puts the count or the row into `value`.
+use rules::Verdict;
+use service::Reply;
+use services::spell_entry;
+use services::write_sequent;
+use verdict::check;
+ghost use mathlib.Core.Path.{_≡_};
+ghost use Rattle.rules.specs.Verdict.{verdict as verdictOf};
+ghost use Rattle.service.specs.Service.{writeSequent, spellEntry};
+ghost use Rattle.sifthorma.specs.Codes.{verdictNumber, verdictValue, replyNumber, replyValue};
+
+fn verdict_number(v: Verdict) -> u64
+    ensures { λ r. ⌜ r ≡ verdictNumber v ⌝ }
+{
+    match v {
+        Verdict::Accepted(count) => 0,
+        Verdict::Refused(number, row) => number,
+    }
+}
+
+fn verdict_value(v: Verdict) -> u64
+    ensures { λ r. ⌜ r ≡ verdictValue v ⌝ }
+{
+    match v {
+        Verdict::Accepted(count) => count,
+        Verdict::Refused(number, row) => row,
+    }
+}
+
+fn reply_number(reply: Reply) -> u64
+    ensures { λ r. ⌜ r ≡ replyNumber reply ⌝ }
+{
+    match reply {
+        Reply::Written(rows) => 0,
+        Reply::Refused(number, row) => number,
+    }
+}
+
+fn reply_value(reply: Reply) -> u64
+    ensures { λ r. ⌜ r ≡ replyValue reply ⌝ }
+{
+    match reply {
+        Reply::Written(rows) => rows,
+        Reply::Refused(number, row) => row,
+    }
+}
+
+// check: the count of sequents, or refusal 1 to 12.
+#[no_mangle]
+pub extern "C" fn sifthorma_check(table: &[u8], value: &mut u64) -> u64
+    ensures { λ r. ⌜ r ≡ verdictNumber (verdictOf (now (table .entry))) ⌝ }
+    ensures { λ _. ⌜ now (value .exit) ≡ verdictValue (verdictOf (now (table .entry))) ⌝ }
+{
+    let v = check(table);
+    *value = verdict_value(v);
+    verdict_number(v)
+}
+
+// write sequent k: how many rows were written, or a refusal.
+#[no_mangle]
+pub extern "C" fn sifthorma_write_sequent(
+    table: &[u8],
+    k: u64,
+    out: &mut [u8],
+    value: &mut u64,
+) -> u64
+    ensures { λ r. ⌜ r ≡ replyNumber (writeSequent (now (table .entry)) k (now (out .entry)) .reply) ⌝ }
+    ensures { λ _. ⌜ now (value .exit) ≡ replyValue (writeSequent (now (table .entry)) k (now (out .entry)) .reply) ⌝ }
+    ensures { λ _. ⌜ now (out .exit) ≡ writeSequent (now (table .entry)) k (now (out .entry)) .buffer ⌝ }
+{
+    let reply = write_sequent(table, k, out);
+    *value = reply_value(reply);
+    reply_number(reply)
+}
+
+// spell entry j of sequent k: how many rows were written, or a refusal.
+#[no_mangle]
+pub extern "C" fn sifthorma_spell_entry(
+    table: &[u8],
+    k: u64,
+    j: u64,
+    out: &mut [u8],
+    value: &mut u64,
+) -> u64
+    ensures { λ r. ⌜ r ≡ replyNumber (spellEntry (now (table .entry)) k j (now (out .entry)) .reply) ⌝ }
+    ensures { λ _. ⌜ now (value .exit) ≡ replyValue (spellEntry (now (table .entry)) k j (now (out .entry)) .reply) ⌝ }
+    ensures { λ _. ⌜ now (out .exit) ≡ spellEntry (now (table .entry)) k j (now (out .entry)) .buffer ⌝ }
+{
+    let reply = spell_entry(table, k, j, out);
+    *value = reply_value(reply);
+    reply_number(reply)
+}
