@@ -30,11 +30,11 @@ abbrev pub ahead : Table → Cursor → ℕ
 ahead t c = (segments - c .segment) * t .size - c .row
 
 -- the first place of a table with rows, and a place with its own entry to pass
-pub start-stands : (t : Table) (from : Cursor) (left : ℕ) → from ≡ place 0 0 left → 0 < t .size → Stands t from
-start-stands t from left p h = subst (Stands t) (sym p) (record { segment = omega arith; row = h; ended = λ q. refl })
+pub start-stands : {t : Table} {from : Cursor} {left : ℕ} → from ≡ place 0 0 left → 0 < t .size → Stands t from
+start-stands {t} p h = subst (Stands t) (sym p) (record { segment = omega arith; row = h; ended = λ q. refl })
 
-pub passing-stands : (t : Table) (from c : Cursor) → from ≡ place (c .segment) (c .row) 1 → Stands t c → Stands t from
-passing-stands t from c p st = subst (Stands t) (sym p) (record { segment = st .segment; row = st .row; ended = st .ended })
+pub passing-stands : {t : Table} {from c : Cursor} → from ≡ place (c .segment) (c .row) 1 → Stands t c → Stands t from
+passing-stands {t} p st = subst (Stands t) (sym p) (record { segment = st .segment; row = st .row; ended = st .ended })
 
 module _ (t : Table) (e g i : ℕ) where
   pub record Step (c n : Cursor) : Type 0 where
@@ -80,56 +80,56 @@ module _ (t : Table) (e g i : ℕ) where
       → b && eqb (c .left) 0 ≡ false → rows ≡ t .size → n ≡ nextPlace c b rows → Step c n
   stepped c n b rows st hs p q r o = subst (Step c) (sym (o ∙ ap (nextPlace c b) r)) (step c b st hs p (one-left b (c .left) q))
 
-  -- what a walk from the start comes to, with k entries to pass
-  module _ (k : ℕ) (from r : Cursor) (f : from ≡ place 0 0 k) (so : Sought t e g i from r) where
-    at-place : entriesBefore t e g i r + r .left ≡ k
-    at-place = so .passed ∙ ap (λ c. entriesBefore t e g i c + c .left) f ∙ ap (λ n. n + k) (entries-start t e g i) ∙ omega arith
+-- what a walk from the start comes to, with k entries to pass
+module _ {t : Table} {e g i k : ℕ} {from r : Cursor} (f : from ≡ place 0 0 k) (so : Sought t e g i from r) where
+  at-place : entriesBefore t e g i r + r .left ≡ k
+  at-place = so .passed ∙ ap (λ c. entriesBefore t e g i c + c .left) f ∙ ap (λ n. n + k) (entries-start t e g i) ∙ omega arith
 
-    pub at-end : r .segment ≡ segments → entriesTo t e g i segments 0 + r .left ≡ k
-    at-end p = ap₂ (λ s j. entriesTo t e g i s j + r .left) (sym p) (sym (so .stands .ended p)) ∙ at-place
+  pub at-end : r .segment ≡ segments → entriesTo t e g i segments 0 + r .left ≡ k
+  at-end p = ap₂ (λ s j. entriesTo t e g i s j + r .left) (sym p) (sym (so .stands .ended p)) ∙ at-place
 
-    pub at-entry : r .segment < segments → (segmentTest t e g i (r .segment) (r .row) ≡ true) × (entriesBefore t e g i r ≡ k)
-    at-entry h = let o = so .found h in (o .0, omega (arith, at-place, o .1))
+  pub at-entry : r .segment < segments → (segmentTest t e g i (r .segment) (r .row) ≡ true) × (entriesBefore t e g i r ≡ k)
+  at-entry h = let o = so .found h in (o .0, omega (arith, at-place, o .1))
 
-    -- no entry has as many before it as there are
-    pub counted : entriesTo t e g i segments 0 ≤ k → entriesTo t e g i segments 0 + r .left ≡ k
-    counted most = go (ltb (r .segment) segments) refl
-      where
-        go : (b : Bool) → ltb (r .segment) segments ≡ b → entriesTo t e g i segments 0 + r .left ≡ k
-        go true q =
-            let h = ltb-true (r .segment) segments q in
-            let o = at-entry h in
-            absurd (omega (arith, o .1, entries-reach t e g i (r .segment) (r .row) h (so .stands .row) (o .0)))
-        go false q = at-end (omega (arith, ltb-false (r .segment) segments q, so .stands .segment))
-
-    pub entry-found : (w : ℕ) (d : Entry) → (r .segment ≡ segments → ⊥) → getD (entryWalk t e g i w) k d ≡ segmentEntry t e g i w (r .segment) (r .row)
-    entry-found w d n =
-        let h : r .segment < segments = omega (arith, so .stands .segment) in
-        let o = at-entry h in
-        ap (λ k. getD (entryWalk t e g i w) k d) (sym (o .1)) ∙ entry-at t e g i (r .segment) (r .row) h (so .stands .row) (o .0) w d
-
-    pub entry-none : (w : ℕ) (d : Entry) → r .segment ≡ segments → getD (entryWalk t e g i w) k d ≡ d
-    entry-none w d p = List·getD-eq-default (entryWalk t e g i w) d (omega (arith, at-end p, entries-end t e g i w))
-
-  -- a walk from the start with none to pass: no entry stands before the place that it comes to
-  pub none-before : (from r : Cursor) → from ≡ place 0 0 0 → Sought t e g i from r → entriesBefore t e g i r ≡ 0
-  none-before from r f so = omega (arith, at-place 0 from r f so)
-
-  -- a walk on from an entry, past it: there is one entry more before the place that it comes to
-  pub one-more : (c from n : Cursor) → Stands t c → c .segment < segments → segmentTest t e g i (c .segment) (c .row) ≡ true
-      → from ≡ place (c .segment) (c .row) 1 → Sought t e g i from n → entriesBefore t e g i n ≡ entriesBefore t e g i c + 1
-  one-more c from n st h p f so = go (ltb (n .segment) segments) refl
+  -- no entry has as many before it as there are
+  pub counted : entriesTo t e g i segments 0 ≤ k → entriesTo t e g i segments 0 + r .left ≡ k
+  counted most = go (ltb (r .segment) segments) refl
     where
-      passed : entriesBefore t e g i n + n .left ≡ entriesBefore t e g i c + 1
-      passed = so .passed ∙ ap (λ c. entriesBefore t e g i c + c .left) f
+      go : (b : Bool) → ltb (r .segment) segments ≡ b → entriesTo t e g i segments 0 + r .left ≡ k
+      go true q =
+          let h = ltb-true (r .segment) segments q in
+          let o = at-entry h in
+          absurd (omega (arith, o .1, entries-reach t e g i (r .segment) (r .row) h (so .stands .row) (o .0)))
+      go false q = at-end (omega (arith, ltb-false (r .segment) segments q, so .stands .segment))
 
-      go : (b : Bool) → ltb (n .segment) segments ≡ b → entriesBefore t e g i n ≡ entriesBefore t e g i c + 1
-      go true q = omega (arith, passed, so .found (ltb-true (n .segment) segments q) .1)
-      go false q =
-          let last : n .segment ≡ segments = omega (arith, ltb-false (n .segment) segments q, so .stands .segment) in
-          let all : entriesBefore t e g i n ≡ entriesTo t e g i segments 0 = ap₂ (entriesTo t e g i) last (so .stands .ended last) in
-          omega (arith, passed, all, entries-reach t e g i (c .segment) (c .row) h (st .row) p)
+  pub entry-found : (w : ℕ) (d : Entry) → (r .segment ≡ segments → ⊥) → getD (entryWalk t e g i w) k d ≡ segmentEntry t e g i w (r .segment) (r .row)
+  entry-found w d n =
+      let h : r .segment < segments = omega (arith, so .stands .segment) in
+      let o = at-entry h in
+      ap (λ k. getD (entryWalk t e g i w) k d) (sym (o .1)) ∙ entry-at t e g i (r .segment) (r .row) h (so .stands .row) (o .0) w d
 
-  -- the end
-  pub all-before : (c : Cursor) → Stands t c → segments ≤ c .segment → entriesBefore t e g i c ≡ entriesTo t e g i segments 0
-  all-before c st h = let p : c .segment ≡ segments = omega (arith, st .segment) in ap₂ (entriesTo t e g i) p (st .ended p)
+  pub entry-none : (w : ℕ) (d : Entry) → r .segment ≡ segments → getD (entryWalk t e g i w) k d ≡ d
+  entry-none w d p = List·getD-eq-default (entryWalk t e g i w) d (omega (arith, at-end p, entries-end t e g i w))
+
+-- a walk from the start with none to pass: no entry stands before the place that it comes to
+pub none-before : {t : Table} {e g i : ℕ} {from r : Cursor} → from ≡ place 0 0 0 → Sought t e g i from r → entriesBefore t e g i r ≡ 0
+none-before f so = omega (arith, at-place f so)
+
+-- a walk on from an entry, past it: there is one entry more before the place that it comes to
+pub one-more : {t : Table} {e g i : ℕ} {c from n : Cursor} → Stands t c → c .segment < segments → segmentTest t e g i (c .segment) (c .row) ≡ true
+    → from ≡ place (c .segment) (c .row) 1 → Sought t e g i from n → entriesBefore t e g i n ≡ entriesBefore t e g i c + 1
+one-more {t} {e} {g} {i} {c} {from} {n} st h p f so = go (ltb (n .segment) segments) refl
+  where
+    passed : entriesBefore t e g i n + n .left ≡ entriesBefore t e g i c + 1
+    passed = so .passed ∙ ap (λ c. entriesBefore t e g i c + c .left) f
+
+    go : (b : Bool) → ltb (n .segment) segments ≡ b → entriesBefore t e g i n ≡ entriesBefore t e g i c + 1
+    go true q = omega (arith, passed, so .found (ltb-true (n .segment) segments q) .1)
+    go false q =
+        let last : n .segment ≡ segments = omega (arith, ltb-false (n .segment) segments q, so .stands .segment) in
+        let all : entriesBefore t e g i n ≡ entriesTo t e g i segments 0 = ap₂ (entriesTo t e g i) last (so .stands .ended last) in
+        omega (arith, passed, all, entries-reach t e g i (c .segment) (c .row) h (st .row) p)
+
+-- the end
+pub all-before : {t : Table} (e g i : ℕ) {c : Cursor} → Stands t c → segments ≤ c .segment → entriesBefore t e g i c ≡ entriesTo t e g i segments 0
+all-before {t} e g i {c} st h = let p : c .segment ≡ segments = omega (arith, st .segment) in ap₂ (entriesTo t e g i) p (st .ended p)

@@ -1,9 +1,9 @@
 -- The tables of kinds, items, goals, tests and entries, read at a known number and at one that is none of those that a match names.
 use Prim.Native.Nat.{ℕ}
 use mathlib.Core.Path.{_≡_, refl, sym, ap, _∙_}
-use mathlib.Core.Bool.{Bool, true, false, cond}
+use mathlib.Core.Bool.{true, false, cond}
 use lib.ListN.{getD}
-use Rattle.lists.specs.All.{All, all-nil, all-cons}
+use Rattle.lists.specs.All.{all-nil, all-cons}
 use Rattle.lists.specs.Rows.{numbers}
 use Rattle.lists.proofs.Range.{table-rest}
 use Rattle.table.specs.Table.{Table}

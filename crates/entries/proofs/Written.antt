@@ -19,10 +19,10 @@ use Rattle.row.specs.declared.Row.{Row}
 use Rattle.row.specs.Row.{rowBytes, width}
 use Rattle.row.proofs.Form.{row-length}
 use Rattle.table.specs.Table.{Table}
-use Rattle.sequent.specs.Segments.{segments, segmentTest, segmentEntry, segment, hypothesisWalk, goalAt, entriesTo}
+use Rattle.sequent.specs.Segments.{segments, headerKind, headerItem, slotSequent, segmentTest, segmentEntry, segment, hypothesisWalk, entriesTo}
 use Rattle.sequent.proofs.Segments.{goal-segment}
 use Rattle.sequent.proofs.Seek.{entries-reach, made-of, made-length, made-at}
-use Rattle.service.specs.Printed.{entryRow, rowsBytes}
+use Rattle.service.specs.Printed.{row, entryRow, sequentRows, rowsBytes}
 use Rattle.entries.specs.declared.Cursor.{Cursor}
 use Rattle.entries.specs.Seek.{place, Stands, entriesBefore, Sought}
 use Rattle.entries.specs.Written.{segmentRow, entryRows}
@@ -100,10 +100,10 @@ module _ (t : Table) (e g i w : ℕ) (h : i < t .size) where
   unfolding bytesTo rowsBytes flatMap
   bytes-none = refl
 
-  -- the writer's loop: at the first entry, and there is room for one that is found
-  pub progress-start : (start : List ℕ) (from c : Cursor) → from ≡ place 0 0 0 → Sought t e g i from c → Progress t e g i w start start c 0
-  progress-start start from c f so =
-      let none = none-before t e g i from c f so in
+  -- the writer's loop starts at the first entry
+  pub progress-start : (start : List ℕ) {from c : Cursor} → from ≡ place 0 0 0 → Sought t e g i from c → Progress t e g i w start start c 0
+  progress-start start f so =
+      let none = none-before f so in
       record {
         stands = so .stands;
         found = λ l. so .found l .0;
@@ -112,44 +112,53 @@ module _ (t : Table) (e g i w : ℕ) (h : i < t .size) where
         bytes = over-none start ∙ ap (λ ws. over ws start) (sym (ap (bytesTo t e g i w) none ∙ bytes-none));
       }
 
-  module _ (start out : List ℕ) (c : Cursor) (at : ℕ) (pr : Progress t e g i w start out c at) where
-    pub progress-end : segments ≤ c .segment → out ≡ over (rowsBytes (entryRows t e g i w)) start
-    progress-end l = pr .bytes ∙ ap (λ ws. over ws start) (bytes-all (entriesBefore t e g i c) (all-before t e g i c (pr .stands) l))
+module _ {t : Table} {e g i w : ℕ} {start out : List ℕ} {c : Cursor} {at : ℕ} (h : i < t .size) (pr : Progress t e g i w start out c at) where
+  -- and ends with all
+  pub progress-end : segments ≤ c .segment → out ≡ over (rowsBytes (entryRows t e g i w)) start
+  progress-end l = pr .bytes ∙ ap (λ ws. over ws start) (bytes-all t e g i w h (entriesBefore t e g i c) (all-before e g i (pr .stands) l))
 
-    module _ (l : c .segment < segments) (fits : 38 * entriesTo t e g i segments 0 ≤ length start) where
-      reach : entriesBefore t e g i c < entriesTo t e g i segments 0
-      reach = entries-reach t e g i (c .segment) (c .row) l (pr .stands .row) (pr .found l)
+  module _ (l : c .segment < segments) (fits : 38 * entriesTo t e g i segments 0 ≤ length start) where
+    reach : entriesBefore t e g i c < entriesTo t e g i segments 0
+    reach = entries-reach t e g i (c .segment) (c .row) l (pr .stands .row) (pr .found l)
 
-      pub room : at + 38 ≤ length out
-      room = omega (arith, reach, pr .place, pr .size)
+    -- there is room for an entry that is found
+    pub room : at + 38 ≤ length out
+    room = omega (arith, reach, pr .place, pr .size)
 
-      -- past an entry whose row is written
-      module _ (from n : Cursor) (f : from ≡ place (c .segment) (c .row) 1) (so : Sought t e g i from n) where
-        more : entriesBefore t e g i n ≡ entriesBefore t e g i c + 1
-        more = one-more t e g i c from n (pr .stands) l (pr .found l) f so
+    -- past the entry, when its row is written
+    module _ {from n : Cursor} (f : from ≡ place (c .segment) (c .row) 1) (so : Sought t e g i from n) where
+      more : entriesBefore t e g i n ≡ entriesBefore t e g i c + 1
+      more = one-more (pr .stands) l (pr .found l) f so
 
-        pub fewer : entriesTo t e g i segments 0 - entriesBefore t e g i n < entriesTo t e g i segments 0 - entriesBefore t e g i c
-        fewer = omega (arith, more, reach)
+      pub fewer : entriesTo t e g i segments 0 - entriesBefore t e g i n < entriesTo t e g i segments 0 - entriesBefore t e g i c
+      fewer = omega (arith, more, reach)
 
-        pub progress-next : (r : Row) (part : List ℕ) → r ≡ segmentRow t e g i w (c .segment) (c .row)
-            → part ≡ over (rowBytes width r) (take (length out - at) (drop at out)) → Progress t e g i w start (putMid at (length out - at) out part) n (at + 38)
-        progress-next r part q o = record {
-          stands = so .stands;
-          found = λ k. so .found k .0;
-          place = omega (arith, more, pr .place);
-          size = ap length put ∙ over-length (bytesTo t e g i w (entriesBefore t e g i n)) start (omega (arith, size, reach, more));
-          bytes = put;
-        }
-          where
-            size : length (bytesTo t e g i w (entriesBefore t e g i n)) ≡ 38 * entriesBefore t e g i n
-            size = bytes-length (entriesBefore t e g i n) (omega (arith, more, reach))
+      pub progress-next : {r : Row} {part : List ℕ} → r ≡ segmentRow t e g i w (c .segment) (c .row)
+          → part ≡ over (rowBytes width r) (take (length out - at) (drop at out)) → Progress t e g i w start (putMid at (length out - at) out part) n (at + 38)
+      progress-next {r} {part} q o = record {
+        stands = so .stands;
+        found = λ k. so .found k .0;
+        place = omega (arith, more, pr .place);
+        size = ap length put ∙ over-length (bytesTo t e g i w (entriesBefore t e g i n)) start (omega (arith, size, reach, more));
+        bytes = put;
+      }
+        where
+          size : length (bytesTo t e g i w (entriesBefore t e g i n)) ≡ 38 * entriesBefore t e g i n
+          size = bytes-length t e g i w h (entriesBefore t e g i n) (omega (arith, more, reach))
 
-            joined : bytesTo t e g i w (entriesBefore t e g i c) ++ rowBytes width r ≡ bytesTo t e g i w (entriesBefore t e g i n)
-            joined = ap (λ r. bytesTo t e g i w (entriesBefore t e g i c) ++ rowBytes width r) q
-                ∙ sym (bytes-next (c .segment) (c .row) l (pr .stands .row) (pr .found l)) ∙ ap (bytesTo t e g i w) (sym more)
+          joined : bytesTo t e g i w (entriesBefore t e g i c) ++ rowBytes width r ≡ bytesTo t e g i w (entriesBefore t e g i n)
+          joined =
+              ap (λ r. bytesTo t e g i w (entriesBefore t e g i c) ++ rowBytes width r) q
+              ∙ sym (bytes-next t e g i w h (c .segment) (c .row) l (pr .stands .row) (pr .found l))
+              ∙ ap (bytesTo t e g i w) (sym more)
 
-            put : putMid at (length out - at) out part ≡ over (bytesTo t e g i w (entriesBefore t e g i n)) start
-            put =
-                over-tail (bytesTo t e g i w (entriesBefore t e g i c)) (rowBytes width r) start out part at
-                (bytes-length (entriesBefore t e g i c) (omega (arith, reach)) ∙ sym (pr .place)) (pr .bytes) o
-                ∙ ap (λ ws. over ws start) joined
+          put : putMid at (length out - at) out part ≡ over (bytesTo t e g i w (entriesBefore t e g i n)) start
+          put =
+              over-tail (bytesTo t e g i w (entriesBefore t e g i c)) (rowBytes width r) start out part at
+              (bytes-length t e g i w h (entriesBefore t e g i c) (omega (arith, reach)) ∙ sym (pr .place)) (pr .bytes) o
+              ∙ ap (λ ws. over ws start) joined
+
+-- the rows of a slot's sequent: its header, then the rows of its entries
+pub sequent-rows : (t : Table) (e g i w : ℕ) → sequentRows (slotSequent t e g i w) ≡ row 80 (headerKind g w) e (headerItem t e g i w) ∷ entryRows t e g i w
+unfolding sequentRows entryRows
+sequent-rows t e g i w = refl

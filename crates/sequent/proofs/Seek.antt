@@ -1,7 +1,7 @@
 -- Where the k-th entry of a slot's sequent comes from: `entriesTo` is how many entries stand before a row of a segment. A walk over segments and rows that takes one
 -- from k at each row that passes keeps `entriesTo` + what is left of k equal to k, by the steps below. A row's tag puts it into one segment at most, identifiers aside.
 use Prim.Native.Nat.{ℕ, zero, suc, _+_, _*_, _≤_, _<_}
-use mathlib.Core.Path.{_≡_, refl, sym, ap, _∙_}
+use mathlib.Core.Path.{_≡_, refl, _∙_}
 use mathlib.Core.Bool.{Bool, true, false, _&&_}
 use mathlib.Core.List.{List, map, flatMap}
 use native.Mathlib.Omega.{arith}

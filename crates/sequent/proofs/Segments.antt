@@ -14,10 +14,10 @@ use Rattle.lists.specs.Rows.{numbers, keep}
 use Rattle.lists.proofs.All.{all-at}
 use Rattle.lists.proofs.Rows.{numbers-in}
 use Rattle.lists.proofs.Flat.{keep-keep, keep-below, keep-only, keep-map, map-when, flat-next}
-use Rattle.table.specs.Table.{Table, tagged, section, kindOf, classOf}
+use Rattle.table.specs.Table.{Table, tagged, section, kindOf}
 use Rattle.table.proofs.Sections.{Rising}
 use Rattle.machine.specs.Machine.{Kind, isVariable, constantKind, abstractVariable, concreteVariable, abstractParameter, concreteParameter, Witness}
-use Rattle.machine.specs.Described.{kindNumbered, identifiersOf, machineOf}
+use Rattle.machine.specs.Described.{kindNumbered, machineOf}
 use Rattle.sequent.specs.Entry.{Entry, written, moves, variable}
 use Rattle.sequent.specs.Sequent.{Sequent}
 use Rattle.sequent.specs.Listed.{sequent, formulas, base, guarded, moved, allWritten, variables, witnessEntries, parameterWitnesses, invHypotheses}

@@ -1,11 +1,10 @@
 -- The loop's invariant: the place stands in the walk, and no entry is lost on the way to it.
 use Prim.Native.Nat.{_+_, _<_}
-use mathlib.Core.Path.{_≡_, refl, sym, ap, subst, _∙_}
+use mathlib.Core.Path.{_≡_, refl, sym, subst, _∙_}
 use native.Mathlib.Omega.{arith}
 use Rattle.table.specs.Table.{tableOf}
-use Rattle.sequent.specs.Segments.{segments}
-use Rattle.entries.specs.Seek.{nextPlace, Stands, entriesBefore}
-use Rattle.entries.proofs.Seek.{one-left, on-entry, ahead, Step, stepped}
+use Rattle.entries.specs.Seek.{Stands, entriesBefore}
+use Rattle.entries.proofs.Seek.{one-left, on-entry, ahead, stepped}
 use borrow.Author.Needs.{needs}
 use Rattle.entries.proofs.seek_entry.Statement.{statement}
 use Rattle.entries.proofs.seek_entry.Tie as tie

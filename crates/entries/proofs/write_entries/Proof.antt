@@ -1,6 +1,5 @@
 -- The loop's invariant: the rows of the entries before the place are written, and the place is that of an entry or the end.
-use Prim.Native.Nat.{_+_, _-_, _*_, _≤_, _<_}
-use mathlib.Core.Path.{_≡_}
+use Prim.Native.Nat.{_-_}
 use native.Mathlib.Omega.{arith}
 use lib.ListN.{length-take, length-drop}
 use Rattle.table.specs.Table.{tableOf}
@@ -23,67 +22,41 @@ write-entries-spec = tie.close (tie.spec
     Inv-loop
     μ-loop
     (λ c κs. search needs)
-    (λ c κs. let s = c .before .before .before in
-    (s .pre .0 .0, start-stands (tableOf (s .args .words .now)) (c .start .result) 0 (c .start .ensures) (omega (arith, s .pre .0 .1))))
+    (λ c κs. let s = c .before .before .before in (s .pre .0 .0, start-stands (c .start .ensures) (omega (arith, s .pre .0 .1))))
     (λ c. let s = c .before .before .before .before in
     let a = s .args in
-    progress-start (tableOf (a .words .now)) (a .event) (a .group) (a .row) (a .which) (s .pre .0 .1) (a .out .now) (c .before .start .result) (c .seek-entry .result) (c .before .start .ensures) (c .seek-entry .ensures))
+    progress-start (tableOf (a .words .now)) (a .event) (a .group) (a .row) (a .which) (s .pre .0 .1) (a .out .now) (c .before .start .ensures) (c .seek-entry .ensures))
     (λ c κs. let turn = c .before .before in
     let s = turn .before .before .before .before .before in
     (s .pre .0 .0, s .pre .0 .1, turn .loop .inv .stands .row))
     (λ c. let turn = c .before .before .before in
-    let l = turn .loop in
     let s = turn .before .before .before .before .before in
-    let a = s .args in
-    let t = tableOf (a .words .now) in
-    omega (arith, room t (a .event) (a .group) (a .row) (a .which) (s .pre .0 .1) (a .out .now) (l .out) (l .cursor) (l .at) (l .inv) (c .before .if1 .taken) (s .pre .1)))
+    omega (arith, room (s .pre .0 .1) (turn .loop .inv) (c .before .if1 .taken) (s .pre .1)))
     (λ c. let turn = c .before .before .before in
-    let l = turn .loop in
     let s = turn .before .before .before .before .before in
-    let a = s .args in
-    let t = tableOf (a .words .now) in
-    omega (arith, room t (a .event) (a .group) (a .row) (a .which) (s .pre .0 .1) (a .out .now) (l .out) (l .cursor) (l .at) (l .inv) (c .before .if1 .taken) (s .pre .1)))
+    omega (arith, room (s .pre .0 .1) (turn .loop .inv) (c .before .if1 .taken) (s .pre .1)))
     (λ c. let turn = c .before .before .before in
-    let l = turn .loop in
     let s = turn .before .before .before .before .before in
-    let a = s .args in
-    let t = tableOf (a .words .now) in
-    omega (arith, room t (a .event) (a .group) (a .row) (a .which) (s .pre .0 .1) (a .out .now) (l .out) (l .cursor) (l .at) (l .inv) (c .before .if1 .taken) (s .pre .1)))
+    omega (arith, room (s .pre .0 .1) (turn .loop .inv) (c .before .if1 .taken) (s .pre .1)))
     (λ c κs. let turn = c .before .before .before .before in
-    let l = turn .loop in
     let s = turn .before .before .before .before .before in
-    let a = s .args in
-    let t = tableOf (a .words .now) in
-    simp (length-take, length-drop) (omega (arith, room t (a .event) (a .group) (a .row) (a .which) (s .pre .0 .1) (a .out .now) (l .out) (l .cursor) (l .at) (l .inv) (c .before .before .if1 .taken) (s .pre .1))))
+    simp (length-take, length-drop) (omega (arith, room (s .pre .0 .1) (turn .loop .inv) (c .before .before .if1 .taken) (s .pre .1))))
     (λ c κs. search needs)
     (λ c κs. let turn = c .before .before .before .before .before .before .before .before in
-    let l = turn .loop in
     let s = turn .before .before .before .before .before in
-    let a = s .args in
-    let t = tableOf (a .words .now) in
-    (s .pre .0 .0, passing-stands t (c .passing .result) (l .cursor) (c .passing .ensures) (l .inv .stands)))
+    (s .pre .0 .0, passing-stands (c .passing .ensures) (turn .loop .inv .stands)))
     (λ c. let turn = c .before .before .before .before .before .before .before .before .before in
-    let l = turn .loop in
     let s = turn .before .before .before .before .before in
-    let a = s .args in
-    let t = tableOf (a .words .now) in
-    omega (arith, room t (a .event) (a .group) (a .row) (a .which) (s .pre .0 .1) (a .out .now) (l .out) (l .cursor) (l .at) (l .inv) (c .before .before .before .before .before .before .before .if1 .taken) (s .pre .1), l .inv .size, s .good .1 .1 .1 .1 .1 .1 .0 .0))
+    omega (arith, room (s .pre .0 .1) (turn .loop .inv) (c .before .before .before .before .before .before .before .if1 .taken) (s .pre .1), turn .loop .inv .size, s .good .1 .1 .1 .1 .1 .1 .0 .0))
     (λ c. let turn = c .before .before .before .before .before .before .before .before .before in
-    let l = turn .loop in
     let s = turn .before .before .before .before .before in
-    let a = s .args in
-    let t = tableOf (a .words .now) in
-    fewer t (a .event) (a .group) (a .row) (a .which) (s .pre .0 .1) (a .out .now) (l .out) (l .cursor) (l .at) (l .inv) (c .before .before .before .before .before .before .before .if1 .taken) (s .pre .1) (c .before .passing .result) (c .seek-entry2 .result) (c .before .passing .ensures) (c .seek-entry2 .ensures))
-    (λ c. let turn = c .before .before .before .before .before .before .before .before .before in
-    let l = turn .loop in
+    fewer (s .pre .0 .1) (turn .loop .inv) (c .before .before .before .before .before .before .before .if1 .taken) (s .pre .1) (c .before .passing .ensures) (c .seek-entry2 .ensures))
+    (λ c. let wrote = c .before .before .before .before in
+    let drawn = wrote .before .before in
+    let turn = drawn .before .before .before in
     let s = turn .before .before .before .before .before in
-    let a = s .args in
-    let t = tableOf (a .words .now) in
-    progress-next t (a .event) (a .group) (a .row) (a .which) (s .pre .0 .1) (a .out .now) (l .out) (l .cursor) (l .at) (l .inv) (c .before .before .before .before .before .before .before .if1 .taken) (s .pre .1) (c .before .passing .result) (c .seek-entry2 .result) (c .before .passing .ensures) (c .seek-entry2 .ensures) (c .before .before .before .before .before .before .row-at .result) (c .before .before .before .before .write .last .1 .0) (c .before .before .before .before .before .before .row-at .ensures) (c .before .before .before .before .write .ensures))
+    progress-next (s .pre .0 .1) (turn .loop .inv) (drawn .before .if1 .taken) (s .pre .1) (c .before .passing .ensures) (c .seek-entry2 .ensures) (drawn .row-at .ensures) (wrote .write .ensures))
     (λ c. c .before .before .loop .inv .size)
     (λ c. let turn = c .before .before in
-    let l = turn .loop in
     let s = turn .before .before .before .before .before in
-    let a = s .args in
-    let t = tableOf (a .words .now) in
-    progress-end t (a .event) (a .group) (a .row) (a .which) (s .pre .0 .1) (a .out .now) (l .out) (l .cursor) (l .at) (l .inv) (c .if1 .left)))
+    progress-end (s .pre .0 .1) (turn .loop .inv) (c .if1 .left)))

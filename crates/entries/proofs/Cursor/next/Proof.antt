@@ -1,9 +1,5 @@
 -- Within a segment to the next row, else to the next segment.
-use mathlib.Core.Path.{sym, ap, _∙_}
-use lib.Dec.{ltb}
 use borrow.Author.Tests.{lt-ltb, le-ltb}
-use Rattle.lists.specs.Choice.{pick}
-use Rattle.entries.specs.Seek.{place, nextPlace}
 use borrow.Author.Needs.{needs}
 use Rattle.entries.proofs.Cursor.next.Statement.{statement}
 use Rattle.entries.proofs.Cursor.next.Tie as tie
