@@ -13,6 +13,11 @@ use table::identifier_field;
 use table::one_if;
 use table::size;
 use table::tag_at;
+use walk::identifier_at;
+use walk::is_abstract;
+use walk::is_convergent;
+use walk::own_kind;
+use walk::row_of_event;
 ghost use mathlib.Core.Path.{_≡_};
 ghost use Prim.Native.Nat.{_*_, _<_, _≤_};
 ghost use lib.ListN.{length, getD};
@@ -23,34 +28,19 @@ ghost use Rattle.table.specs.Table.{tableOf, tagged};
 ghost use Rattle.table.specs.Counts.{countsOf};
 ghost use Rattle.sequent.specs.Entry.{written};
 ghost use Rattle.sequent.specs.Numbers.{numbers, numbersOf};
-ghost use Rattle.sequent.specs.Walk.{rowOfEvent, isAbstract, isConvergent, matchedBy, ownKind, identifierAt, actionRow};
+ghost use Rattle.sequent.specs.Walk.{matchedBy, actionRow};
 ghost use Rattle.sequent.specs.Segments.{isWFIS, headerKind, beforeIn, headerItem, goalOf, goalAt, isInitial, hasAbstract, hasConcrete, isVariableNumber, hasMoves, hasWitnesses};
 ghost use Rattle.sequent.specs.Segments.{witnessIn, hasAbstractMoves, segments, segmentTest, segmentEntry, entryWalk, entriesTo};
 ghost use Rattle.service.specs.Printed.{rowsBytes};
 ghost use Rattle.entries.specs.Seek.{place, nextPlace, Stands, Sought};
 ghost use Rattle.entries.specs.Written.{numbersRow, segmentTag, segmentRow, entryRows};
 
-// Whether an event is the abstract machine's.
-fn is_abstract(words: &[u64], table: Table, event: u64) -> bool
-    requires { ⌜ table ≡ countsOf (tableOf (now words)) ⌝ }
-    ensures { λ r. ⌜ r ≡ isAbstract (tableOf (now (words .entry))) event ⌝ }
-{
-    event_field(words, table, event, Table::MACHINE) == 1
-}
-
+// "class: 0 initialisation"
 fn is_initial(words: &[u64], table: Table, event: u64) -> bool
     requires { ⌜ table ≡ countsOf (tableOf (now words)) ⌝ }
     ensures { λ r. ⌜ r ≡ isInitial (tableOf (now (words .entry))) event ⌝ }
 {
     event_field(words, table, event, Table::CLASS) == 0
-}
-
-fn is_convergent(words: &[u64], table: Table, event: u64) -> bool
-    requires { ⌜ table ≡ countsOf (tableOf (now words)) ⌝ }
-    ensures { λ r. ⌜ r ≡ isConvergent (tableOf (now (words .entry))) event ⌝ }
-{
-    let class = event_field(words, table, event, Table::CLASS);
-    !is_abstract(words, table, event) & !((class == 0) | (class == 1))
 }
 
 // The abstract event that an event's steps are matched by.
@@ -64,40 +54,13 @@ fn matched_by(words: &[u64], table: Table, event: u64) -> u64
     event_field(words, table, event, Table::REFINED)
 }
 
-// The kind of the variables of an event's own machine.
-fn own_kind(words: &[u64], table: Table, event: u64) -> u64
-    requires { ⌜ table ≡ countsOf (tableOf (now words)) ⌝ }
-    ensures { λ r. ⌜ r ≡ ownKind (tableOf (now (words .entry))) event ⌝ }
-{
-    if is_abstract(words, table, event) {
-        return 2;
-    }
-    3
-}
-
+// Kinds 2 and 3.
 fn is_variable(words: &[u64], table: Table, x: u64) -> bool
     requires { ⌜ table ≡ countsOf (tableOf (now words)) ⌝ }
     ensures { λ r. ⌜ r ≡ isVariableNumber (tableOf (now (words .entry))) x ⌝ }
 {
     let kind = identifier_field(words, table, x, Table::KIND);
     (kind == 2) | (kind == 3)
-}
-
-// Whether there is an identifier j + 1, of a kind.
-fn identifier_at(words: &[u64], table: Table, kind: u64, j: usize) -> bool
-    requires { ⌜ (table ≡ countsOf (tableOf (now words))) × (j < tableOf (now words) .size) ⌝ }
-    ensures { λ r. ⌜ r ≡ identifierAt (tableOf (now (words .entry))) kind j ⌝ }
-{
-    let found = identifier_field(words, table, j as u64 + 1, Table::KIND);
-    ((j as u64) < table.identifiers) & (found == kind)
-}
-
-// Whether row j has a tag and belongs to an event.
-fn row_of_event(words: &[u64], tag: u64, event: u64, j: usize) -> bool
-    ensures { λ r. ⌜ r ≡ rowOfEvent (tableOf (now (words .entry))) tag event j ⌝ }
-{
-    let found = tag_at(words, j);
-    (found == tag) & (a_at(words, j) == event)
 }
 
 // The row of an event's action for a variable; the number of rows where it is unassigned.
@@ -180,7 +143,7 @@ fn segment_test(
     segment: u64,
     j: usize,
 ) -> bool
-    requires { ⌜ (table ≡ countsOf (tableOf (now words))) × (j < tableOf (now words) .size) ⌝ }
+    requires { ⌜ table ≡ countsOf (tableOf (now words)) ⌝ }
     ensures { λ r. ⌜ r ≡ segmentTest (tableOf (now (words .entry))) event group row segment j ⌝ }
 {
     match segment {

@@ -21,7 +21,7 @@ seek-entry-spec = tie.close (tie.spec
     μ-loop
     (λ c κs. search needs)
     (λ c. (c .before .before .pre .1, refl))
-    (λ c κs. let l = c .before .before .loop in (c .before .before .before .before .before .pre .0, l .inv .0 .row))
+    (λ c κs. c .before .before .before .before .before .pre .0)
     (λ c. let turn = c .before .before .before .before .before in
     let l = turn .loop in
     let f = on-entry (c .before .before .segment-test .result) (l .cursor .left) (c .if2 .taken) in
