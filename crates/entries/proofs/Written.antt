@@ -6,7 +6,7 @@ use mathlib.Core.Bool.{true, cond}
 use mathlib.Core.List.{List, [], _∷_, _++_, map, flatMap, map-map, append-nil}
 use native.Mathlib.Omega.{arith}
 use native.Mathlib.Numerals.{add-one}
-use lib.ListN.{length, getD, take, drop, length-append, length-take}
+use lib.ListN.{length, getD, take, drop, length-take}
 use lib.Seq.{take-suc, take-all}
 use borrow.Author.Tests.{ne-eqb}
 use borrow.Rule.Slice.PartMut.{putMid}
@@ -14,29 +14,23 @@ use Rattle.lists.specs.Over.{over}
 use Rattle.lists.specs.Rows.{numbers, keep}
 use Rattle.lists.proofs.Rows.{in-numbers}
 use Rattle.lists.proofs.Over.{over-none, over-length, over-tail}
-use Rattle.lists.proofs.Flat.{flat-join, flat-same, flat-next, map-flat}
+use Rattle.lists.proofs.Flat.{flat-same, flat-next, map-flat}
 use Rattle.row.specs.declared.Row.{Row}
 use Rattle.row.specs.Row.{rowBytes, width}
-use Rattle.row.proofs.Form.{row-length}
 use Rattle.table.specs.Table.{Table}
 use Rattle.sequent.specs.Segments.{segments, headerKind, headerItem, slotSequent, segmentTest, segmentEntry, segment, hypothesisWalk, entriesTo}
 use Rattle.sequent.proofs.Segments.{goal-segment}
 use Rattle.sequent.proofs.Seek.{entries-reach, made-of, made-length, made-at}
+use Rattle.service.proofs.Printed.{rows-length, rows-join}
 use Rattle.service.specs.Printed.{row, entryRow, sequentRows, rowsBytes}
 use Rattle.entries.specs.declared.Cursor.{Cursor}
 use Rattle.entries.specs.Seek.{place, Stands, entriesBefore, Sought}
 use Rattle.entries.specs.Written.{segmentRow, entryRows}
 use Rattle.entries.proofs.Seek.{none-before, one-more, all-before}
 
-pub rows-length : (rs : List Row) → length (rowsBytes rs) ≡ 38 * length rs
+one-row : (r : Row) → rowsBytes (r ∷ []) ≡ rowBytes width r
 unfolding rowsBytes flatMap
-rows-length [] = refl
-rows-length (r ∷ rs) =
-    length-append (rowBytes width r) (flatMap (rowBytes width) rs) ∙ omega (arith, row-length width r, rows-length rs)
-
-pub rows-join : (rs : List Row) (r : Row) → rowsBytes (rs ++ (r ∷ [])) ≡ rowsBytes rs ++ rowBytes width r
-unfolding rowsBytes flatMap
-rows-join rs r = flat-join (rowBytes width) rs (r ∷ []) ∙ ap (λ bs. flatMap (rowBytes width) rs ++ bs) (append-nil (rowBytes width r))
+one-row r = append-nil (rowBytes width r)
 
 -- the bytes of the first n rows
 unfoldable pub bytesTo : Table → ℕ → ℕ → ℕ → ℕ → ℕ → List ℕ
@@ -89,8 +83,8 @@ module _ (t : Table) (e g i w : ℕ) (h : i < t .size) where
       let at : getD R n d ≡ d = ap (λ rs. getD rs n d) rows-made ∙ made-at t e g i s j hs hj p (segmentRow t e g i w) d in
       ap (λ k. rowsBytes (take k R)) (add-one n)
       ∙ ap rowsBytes (take-suc R n d (omega (arith, rows-count, entries-reach t e g i s j hs hj p)))
-      ∙ rows-join (take n R) (getD R n d)
-      ∙ ap (λ r. rowsBytes (take n R) ++ rowBytes width r) at
+      ∙ rows-join (take n R) (getD R n d ∷ [])
+      ∙ ap (λ bs. rowsBytes (take n R) ++ bs) (one-row (getD R n d) ∙ ap (rowBytes width) at)
 
   bytes-all : (n : ℕ) → n ≡ entriesTo t e g i segments 0 → bytesTo t e g i w n ≡ rowsBytes (entryRows t e g i w)
   unfolding bytesTo

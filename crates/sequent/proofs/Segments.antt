@@ -8,7 +8,7 @@ use mathlib.Core.List.{List, [], _∷_, _++_, map, flatMap, map-map, map-append,
 use native.Mathlib.Omega.{arith}
 use lib.Dec.{ltb, leb, eqb}
 use lib.ListN.{getD}
-use borrow.Author.Tests.{eqb-true, ne-eqb}
+use borrow.Author.Tests.{eqb-true}
 use Rattle.lists.specs.All.{All, all-nil, all-cons}
 use Rattle.lists.specs.Rows.{numbers, keep}
 use Rattle.lists.proofs.All.{all-at}
@@ -16,8 +16,9 @@ use Rattle.lists.proofs.Rows.{numbers-in}
 use Rattle.lists.proofs.Flat.{keep-keep, keep-below, keep-only, keep-map, map-when, flat-next}
 use Rattle.table.specs.Table.{Table, tagged, section, kindOf}
 use Rattle.table.proofs.Sections.{Rising}
-use Rattle.machine.specs.Machine.{Kind, isVariable, constantKind, abstractVariable, concreteVariable, abstractParameter, concreteParameter, Witness}
-use Rattle.machine.specs.Described.{kindNumbered, machineOf}
+use Rattle.machine.specs.Machine.{Witness}
+use Rattle.machine.specs.Described.{machineOf}
+use Rattle.machine.proofs.Variables.{variable-kind}
 use Rattle.sequent.specs.Entry.{Entry, written, moves, variable}
 use Rattle.sequent.specs.Sequent.{Sequent}
 use Rattle.sequent.specs.Listed.{sequent, formulas, base, guarded, moved, allWritten, variables, witnessEntries, parameterWitnesses, invHypotheses}
@@ -26,30 +27,6 @@ use Rattle.sequent.specs.Segments.{headerKind, beforeIn, headerItem, goa
 use Rattle.sequent.specs.Segments.{hasAbstractMoves, segmentTest, segmentEntry, segment, hypothesisWalk, entryWalk, slotSequent}
 use Rattle.sequent.proofs.Walk.{formulas-below}
 use Rattle.sequent.proofs.Groups.{by-role, variables-own, guards-rows, witnesses-rows, map-identifiers}
-
--- a kind is a variable's by its number
-variable-kind : (n : ℕ) → isVariable (kindNumbered n) ≡ (eqb n 2 || eqb n 3)
-unfolding kindNumbered
-variable-kind n =
-    go (eqb n 1) (eqb n 2) (eqb n 3) (eqb n 4) (λ p. ne-eqb n 2 (omega (arith, eqb-true n 1 p))) (λ p. ne-eqb n 3 (omega (arith, eqb-true n 1 p)))
-  where
-    by-tests : Bool → Bool → Bool → Bool → Kind
-    by-tests a b c d =
-        elim a [
-          | true ↦ constantKind
-          | false ↦
-              elim b [
-                | true ↦ abstractVariable
-                | false ↦ elim c [ true ↦ concreteVariable | false ↦ elim d [ true ↦ abstractParameter | false ↦ concreteParameter ] ]
-              ]
-        ]
-
-    go : (a b c d : Bool) → (a ≡ true → b ≡ false) → (a ≡ true → c ≡ false) → isVariable (by-tests a b c d) ≡ (b || c)
-    go true b c d f g = sym (ap₂ _||_ (f refl) (g refl))
-    go false true c d f g = refl
-    go false false true d f g = refl
-    go false false false true f g = refl
-    go false false false false f g = refl
 
 module _ (t : Table) where
   abbrev rows : List ℕ

@@ -24,6 +24,7 @@ kinds = WD ∷ WD ∷ WD ∷ WD ∷ FIS ∷ WD ∷ GRD ∷ SIM ∷ INV ∷ NAT �
 abbrev pub isWFIS : ℕ → ℕ → Bool
 isWFIS g w = eqb g 5 && eqb w 1
 
+-- the kind of row 80
 unfoldable pub headerKind : ℕ → ℕ → ℕ
 headerKind g w = cond (isWFIS g w) WFIS (getD kinds g WD)
 
@@ -38,6 +39,7 @@ module _ (t : Table) where
       (λ e i. t .a i) ∷ (λ e i. t .a i) ∷ (λ e i. t .b i) ∷ (λ e i. t .c (actionRow t e (i + 1))) ∷ (λ e i. i + 1) ∷ (λ e i. t .c i)
       ∷ (λ e i. t .b i) ∷ (λ e i. i + 1) ∷ (λ e i. t .a i) ∷ (λ e i. t .a i) ∷ (λ e i. t .a i) ∷ []
 
+  -- the item of row 80
   unfoldable pub headerItem : ℕ → ℕ → ℕ → ℕ → ℕ
   headerItem e g i w = cond (isWFIS g w) (t .b i) (getD items g (λ e i. t .a i) e i)
 
@@ -50,16 +52,19 @@ module _ (t : Table) where
   unfoldable pub goalOf : ℕ → ℕ → ℕ → Entry
   goalOf kind e x = getD goals kind (λ e x. defined x) e x
 
+  -- the goal of a slot's sequent, by its kind and its item
   abbrev pub goalAt : ℕ → ℕ → ℕ → ℕ → Entry
   goalAt e g i w = goalOf (headerKind g w) e (headerItem e g i w)
 
-  -- column "hypotheses". "the axioms; then, except for initialisations, the abstract invariants and, for concrete events, the concrete ones"; groups 0 and 1 have all
+  -- "class: 0 initialisation"
   abbrev pub isInitial : ℕ → Bool
   isInitial e = eqb (classOf t e) 0
 
+  -- column "hypotheses": "the axioms; then, except for initialisations, the abstract invariants"; groups 0 and 1 have all
   abbrev pub hasAbstract : ℕ → ℕ → Bool
   hasAbstract e g = ltb g 2 || not (isInitial e)
 
+  -- "and, for concrete events, the concrete ones"
   abbrev pub hasConcrete : ℕ → ℕ → Bool
   hasConcrete e g = ltb g 2 || (not (isInitial e) && not (isAbstract t e))
 

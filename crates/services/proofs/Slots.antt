@@ -25,7 +25,7 @@ use Rattle.service.specs.Printed.{row, entryRow, sequentRows, rowsBytes}
 use Rattle.service.specs.Spelled.{spell}
 use Rattle.service.specs.Service.{Outcome, refused, writeRows, among, entries, spellAt}
 use Rattle.entries.specs.Written.{entryRows}
-use Rattle.entries.proofs.Written.{rows-length}
+use Rattle.service.proofs.Printed.{rows-length}
 use Rattle.spell.specs.Spell.{entryRows as spelledRows}
 use Rattle.walk.specs.declared.Slot.{Slot}
 use Rattle.services.specs.Found.{slotSequentOf}
