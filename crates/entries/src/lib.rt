@@ -133,6 +133,75 @@ fn has_abstract_moves(words: &[u64], table: Table, event: u64, group: u64) -> bo
     (group == 8) & is_convergent(words, table, event)
 }
 
+// Segments 1 and 2: the row's own test first, as most rows fail it.
+fn abstract_test(words: &[u64], table: Table, event: u64, group: u64, row: usize, j: usize) -> bool
+    requires { ⌜ table ≡ countsOf (tableOf (now words)) ⌝ }
+    ensures { λ r. ⌜ r ≡ segmentTest (tableOf (now (words .entry))) event group row 1 j ⌝ }
+{
+    if formula_test(words, 31, group, row, j) {
+        return has_abstract(words, table, event, group);
+    }
+    false
+}
+
+fn concrete_test(words: &[u64], table: Table, event: u64, group: u64, row: usize, j: usize) -> bool
+    requires { ⌜ table ≡ countsOf (tableOf (now words)) ⌝ }
+    ensures { λ r. ⌜ r ≡ segmentTest (tableOf (now (words .entry))) event group row 2 j ⌝ }
+{
+    if formula_test(words, 32, group, row, j) {
+        return has_concrete(words, table, event, group);
+    }
+    false
+}
+
+// Segment 3.
+fn guard_test(words: &[u64], event: u64, group: u64, row: usize, j: usize) -> bool
+    ensures { λ r. ⌜ r ≡ segmentTest (tableOf (now (words .entry))) event group row 3 j ⌝ }
+{
+    (2 <= group) & (before_in(2, group, row, j) & row_of_event(words, 50, event, j))
+}
+
+// Segment 4.
+fn moves_test(words: &[u64], table: Table, event: u64, group: u64, row: usize, j: usize) -> bool
+    requires { ⌜ table ≡ countsOf (tableOf (now words)) ⌝ }
+    ensures { λ r. ⌜ r ≡ segmentTest (tableOf (now (words .entry))) event group row 4 j ⌝ }
+{
+    if table.identifiers <= j as u64 {
+        return false;
+    }
+    has_moves(words, table, group, row)
+        & identifier_at(words, table, own_kind(words, table, event), j)
+}
+
+// Segment 5.
+fn witness_test(words: &[u64], table: Table, event: u64, group: u64, row: usize, j: usize) -> bool
+    requires { ⌜ table ≡ countsOf (tableOf (now words)) ⌝ }
+    ensures { λ r. ⌜ r ≡ segmentTest (tableOf (now (words .entry))) event group row 5 j ⌝ }
+{
+    if row_of_event(words, 60, event, j) {
+        return has_witnesses(words, table, event, group) & witness_in(words, table, group, j);
+    }
+    false
+}
+
+// Segment 6.
+fn abstract_moves_test(
+    words: &[u64],
+    table: Table,
+    event: u64,
+    group: u64,
+    row: usize,
+    j: usize,
+) -> bool
+    requires { ⌜ table ≡ countsOf (tableOf (now words)) ⌝ }
+    ensures { λ r. ⌜ r ≡ segmentTest (tableOf (now (words .entry))) event group row 6 j ⌝ }
+{
+    if identifier_at(words, table, 2, j) {
+        return has_abstract_moves(words, table, event, group);
+    }
+    false
+}
+
 // Whether row j has an entry in a segment of the slot's sequents.
 fn segment_test(
     words: &[u64],
@@ -148,18 +217,12 @@ fn segment_test(
 {
     match segment {
         0 => formula_test(words, 30, group, row, j),
-        1 => has_abstract(words, table, event, group) & formula_test(words, 31, group, row, j),
-        2 => has_concrete(words, table, event, group) & formula_test(words, 32, group, row, j),
-        3 => (2 <= group) & (before_in(2, group, row, j) & row_of_event(words, 50, event, j)),
-        4 => {
-            has_moves(words, table, group, row)
-                & identifier_at(words, table, own_kind(words, table, event), j)
-        }
-        5 => {
-            has_witnesses(words, table, event, group)
-                & (witness_in(words, table, group, j) & row_of_event(words, 60, event, j))
-        }
-        6 => has_abstract_moves(words, table, event, group) & identifier_at(words, table, 2, j),
+        1 => abstract_test(words, table, event, group, row, j),
+        2 => concrete_test(words, table, event, group, row, j),
+        3 => guard_test(words, event, group, row, j),
+        4 => moves_test(words, table, event, group, row, j),
+        5 => witness_test(words, table, event, group, row, j),
+        6 => abstract_moves_test(words, table, event, group, row, j),
         7 => j == row,
         _ => false,
     }

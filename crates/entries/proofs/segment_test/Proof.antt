@@ -1,10 +1,7 @@
--- Each segment by its row of the table.
-use mathlib.Core.Path.{_≡_, sym, ap, ap₂, _∙_}
+-- Each segment by its own test.
+use mathlib.Core.Path.{_≡_, sym, ap, _∙_}
 use native.Mathlib.Omega.{arith}
-use mathlib.Core.Bool.{_&&_}
-use lib.Dec.{leb}
 use Rattle.table.specs.Table.{tableOf}
-use Rattle.sequent.specs.Walk.{identifierAt}
 use Rattle.sequent.specs.Segments.{segmentTest}
 use Rattle.entries.proofs.Tables.{test-rest}
 use borrow.Author.Needs.{needs}
@@ -21,42 +18,34 @@ segment-test-spec = tie.close (tie.spec
     (λ c κs. search needs)
     (λ c κs. search needs)
     (λ c κs. search needs)
-    (λ c κs. search needs)
-    (λ c κs. search needs)
-    (λ c κs. search needs)
-    (λ c κs. search needs)
-    (λ c κs. search needs)
-    (λ c κs. search needs)
-    (λ c κs. search needs)
-    (λ c κs. search needs)
     (λ c. let a = c .before .before .before .args in
     let t = tableOf (a .words .now) in
     let e : a .segment ≡ 0 = omega arith in
     c .formula-test .ensures ∙ ap (λ s. segmentTest t (a .event) (a .group) (a .row) s (a .j)) (sym e))
-    (λ c. let a = c .before .before .before .before .args in
+    (λ c. let a = c .before .before .before .args in
     let t = tableOf (a .words .now) in
     let e : a .segment ≡ 1 = omega arith in
-    ap₂ _&&_ (c .before .has-abstract .ensures) (c .formula-test2 .ensures) ∙ ap (λ s. segmentTest t (a .event) (a .group) (a .row) s (a .j)) (sym e))
-    (λ c. let a = c .before .before .before .before .args in
+    c .abstract-test .ensures ∙ ap (λ s. segmentTest t (a .event) (a .group) (a .row) s (a .j)) (sym e))
+    (λ c. let a = c .before .before .before .args in
     let t = tableOf (a .words .now) in
     let e : a .segment ≡ 2 = omega arith in
-    ap₂ _&&_ (c .before .has-concrete .ensures) (c .formula-test3 .ensures) ∙ ap (λ s. segmentTest t (a .event) (a .group) (a .row) s (a .j)) (sym e))
-    (λ c. let a = c .before .before .before .before .args in
+    c .concrete-test .ensures ∙ ap (λ s. segmentTest t (a .event) (a .group) (a .row) s (a .j)) (sym e))
+    (λ c. let a = c .before .before .before .args in
     let t = tableOf (a .words .now) in
     let e : a .segment ≡ 3 = omega arith in
-    ap (λ b. leb 2 (a .group) && b) (ap₂ _&&_ (c .before .before-in .ensures) (c .row-of-event .ensures)) ∙ ap (λ s. segmentTest t (a .event) (a .group) (a .row) s (a .j)) (sym e))
-    (λ c. let a = c .before .before .before .before .before .args in
+    c .guard-test .ensures ∙ ap (λ s. segmentTest t (a .event) (a .group) (a .row) s (a .j)) (sym e))
+    (λ c. let a = c .before .before .before .args in
     let t = tableOf (a .words .now) in
     let e : a .segment ≡ 4 = omega arith in
-    ap₂ _&&_ (c .before .before .has-moves .ensures) (c .identifier-at .ensures ∙ ap (λ k. identifierAt t k (a .j)) (c .before .own-kind .ensures)) ∙ ap (λ s. segmentTest t (a .event) (a .group) (a .row) s (a .j)) (sym e))
-    (λ c. let a = c .before .before .before .before .before .args in
+    c .moves-test .ensures ∙ ap (λ s. segmentTest t (a .event) (a .group) (a .row) s (a .j)) (sym e))
+    (λ c. let a = c .before .before .before .args in
     let t = tableOf (a .words .now) in
     let e : a .segment ≡ 5 = omega arith in
-    ap₂ _&&_ (c .before .before .has-witnesses .ensures) (ap₂ _&&_ (c .before .witness-in .ensures) (c .row-of-event2 .ensures)) ∙ ap (λ s. segmentTest t (a .event) (a .group) (a .row) s (a .j)) (sym e))
-    (λ c. let a = c .before .before .before .before .args in
+    c .witness-test .ensures ∙ ap (λ s. segmentTest t (a .event) (a .group) (a .row) s (a .j)) (sym e))
+    (λ c. let a = c .before .before .before .args in
     let t = tableOf (a .words .now) in
     let e : a .segment ≡ 6 = omega arith in
-    ap₂ _&&_ (c .before .has-abstract-moves .ensures) (c .identifier-at2 .ensures) ∙ ap (λ s. segmentTest t (a .event) (a .group) (a .row) s (a .j)) (sym e))
+    c .abstract-moves-test .ensures ∙ ap (λ s. segmentTest t (a .event) (a .group) (a .row) s (a .j)) (sym e))
     (λ c. let a = c .before .before .args in
     let t = tableOf (a .words .now) in
     let e : a .segment ≡ 7 = omega arith in
