@@ -10,7 +10,7 @@ use Rattle.verdict.proofs.load.Tie as tie
 pub load-spec : {M : Type 1} → statement M
 load-spec = tie.close (tie.spec
     (λ c. let b = c .before .before .before .args .bytes .now in
-    let refused = too-long b (c .if1 .taken) in
+    let refused = too-long b (omega (arith, c .if1 .taken)) in
     (sym refused, holds-none b 1 0 _ refused))
     (λ c. let b = c .before .before .before .before .args .bytes .now in
     let refused = torn b (c .if2 .taken) in
@@ -22,5 +22,5 @@ load-spec = tie.close (tie.spec
     (λ c. let decoding = c .before .before .before in
     let s = decoding .before .before .before .before .before .before in
     let b = s .args .bytes .now in
-    let whole = whole b (decoding .before .before .before .if1 .left) (decoding .before .before .if2 .left) in
+    let whole = whole b (omega (arith, decoding .before .before .before .if1 .left)) (decoding .before .before .if2 .left) in
     (c .after-decoding .ensures ∙ ap loadedRows (decoding .decode .ensures .0) ∙ sym whole, holds-rows b _ (s .args .words .now) whole (decoding .decode .ensures .1))))
