@@ -9,6 +9,7 @@ use native.Mathlib.Numerals.{add-one}
 use lib.Dec.{ltb}
 use borrow.Author.Tests.{ltb-true, ltb-false}
 use Rattle.lists.specs.Rows.{first}
+use Rattle.lists.proofs.Choice.{chosen, not-chosen}
 
 pub record Least (P : ℕ → Bool) (n i k : ℕ) : Type 0 where
   pub from : i ≤ k
@@ -38,14 +39,6 @@ least-at-most {k} h j g e = go (ltb j k) refl
     go true l = absurd (true≢false (sym e ∙ h .before j g (ltb-true j k l)))
     go false l = ltb-false j k l
 
-when-true : (b : Bool) (x y : ℕ) → b ≡ true → _≡_ {A = ℕ} (elim b [ true ↦ x | false ↦ y ]) x
-when-true true x y e = refl
-when-true false x y e = absurd (true≢false (sym e))
-
-when-false : (b : Bool) (x y : ℕ) → b ≡ false → _≡_ {A = ℕ} (elim b [ true ↦ x | false ↦ y ]) y
-when-false true x y e = absurd (true≢false e)
-when-false false x y e = refl
-
 -- A search from i on, below n: it ends at i, goes on past i, or has come to the end.
 module _ (P : ℕ → Bool) (n i : ℕ) where
   one-left : i < n → n - i ≡ suc (n - suc i)
@@ -53,11 +46,11 @@ module _ (P : ℕ → Bool) (n i : ℕ) where
 
   pub first-here : i < n → P i ≡ true → first P (n - i) i ≡ i
   unfolding first
-  first-here h e = ap (λ k. first P k i) (one-left h) ∙ when-true (P i) i (first P (n - suc i) (suc i)) e
+  first-here h e = ap (λ k. first P k i) (one-left h) ∙ chosen (P i) i (first P (n - suc i) (suc i)) e
 
   pub first-next : i < n → P i ≡ false → first P (n - i) i ≡ first P (n - (i + 1)) (i + 1)
   unfolding first
-  first-next h e = ap (λ k. first P k i) (one-left h) ∙ when-false (P i) i (first P (n - suc i) (suc i)) e ∙ ap (λ j. first P (n - j) j) (sym (add-one i))
+  first-next h e = ap (λ k. first P k i) (one-left h) ∙ not-chosen (P i) i (first P (n - suc i) (suc i)) e ∙ ap (λ j. first P (n - j) j) (sym (add-one i))
 
   pub first-end : n ≤ i → first P (n - i) i ≡ i
   unfolding first

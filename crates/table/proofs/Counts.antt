@@ -1,15 +1,16 @@
--- Laws of the counts of a table's rows: none at the start, one row more, and never more than the rows.
-use Prim.Native.Nat.{ℕ, _+_, _≤_, _<_, _^_}
-use mathlib.Core.Path.{_≡_, refl, sym, ap, subst}
+-- Laws of the counts of a table's rows: none at the start, one row more, never more than the rows; and how the numbers of a section are looked up by them.
+use Prim.Native.Nat.{ℕ, _+_, _-_, _*_, _≤_, _<_, _^_}
+use mathlib.Core.Path.{_≡_, refl, sym, ap, subst, _∙_}
+use mathlib.Core.Bool.{Bool, _&&_}
 use mathlib.Core.List.{List}
 use native.Mathlib.Omega.{arith}
 use native.Mathlib.Numerals.{add-one}
-use lib.Dec.{ltb, eqb}
-use lib.ListN.{length}
+use lib.Dec.{ltb, leb, eqb}
+use lib.ListN.{length, getD}
 use Rattle.lists.specs.Rows.{countBelow}
 use Rattle.lists.proofs.Rows.{count-at-most}
 use Rattle.table.specs.declared.Table.{Table as Counts}
-use Rattle.table.specs.Table.{Table, tableOf, count, start}
+use Rattle.table.specs.Table.{Table, tableOf, count, start, named, rowOf}
 use Rattle.table.specs.Counts.{emptyCounts, countedRow, countsTo, countsOf, Small}
 
 pub counts-none : (t : Table) → emptyCounts ≡ countsTo t 0
@@ -59,3 +60,14 @@ module _ (t : Table) (k : Counts) (e : k ≡ countsOf t) where
 pub start-inside : (ws : List ℕ) (k : ℕ) → start (tableOf ws) k ≤ length ws
 unfolding start
 start-inside ws k = omega (arith, count-at-most (λ i. ltb (tableOf ws .tag i) k) (tableOf ws .size))
+
+-- What a number names in the section of a tag, from where the counts say that the section starts, and from how many rows they say it has.
+module _ (ws : List ℕ) (tag s : ℕ) (e : s ≡ start (tableOf ws) tag) where
+  pub section-inside : s ≤ length ws
+  section-inside = rw e (start-inside ws tag)
+
+  pub section-field : (r x column : ℕ) → r ≡ getD ws (4 * (s + x - 1) + column) 0 → r ≡ getD ws (4 * rowOf (tableOf ws) tag x + column) 0
+  section-field r x column h = h ∙ ap (λ s. getD ws (4 * (s + x - 1) + column) 0) e
+
+pub section-named : (t : Table) (tag n x : ℕ) (r : Bool) → n ≡ count t tag → r ≡ (leb 1 x && leb x n) → r ≡ named t tag x
+section-named t tag n x r e h = h ∙ ap (λ n. leb 1 x && leb x n) e

@@ -1,10 +1,7 @@
 -- The section has as many rows as the counts say.
-use mathlib.Core.Path.{_∙_, ap}
-use mathlib.Core.Bool.{_&&_}
-use lib.Dec.{leb}
 use borrow.Author.Needs.{needs}
 use Rattle.table.specs.Table.{tableOf}
-use Rattle.table.proofs.Counts.{counts-events}
+use Rattle.table.proofs.Counts.{counts-events, section-named}
 use Rattle.table.proofs.named_event.Statement.{statement}
 use Rattle.table.proofs.named_event.Tie as tie
 
@@ -12,4 +9,4 @@ pub named-event-spec : {M : Type 1} → statement M
 named-event-spec = tie.close (tie.spec
     (λ c κs. search needs)
     (λ c. let s = c .before .before in
-    c .among .ensures ∙ ap (λ n. leb 1 (s .args .e) && leb (s .args .e) n) (counts-events (tableOf (s .args .words .now)) (s .args .table) (s .pre))))
+    let t = tableOf (s .args .words .now) in section-named t 40 _ (s .args .e) _ (counts-events t (s .args .table) (s .pre)) (c .among .ensures)))

@@ -1,17 +1,14 @@
 -- The section starts where the counts say.
-use mathlib.Core.Path.{_≡_, _∙_, ap, sym, subst}
-use Prim.Native.Nat.{_+_, _-_, _*_, _≤_}
-use lib.ListN.{length, getD}
 use Rattle.table.specs.Table.{tableOf}
-use Rattle.table.proofs.Counts.{starts-nodes, start-inside}
+use Rattle.table.proofs.Counts.{starts-nodes, section-inside, section-field}
 use Rattle.table.proofs.node_field.Statement.{statement}
 use Rattle.table.proofs.node_field.Tie as tie
 
 pub node-field-spec : {M : Type 1} → statement M
 node-field-spec = tie.close (tie.spec
-    (λ c κs. let a = c .before .args in
-    let t = tableOf (a .words .now) in
-    (c .before .pre .1, subst (λ n. n ≤ length (a .words .now)) (sym (starts-nodes t (a .table) (c .before .pre .0))) (start-inside (a .words .now) 20)))
-    (λ c. let a = c .before .before .args in
-    let t = tableOf (a .words .now) in
-    c .field .ensures ∙ ap (λ s. getD (a .words .now) (4 * (s + a .n - 1) + a .column) 0) (starts-nodes t (a .table) (c .before .before .pre .0))))
+    (λ c κs. let s = c .before in
+    let ws = s .args .words .now in
+    (s .pre .1, section-inside ws 20 _ (starts-nodes (tableOf ws) (s .args .table) (s .pre .0))))
+    (λ c. let s = c .before .before in
+    let ws = s .args .words .now in
+    section-field ws 20 _ (starts-nodes (tableOf ws) (s .args .table) (s .pre .0)) _ (s .args .n) (s .args .column) (c .field .ensures)))
