@@ -14,8 +14,7 @@ ghost use lib.Dec.{eqb};
 ghost use Rattle.lists.specs.Rows.{someBelow};
 ghost use Rattle.table.specs.Table.{tableOf};
 ghost use Rattle.table.specs.Counts.{countsOf};
-ghost use Rattle.rules.specs.Rules.{assigned, hasWitness, eventLacks, missing};
-ghost use Rattle.rule_missing.specs.Lacks.{actionWanted, witnessWanted, lacksFor};
+ghost use Rattle.rules.specs.Rules.{actionWanted, witnessWanted, lacksFor, assigned, hasWitness, eventLacks, missing};
 
 // Whether y is one more than x.
 fn follows(x: u64, y: u64) -> bool

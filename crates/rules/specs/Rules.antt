@@ -222,18 +222,26 @@ module _ (t : Table) where
   abbrev pub hasWitness : ℕ → ℕ → Bool
   hasWitness e x = someBelow (λ i. tagged t 60 i && (eqb (t .a i) e && eqb (t .b i) x)) (t .size)
 
-  -- "an initial action for a variable": what the event at row i lacks for the identifier at row j
+  -- "an initial action for a variable": the event at row i initialises the machine whose variable is at row j, and has no action for it
+  abbrev pub actionWanted : ℕ → ℕ → Bool
+  actionWanted i j = eqb (t .b i) 0 && eqb (t .a j) (1 + t .a i)
+
   abbrev pub lacksAction : ℕ → ℕ → Bool
-  lacksAction i j = (eqb (t .b i) 0 && eqb (t .a j) (1 + t .a i)) && not (assigned (numberIn t 40 i) (numberIn t 10 j))
+  lacksAction i j = actionWanted i j && not (assigned (numberIn t 40 i) (numberIn t 10 j))
 
   -- "a witness (at concrete classes 0 and 1: for each abstract variable, assigned or not, and each parameter of the refined event)"
+  abbrev pub witnessWanted : ℕ → ℕ → Bool
+  witnessWanted i j = (eqb (t .a i) 2 && ltb (t .b i) 2) && (eqb (t .a j) 2 || (eqb (t .a j) 4 && eqb (t .c j) (t .c i)))
+
   abbrev pub lacksWitness : ℕ → ℕ → Bool
-  lacksWitness i j =
-      ((eqb (t .a i) 2 && ltb (t .b i) 2) && (eqb (t .a j) 2 || (eqb (t .a j) 4 && eqb (t .c j) (t .c i))))
-      && not (hasWitness (numberIn t 40 i) (numberIn t 10 j))
+  lacksWitness i j = witnessWanted i j && not (hasWitness (numberIn t 40 i) (numberIn t 10 j))
+
+  -- row j is an identifier for which the event at row i lacks an action or a witness
+  abbrev pub lacksFor : ℕ → ℕ → Bool
+  lacksFor i j = tagged t 10 j && (lacksAction i j || lacksWitness i j)
 
   abbrev pub eventLacks : ℕ → Bool
-  eventLacks i = tagged t 40 i && someBelow (λ j. tagged t 10 j && (lacksAction i j || lacksWitness i j)) (t .size)
+  eventLacks i = tagged t 40 i && someBelow (lacksFor i) (t .size)
 
   -- "a variant without convergent events or the reverse"
   abbrev pub convergentEvent : ℕ → Bool

@@ -6,7 +6,7 @@ use native.Mathlib.Omega.{arith}
 use borrow.Author.Tests.{eq-eqb, ne-eqb}
 use Rattle.lists.specs.Rows.{someBelow}
 use Rattle.table.specs.Table.{tableOf, tagged}
-use Rattle.rule_missing.specs.Lacks.{lacksFor}
+use Rattle.rules.specs.Rules.{lacksFor}
 use Rattle.rule_missing.proofs.Tests.{and-passed, and-failed, some-none, some-next}
 use borrow.Author.Needs.{needs}
 use Rattle.rule_missing.proofs.event_lacks.Statement.{statement}

@@ -5,10 +5,9 @@ use mathlib.Core.Bool.{not, _&&_, _||_}
 use lib.Dec.{ltb, eqb}
 use Rattle.lists.specs.Rows.{someBelow}
 use Rattle.table.specs.Table.{tableOf}
-use Rattle.rules.specs.Rules.{assigned}
+use Rattle.rules.specs.Rules.{actionWanted, assigned}
 use Rattle.scan.specs.Query.{passesOf}
 use Rattle.scan.specs.declared.Query.the-variants.{Assigns}
-use Rattle.rule_missing.specs.Lacks.{actionWanted}
 use Rattle.rule_missing.proofs.Tests.{and-passed, and-failed}
 use borrow.Author.Needs.{needs}
 use Rattle.rule_missing.proofs.lacks_action.Statement.{statement}

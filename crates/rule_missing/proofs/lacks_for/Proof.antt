@@ -5,8 +5,7 @@ use mathlib.Core.Bool.{not, _&&_, _||_}
 use borrow.Author.Tests.{eq-eqb, ne-eqb}
 use Rattle.table.specs.Table.{tableOf, tagged, numberIn}
 use Rattle.table.proofs.Counts.{starts-identifiers, starts-events}
-use Rattle.rules.specs.Rules.{assigned, hasWitness, lacksAction, lacksWitness}
-use Rattle.rule_missing.specs.Lacks.{actionWanted, witnessWanted}
+use Rattle.rules.specs.Rules.{actionWanted, witnessWanted, assigned, hasWitness, lacksAction, lacksWitness}
 use Rattle.rule_missing.proofs.Tests.{and-passed, and-failed}
 use borrow.Author.Needs.{needs}
 use Rattle.rule_missing.proofs.lacks_for.Statement.{statement}
