@@ -20,6 +20,7 @@ use Rattle.rules.specs.declared.Verdict.the-variants.{Accepted, Refused}
 use Rattle.rules.specs.Decoded.{framed, rowCount, lineOf, notRow, decoded}
 use Rattle.rules.specs.Rules.{offends, missing, tagOffends, fullOffends, eventOffends, identifierOffends, referenceOffends, sortOffends, useOffends, sightOffends, twiceOffends}
 use Rattle.rules.specs.Verdict.{firstRow, firstCheck, judge, verdict, machine, Offence, frame, column, row, lack, FirstOffence}
+use Rattle.rules.proofs.Cases.{judge-row, judge-missing, judge-accepted, verdict-frame, verdict-column, verdict-judge}
 use Rattle.rules.proofs.Obeys.{Obeys}
 
 both-ways : {b : Bool} → b ≡ true → b ≡ false → ⊥
@@ -101,8 +102,8 @@ module _ (bytes : List ℕ) where
 
   -- the verdict's search
   judged : (f : framed bytes ≡ true) → (rows : (i : ℕ) → i < rowCount bytes → notRow (lineOf bytes i) ≡ false) → verdict bytes ≡ judge (decoded bytes) → Found
-  unfolding judge firstCheck
-  judged f rows e = go (ltb check 12) refl (missing t′) refl e
+  unfolding firstCheck
+  judged f rows e = go (ltb check 12) refl (missing t′) refl
     where
       t′ : Table
       t′ = decoded bytes
@@ -119,18 +120,16 @@ module _ (bytes : List ℕ) where
       none : 12 ≤ check → (c i : ℕ) → 3 ≤ c → c ≤ 11 → i < t′ .size → offends t′ c i ≡ false
       none h c i low high g = ofRow c .before i (omega arith) (omega (arith, ltb-false (firstRow t′ c) (t′ .size) (lc .before c low (omega arith))))
 
-      go : (x : Bool) → ltb check 12 ≡ x → (y : Bool) → missing t′ ≡ y
-          → verdict bytes ≡ elim x [ true ↦ Refused check (firstRow t′ check + 1) | false ↦ elim y [ true ↦ Refused 12 0 | false ↦ Accepted sequentCount ] ] → Found
-      go true p y q v =
+      go : (x : Bool) → ltb check 12 ≡ x → (y : Bool) → missing t′ ≡ y → Found
+      go true p y q =
           let h : check < 12 = ltb-true check 12 p in
           let k : firstRow t′ check < t′ .size = ltb-true (firstRow t′ check) (t′ .size) (lc .passes (omega arith)) in
-          inl (check, suc (firstRow t′ check), first-row f rows check (firstRow t′ check) lc h (ofRow check) k, v ∙ ap (Refused check) (add-one (firstRow t′ check)))
-      go false p true q v = inl (12, 0, first-lack f rows (none (ltb-false check 12 p)) q, v)
-      go false p false q v = inr (no-offence f rows (none (ltb-false check 12 p)) q, v)
+          inl (check, suc (firstRow t′ check), first-row f rows check (firstRow t′ check) lc h (ofRow check) k, e ∙ judge-row t′ h ∙ ap (Refused check) (add-one (firstRow t′ check)))
+      go false p true q = let h = ltb-false check 12 p in inl (12, 0, first-lack f rows (none h) q, e ∙ judge-missing t′ h q)
+      go false p false q = let h = ltb-false check 12 p in inr (no-offence f rows (none h) q, e ∙ judge-accepted t′ h q)
 
   found : Found
-  unfolding verdict
-  found = go (framed bytes) refl (ltb k n) refl refl
+  found = go (framed bytes) refl (ltb k n) refl
     where
       n : ℕ
       n = rowCount bytes
@@ -141,11 +140,10 @@ module _ (bytes : List ℕ) where
       lk : Least (λ i. notRow (lineOf bytes i)) n 0 k
       lk = first-least (λ i. notRow (lineOf bytes i)) n 0
 
-      go : (x : Bool) → framed bytes ≡ x → (y : Bool) → ltb k n ≡ y
-          → verdict bytes ≡ elim x [ false ↦ Refused 1 0 | true ↦ elim y [ true ↦ Refused 2 (k + 1) | false ↦ judge (decoded bytes) ] ] → Found
-      go false f y q v = inl (1, 0, first-frame f, v)
-      go true f true q v = inl (2, suc k, first-column f k lk (ltb-true k n q), v ∙ ap (Refused 2) (add-one k))
-      go true f false q v = judged f (λ i h. lk .before i (omega arith) (omega (arith, ltb-false k n q))) v
+      go : (x : Bool) → framed bytes ≡ x → (y : Bool) → ltb k n ≡ y → Found
+      go false f y q = inl (1, 0, first-frame f, verdict-frame bytes f)
+      go true f true q = let h = ltb-true k n q in inl (2, suc k, first-column f k lk h, verdict-column bytes f h ∙ ap (Refused 2) (add-one k))
+      go true f false q = let h = ltb-false k n q in judged f (λ i g. lk .before i (omega arith) (omega (arith, h))) (verdict-judge bytes f h)
 
   -- two first offences are one
   one-first : (c r c′ r′ : ℕ) → FirstOffence bytes c r → FirstOffence bytes c′ r′ → (c ≡ c′) × (r ≡ r′)

@@ -1,4 +1,5 @@
 pub mod Accepted
+pub mod Cases
 pub mod Events
 pub mod Identifiers
 pub mod Missing

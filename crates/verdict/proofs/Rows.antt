@@ -5,7 +5,7 @@ use mathlib.Core.Bool.{Bool, true, false, _&&_, true≢false}
 use mathlib.Core.List.{List, _++_}
 use native.Mathlib.Omega.{arith}
 use native.Mathlib.Numerals.{add-one}
-use borrow.Author.Tests.{lt-ltb, le-ltb, lt-leb, le-leb, leb-true, leb-false, eqb-true, eqb-false, ne-eqb, ltb-false}
+use borrow.Author.Tests.{lt-ltb, le-ltb, lt-leb, le-leb, leb-true, leb-false, eqb-true, eqb-false, ne-eqb, ltb-true, ltb-false}
 use lib.Dec.{ltb, leb, eqb}
 use lib.ListN.{length, take, drop, length-append, length-take}
 use lib.Seq.{take-at}
@@ -18,6 +18,7 @@ use Rattle.row.specs.declared.Line.{Line}
 use Rattle.row.specs.declared.Line.the-variants as line
 use Rattle.rules.specs.Decoded.{framed, rowCount, lineOf, notRow, lineWords, wordsOf, decoded}
 use Rattle.rules.specs.Verdict.{judge, verdict}
+use Rattle.rules.proofs.Cases.{verdict-frame, verdict-column, verdict-judge}
 use Rattle.decode.specs.declared.Decoded.the-variants as decoding
 use Rattle.decode.specs.Decode.{firstBad, wordsTo, decodedOf}
 use Rattle.decode.proofs.Words.{words-none, words-more}
@@ -58,9 +59,12 @@ module _ (bytes : List ℕ) where
   torn h = frame-false (and-false (leb (length bytes) 65536) (eqb (length bytes % 38) 0) (ne-eqb (length bytes % 38) 0 h))
 
   -- check 2
-  pub whole : length bytes ≤ 65536 → length bytes % 38 ≡ 0 → loadedOf bytes ≡ loadedRows (decodedOf (firstBad bytes rows) rows)
+  frame-true : framed bytes ≡ true → loadedOf bytes ≡ loadedRows (decodedOf (firstBad bytes rows) rows)
   unfolding loadedOf
-  whole h e = chosen (framed bytes) _ _ (ap (λ b. b && eqb (length bytes % 38) 0) (le-leb (length bytes) 65536 h) ∙ ap (λ n. eqb n 0) e)
+  frame-true p = chosen (framed bytes) _ _ p
+
+  pub whole : length bytes ≤ 65536 → length bytes % 38 ≡ 0 → loadedOf bytes ≡ loadedRows (decodedOf (firstBad bytes rows) rows)
+  whole h e = frame-true (ap (λ b. b && eqb (length bytes % 38) 0) (le-leb (length bytes) 65536 h) ∙ ap (λ n. eqb n 0) e)
 
   pub decoded-row : rowOf (decodedOf (firstBad bytes rows) rows) ≤ rows
   decoded-row = by-test (ltb (firstBad bytes rows) rows) refl
@@ -71,13 +75,15 @@ module _ (bytes : List ℕ) where
 
   -- the verdict goes on from there
   pub verdict-judged : verdict bytes ≡ judged bytes (loadedOf bytes)
-  unfolding verdict loadedOf
   verdict-judged = by-tests (framed bytes) (ltb (firstBad bytes rows) rows) refl refl
     where
+      loaded : (c : Bool) → framed bytes ≡ true → ltb (firstBad bytes rows) rows ≡ c → loadedOf bytes ≡ loadedRows (pick c (decoding.Malformed (firstBad bytes rows)) (decoding.Rows rows))
+      loaded c p q = frame-true p ∙ ap (λ b. loadedRows (pick b (decoding.Malformed (firstBad bytes rows)) (decoding.Rows rows))) q
+
       by-tests : (b c : Bool) → framed bytes ≡ b → ltb (firstBad bytes rows) rows ≡ c → verdict bytes ≡ judged bytes (loadedOf bytes)
-      by-tests false c p q = not-chosen (framed bytes) _ _ p ∙ sym (ap (judged bytes) (not-chosen (framed bytes) _ _ p))
-      by-tests true true p q = chosen (framed bytes) _ _ p ∙ chosen (ltb (firstBad bytes rows) rows) _ _ q ∙ sym (ap (judged bytes) (chosen (framed bytes) _ _ p ∙ ap (λ b. loadedRows (pick b (decoding.Malformed (firstBad bytes rows)) (decoding.Rows rows))) q))
-      by-tests true false p q = chosen (framed bytes) _ _ p ∙ not-chosen (ltb (firstBad bytes rows) rows) _ _ q ∙ sym (ap (judged bytes) (chosen (framed bytes) _ _ p ∙ ap (λ b. loadedRows (pick b (decoding.Malformed (firstBad bytes rows)) (decoding.Rows rows))) q))
+      by-tests false c p q = verdict-frame bytes p ∙ sym (ap (judged bytes) (frame-false p))
+      by-tests true true p q = verdict-column bytes p (ltb-true (firstBad bytes rows) rows q) ∙ sym (ap (judged bytes) (loaded true p q))
+      by-tests true false p q = verdict-judge bytes p (ltb-false (firstBad bytes rows) rows q) ∙ sym (ap (judged bytes) (loaded false p q))
 
   -- refused tables hold nothing
   pub holds-none : (number row : ℕ) (words : List ℕ) → loadedOf bytes ≡ Refused number row → HoldsRows bytes words

@@ -1,11 +1,11 @@
--- By the first check that a row offends against, then by whether something is missing (Cases).
+-- By the first check that a row offends against, then by whether something is missing (Cases, of the rules).
 use mathlib.Core.Path.{_≡_, ap, ap₂, sym, _∙_}
 use Prim.Native.Nat.{_+_}
 use native.Mathlib.Omega.{arith}
 use Rattle.table.specs.Table.{tableOf}
 use Rattle.rules.specs.declared.Verdict.the-variants.{Accepted, Refused}
 use Rattle.rules.specs.Verdict.{firstRow}
-use Rattle.verdict.proofs.Cases.{judge-row, judge-missing, judge-accepted, row-at-most}
+use Rattle.rules.proofs.Cases.{judge-row, judge-missing, judge-accepted, row-at-most}
 use borrow.Author.Needs.{needs}
 use Rattle.verdict.proofs.judge.Statement.{statement}
 use Rattle.verdict.proofs.judge.Tie as tie

@@ -1,0 +1,52 @@
+-- The cases of the judgement of a table's rows, and of the verdict of bytes: each is the branch that its tests choose.
+use Prim.Native.Nat.{ℕ, _+_, _≤_, _<_}
+use mathlib.Core.Path.{_≡_, _∙_}
+use mathlib.Core.Bool.{true, false}
+use mathlib.Core.List.{List}
+use native.Mathlib.Omega.{arith}
+use borrow.Author.Tests.{lt-ltb, le-ltb}
+use lib.Dec.{ltb}
+use lib.ListN.{length}
+use Rattle.lists.specs.Rows.{first}
+use Rattle.lists.proofs.Choice.{chosen, not-chosen}
+use Rattle.lists.proofs.First.{first-least}
+use Rattle.table.specs.Table.{Table}
+use Rattle.machine.specs.Described.{machineOf}
+use Rattle.sequent.specs.Listed.{sequents}
+use Rattle.rules.specs.declared.Verdict.the-variants.{Accepted, Refused}
+use Rattle.rules.specs.Decoded.{framed, rowCount, lineOf, notRow, decoded}
+use Rattle.rules.specs.Rules.{offends, missing}
+use Rattle.rules.specs.Verdict.{firstRow, firstCheck, judge, verdict}
+
+module _ (t : Table) where
+  pub judge-row : firstCheck t < 12 → judge t ≡ Refused (firstCheck t) (firstRow t (firstCheck t) + 1)
+  unfolding judge
+  judge-row h = chosen (ltb (firstCheck t) 12) _ _ (lt-ltb (firstCheck t) 12 h)
+
+  pub judge-missing : 12 ≤ firstCheck t → missing t ≡ true → judge t ≡ Refused 12 0
+  unfolding judge
+  judge-missing h q = not-chosen (ltb (firstCheck t) 12) _ _ (le-ltb (firstCheck t) 12 h) ∙ chosen (missing t) _ _ q
+
+  pub judge-accepted : 12 ≤ firstCheck t → missing t ≡ false → judge t ≡ Accepted (length (sequents (machineOf t)))
+  unfolding judge
+  judge-accepted h q = not-chosen (ltb (firstCheck t) 12) _ _ (le-ltb (firstCheck t) 12 h) ∙ not-chosen (missing t) _ _ q
+
+  pub row-at-most : (check : ℕ) → firstRow t check ≤ t .size
+  row-at-most check = omega (arith, first-least (offends t check) (t .size) 0 .to)
+
+module _ (bytes : List ℕ) where
+  -- the first row that is not in the row form, or the number of rows
+  abbrev badRow : ℕ
+  badRow = first (λ i. notRow (lineOf bytes i)) (rowCount bytes) 0
+
+  pub verdict-frame : framed bytes ≡ false → verdict bytes ≡ Refused 1 0
+  unfolding verdict
+  verdict-frame f = not-chosen (framed bytes) _ _ f
+
+  pub verdict-column : framed bytes ≡ true → badRow < rowCount bytes → verdict bytes ≡ Refused 2 (badRow + 1)
+  unfolding verdict
+  verdict-column f h = chosen (framed bytes) _ _ f ∙ chosen (ltb badRow (rowCount bytes)) _ _ (lt-ltb badRow (rowCount bytes) h)
+
+  pub verdict-judge : framed bytes ≡ true → rowCount bytes ≤ badRow → verdict bytes ≡ judge (decoded bytes)
+  unfolding verdict
+  verdict-judge f h = chosen (framed bytes) _ _ f ∙ not-chosen (ltb badRow (rowCount bytes)) _ _ (le-ltb badRow (rowCount bytes) h)
