@@ -1,12 +1,13 @@
 -- Laws of decoding: what is read at a row's place, and the words with one row more.
 use Prim.Native.Nat.{ℕ, suc, _+_, _-_, _*_, _≤_, _<_}
 use mathlib.Core.Path.{_≡_, refl, ap, sym, _∙_, subst}
-use mathlib.Core.Bool.{Bool, true, false}
+use mathlib.Core.Bool.{Bool, true, false, true≢false}
 use mathlib.Core.List.{List, [], _∷_, _++_, flatMap}
 use native.Mathlib.Omega.{arith}
 use native.Mathlib.Numerals.{add-one}
 use borrow.Author.Tests.{lt-ltb, le-ltb}
 use lib.ListN.{length, length-append}
+use Rattle.lists.specs.Over.{over}
 use Rattle.lists.specs.Rows.{first, numbers}
 use Rattle.lists.proofs.First.{first-here, first-end}
 use Rattle.lists.proofs.Flat.{flat-next}
@@ -43,29 +44,32 @@ next-line n (line.Whole s) r p e =
     (ap line.Whole q, sym (ap (λ x. x .at) o))
 next-line n line.Malformed r p e = absurd (let z : _≡_ {A = ℕ} 0 1 = cc in omega arith)
 
-pub malformed-line : (n : ℕ) (l : Line) → foundAt n l ≡ read.Malformed → notRow l ≡ true
-malformed-line n (line.Whole s) e = absurd (let z : _≡_ {A = ℕ} 0 1 = cc in omega arith)
-malformed-line n line.Malformed e = refl
+-- a read that yields no row: the line is not in the row form
+abbrev pub isNext : Read → Bool
+isNext (read.Next r p) = true
+isNext read.Malformed = false
+isNext read.End = false
 
-pub end-line : (n : ℕ) (l : Line) → foundAt n l ≡ read.End → notRow l ≡ true
-end-line n (line.Whole s) e = absurd (let z : _≡_ {A = ℕ} 0 1 = cc in omega arith)
-end-line n line.Malformed e = refl
+not-next : (n : ℕ) (l : Line) → isNext (foundAt n l) ≡ false → notRow l ≡ true
+not-next n (line.Whole s) e = absurd (true≢false e)
+not-next n line.Malformed e = refl
 
 pub words-four : (l : Line) (r : Row) → l ≡ line.Whole r → (lineWords l ≡ four r) × (notRow l ≡ false)
 words-four l r e = (ap lineWords e, ap notRow e)
 
--- a bad row that the search comes to is the first
-pub stops-at : (bytes : List ℕ) (rows i : ℕ) → i < rows → first (λ i. notRow (lineOf bytes i)) (rows - i) i ≡ firstBad bytes rows
-    → notRow (lineOf bytes i) ≡ true → firstBad bytes rows ≡ i
-stops-at bytes rows i h e b = sym e ∙ first-here (λ i. notRow (lineOf bytes i)) rows i h b
+-- a turn that reads no row: the row is the first bad one, and the words are those of the rows before it
+pub stops-at : (bytes ws words : List ℕ) (rows i at : ℕ) (r : Read) → i < rows → 38 * rows ≤ length bytes → at ≡ 38 * i → r ≡ readAt greatest width bytes at → isNext r ≡ false
+    → first (λ i. notRow (lineOf bytes i)) (rows - i) i ≡ firstBad bytes rows → words ≡ over (wordsTo bytes i) ws
+    → (Malformed i ≡ decodedOf (firstBad bytes rows) rows) × (words ≡ over (wordsTo bytes (firstBad bytes rows)) ws)
+stops-at bytes ws words rows i at r h fits place e stop search put =
+    let line = ap isNext (sym (read-row bytes i at place (omega arith)) ∙ sym e) ∙ stop in
+    let bad : firstBad bytes rows ≡ i = sym search ∙ first-here (λ i. notRow (lineOf bytes i)) rows i h (not-next (38 * i + 38) (lineOf bytes i) line) in
+    (rw bad (simp (lt-ltb i rows h)), put ∙ ap (λ n. over (wordsTo bytes n) ws) (sym bad))
 
 -- the search that has come to the end found none
 pub none-bad : (bytes : List ℕ) (rows i : ℕ) → rows ≤ i → i ≤ rows → first (λ i. notRow (lineOf bytes i)) (rows - i) i ≡ firstBad bytes rows
     → firstBad bytes rows ≡ rows
 none-bad bytes rows i h g e = sym e ∙ first-end (λ i. notRow (lineOf bytes i)) rows i h ∙ omega arith
-
-pub reply-bad : (bytes : List ℕ) (rows i : ℕ) → i < rows → firstBad bytes rows ≡ i → Malformed i ≡ decodedOf (firstBad bytes rows) rows
-reply-bad bytes rows i h e = rw e (simp (lt-ltb i rows h))
 
 pub reply-all : (bytes : List ℕ) (rows : ℕ) → firstBad bytes rows ≡ rows → Rows rows ≡ decodedOf (firstBad bytes rows) rows
 reply-all bytes rows e = rw e (simp (le-ltb rows rows (omega arith)))

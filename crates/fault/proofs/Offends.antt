@@ -1,15 +1,16 @@
--- A number that is none of the checks 3 to 11 has no offender.
+-- A row offends by the rule of its check; a number that is none of the checks 3 to 11 has no offender.
 use Prim.Native.Nat.{ℕ}
-use mathlib.Core.Path.{_≡_, refl, sym, _∙_}
-use mathlib.Core.Bool.{Bool, true, false, true≢false}
+use mathlib.Core.Path.{_≡_, ap, sym, _∙_}
+use mathlib.Core.Bool.{Bool, false}
 use borrow.Author.Tests.{ne-eqb}
 use lib.Dec.{eqb}
+use Rattle.lists.proofs.Choice.{not-chosen}
 use Rattle.table.specs.Table.{Table}
 use Rattle.rules.specs.Rules.{offends}
 
-skip : (b x y : Bool) → b ≡ false → _≡_ {A = Bool} (elim b [ true ↦ x | false ↦ y ]) y
-skip true x y e = absurd (true≢false e)
-skip false x y e = refl
+-- the rule of the check k
+pub by-check : (t : Table) (check i k : ℕ) {r : Bool} → check ≡ k → r ≡ offends t k i → r ≡ offends t check i
+by-check t check i k e h = h ∙ ap (λ c. offends t c i) (sym e)
 
 -- none of the checks
 pub record Other (check : ℕ) : Type 0 where
@@ -26,6 +27,6 @@ pub record Other (check : ℕ) : Type 0 where
 pub offends-none : (t : Table) (check i : ℕ) → Other check → offends t check i ≡ false
 unfolding offends
 offends-none t check i o =
-    skip (eqb check 3) _ _ (ne-eqb check 3 (o .not3)) ∙ skip (eqb check 4) _ _ (ne-eqb check 4 (o .not4)) ∙ skip (eqb check 5) _ _ (ne-eqb check 5 (o .not5))
-    ∙ skip (eqb check 6) _ _ (ne-eqb check 6 (o .not6)) ∙ skip (eqb check 7) _ _ (ne-eqb check 7 (o .not7)) ∙ skip (eqb check 8) _ _ (ne-eqb check 8 (o .not8))
-    ∙ skip (eqb check 9) _ _ (ne-eqb check 9 (o .not9)) ∙ skip (eqb check 10) _ _ (ne-eqb check 10 (o .not10)) ∙ skip (eqb check 11) _ _ (ne-eqb check 11 (o .not11))
+    not-chosen (eqb check 3) _ _ (ne-eqb check 3 (o .not3)) ∙ not-chosen (eqb check 4) _ _ (ne-eqb check 4 (o .not4)) ∙ not-chosen (eqb check 5) _ _ (ne-eqb check 5 (o .not5))
+    ∙ not-chosen (eqb check 6) _ _ (ne-eqb check 6 (o .not6)) ∙ not-chosen (eqb check 7) _ _ (ne-eqb check 7 (o .not7)) ∙ not-chosen (eqb check 8) _ _ (ne-eqb check 8 (o .not8))
+    ∙ not-chosen (eqb check 9) _ _ (ne-eqb check 9 (o .not9)) ∙ not-chosen (eqb check 10) _ _ (ne-eqb check 10 (o .not10)) ∙ not-chosen (eqb check 11) _ _ (ne-eqb check 11 (o .not11))

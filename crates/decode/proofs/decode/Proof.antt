@@ -11,7 +11,7 @@ use Rattle.lists.proofs.First.{first-next}
 use Rattle.lists.proofs.Over.{over-none, over-length, over-tail}
 use Rattle.rules.specs.Decoded.{lineOf, notRow}
 use Rattle.decode.specs.Decode.{four, firstBad, wordsTo}
-use Rattle.decode.proofs.Words.{read-row, words-none, words-more, next-line, malformed-line, end-line, words-four, stops-at, none-bad, reply-bad, reply-all}
+use Rattle.decode.proofs.Words.{read-row, words-none, words-more, next-line, isNext, words-four, stops-at, none-bad, reply-all}
 use borrow.Author.Needs.{needs}
 use Rattle.decode.proofs.decode.Statement.{statement}
 use Rattle.decode.proofs.decode.Tie as tie
@@ -48,22 +48,14 @@ decode-spec = tie.close (tie.spec
     (λ c. c .before .before .before .before .loop .inv .3)
     (λ c. let turn = c .before .before .before .before in
     let a = turn .before .before .before .before .args in
-    let b = a .bytes .now in
-    let i = turn .loop .i in
-    let h : i < a .rows = c .before .before .before .loop-test .taken in
-    let line = read-row b i (turn .loop .place .at) (turn .loop .inv .2) (omega arith) in
-    let stop = stops-at b (a .rows) i h (turn .loop .inv .6) (malformed-line (38 * i + 38) (lineOf b i) (sym line ∙ sym (c .before .before .read .ensures) ∙ c .enum-told .given .1)) in
-    (reply-bad b (a .rows) i h stop, turn .loop .inv .5 ∙ ap (λ n. over (wordsTo b n) (a .words .now)) (sym stop)))
+    stops-at (a .bytes .now) (a .words .now) (turn .loop .words) (a .rows) (turn .loop .i) (turn .loop .place .at) (c .before .before .read .result) (c .before .before .before .loop-test .taken) (omega arith) (turn .loop .inv .2)
+    (c .before .before .read .ensures) (ap isNext (c .enum-told .given .1)) (turn .loop .inv .6) (turn .loop .inv .5))
     (λ c. search needs)
     (λ c. c .before .before .before .before .loop .inv .3)
     (λ c. let turn = c .before .before .before .before in
     let a = turn .before .before .before .before .args in
-    let b = a .bytes .now in
-    let i = turn .loop .i in
-    let h : i < a .rows = c .before .before .before .loop-test .taken in
-    let line = read-row b i (turn .loop .place .at) (turn .loop .inv .2) (omega arith) in
-    let stop = stops-at b (a .rows) i h (turn .loop .inv .6) (end-line (38 * i + 38) (lineOf b i) (sym line ∙ sym (c .before .before .read .ensures) ∙ c .enum-told2 .given .1)) in
-    (reply-bad b (a .rows) i h stop, turn .loop .inv .5 ∙ ap (λ n. over (wordsTo b n) (a .words .now)) (sym stop)))
+    stops-at (a .bytes .now) (a .words .now) (turn .loop .words) (a .rows) (turn .loop .i) (turn .loop .place .at) (c .before .before .read .result) (c .before .before .before .loop-test .taken) (omega arith) (turn .loop .inv .2)
+    (c .before .before .read .ensures) (ap isNext (c .enum-told2 .given .1)) (turn .loop .inv .6) (turn .loop .inv .5))
     (λ c. omega arith)
     (λ c. omega arith)
     (λ c. omega arith)
