@@ -8,7 +8,7 @@ use lib.ListN.{getD, List·getD-eq-default}
 use borrow.Author.Tests.{ltb-true, eqb-true, eqb-false}
 use Rattle.lists.proofs.Rows.{count-at-most}
 use Rattle.table.specs.Table.{Table, tagged, count}
-use Rattle.sequent.specs.Walk.{groups, groupTests, identifierAt, isConvergent}
+use Rattle.sequent.specs.Walk.{groups, groupTests, ownKind, identifierAt, isConvergent}
 
 left-true : (p q : Bool) → p && q ≡ true → p ≡ true
 left-true true q e = refl
@@ -17,6 +17,20 @@ left-true false q e = e
 pub identifier-within : (t : Table) (kind i : ℕ) → identifierAt t kind i ≡ true → i < t .size
 unfolding count
 identifier-within t kind i e = omega (arith, ltb-true i (count t 10) (left-true (ltb i (count t 10)) _ e), count-at-most (tagged t 10) (t .size))
+
+-- A test of the identifier that row i stands for, where that is a variable of the event's machine.
+module _ (t : Table) (e i : ℕ) {kind : ℕ} {b : Bool} (own : kind ≡ ownKind t e) (found : b ≡ identifierAt t kind i) where
+  own-found : b ≡ identifierAt t (ownKind t e) i
+  own-found = found ∙ ap (λ k. identifierAt t k i) own
+
+  pub own-within : b ≡ true → i < t .size
+  own-within h = identifier-within t (ownKind t e) i (sym own-found ∙ h)
+
+  pub own-tested : (q r : Bool) → b ≡ true → r ≡ q → r ≡ (identifierAt t (ownKind t e) i && q)
+  own-tested q r h p = p ∙ sym (ap (λ b. b && q) (sym own-found ∙ h))
+
+  pub own-none : (q : Bool) → b ≡ false → false ≡ (identifierAt t (ownKind t e) i && q)
+  own-none q h = sym (ap (λ b. b && q) (sym own-found ∙ h))
 
 -- a number from n on that is not n
 pub past : (n : ℕ) {g : ℕ} → (g ≡ n → ⊥) → n ≤ g → suc n ≤ g

@@ -9,7 +9,7 @@ use table::size;
 use table::tag_at;
 ghost use mathlib.Core.Path.{_≡_};
 ghost use Prim.Native.Nat.{_+_, _-_, _^_, _<_, _≤_};
-ghost use mathlib.Core.Bool.{_&&_, false};
+ghost use mathlib.Core.Bool.{_&&_, false, cond};
 ghost use lib.ListN.{getD, length};
 ghost use Rattle.table.specs.Table.{tableOf, refinedBy};
 ghost use Rattle.table.specs.Counts.{countsOf};
@@ -67,16 +67,23 @@ pub fn is_convergent(words: &[u64], table: Table, event: u64) -> bool
     !is_abstract(words, table, event) & !((class == 0) | (class == 1))
 }
 
+// By an event's machine: one number where it is abstract, the other where it is concrete.
+fn of_machine(words: &[u64], table: Table, event: u64, one: u64, other: u64) -> u64
+    requires { ⌜ table ≡ countsOf (tableOf (now words)) ⌝ }
+    ensures { λ r. ⌜ r ≡ cond (isAbstract (tableOf (now (words .entry))) event) one other ⌝ }
+{
+    if is_abstract(words, table, event) {
+        return one;
+    }
+    other
+}
+
 // The kind of the variables of an event's own machine.
 pub fn own_kind(words: &[u64], table: Table, event: u64) -> u64
     requires { ⌜ table ≡ countsOf (tableOf (now words)) ⌝ }
     ensures { λ r. ⌜ r ≡ ownKind (tableOf (now (words .entry))) event ⌝ }
 {
-    if is_abstract(words, table, event) {
-        2
-    } else {
-        3
-    }
+    of_machine(words, table, event, 2, 3)
 }
 
 // The tag of the invariants of an event's own machine.
@@ -84,11 +91,7 @@ fn own_invariant_tag(words: &[u64], table: Table, event: u64) -> u64
     requires { ⌜ table ≡ countsOf (tableOf (now words)) ⌝ }
     ensures { λ r. ⌜ r ≡ ownInvariantTag (tableOf (now (words .entry))) event ⌝ }
 {
-    if is_abstract(words, table, event) {
-        31
-    } else {
-        32
-    }
+    of_machine(words, table, event, 31, 32)
 }
 
 // Whether there is an identifier i + 1, of a kind.

@@ -1,11 +1,11 @@
 -- By the event's machine.
 use mathlib.Core.Path.{sym, _∙_}
 use borrow.Author.Needs.{needs}
-use Rattle.walk.proofs.own_kind.Statement.{statement}
-use Rattle.walk.proofs.own_kind.Tie as tie
+use Rattle.walk.proofs.of_machine.Statement.{statement}
+use Rattle.walk.proofs.of_machine.Tie as tie
 
-pub own-kind-spec : {M : Type 1} → statement M
-own-kind-spec = tie.close (tie.spec
+pub of-machine-spec : {M : Type 1} → statement M
+of-machine-spec = tie.close (tie.spec
     (λ c κs. search needs)
     (λ c. rw (sym (c .before .is-abstract .ensures) ∙ c .if1 .taken))
     (λ c. rw (sym (c .before .is-abstract .ensures) ∙ c .if1 .left)))
