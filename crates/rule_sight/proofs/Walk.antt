@@ -94,3 +94,7 @@ module _ (t : Table) where
         → (s : held.Shape) → o .shape ≡ s → r ≡ seesBy (meantShape s) n → r ≡ seesOnly t i n
     sees-found n r f o m e q s told h =
         h ∙ ap (λ s. seesBy s n) (sym (ap meantShape told) ∙ shape-found o m e ∙ ap shapeOf q) ∙ sees-step n (omega arith)
+
+    -- an operand as the walk of its node reads it: the number x that was looked up is the node's y
+    pub operand-seen : (n : ℕ) {x y o : ℕ} {r : Bool} → r ≡ seesOnly t i o → o ≡ pick (earlier n x) x 0 → x ≡ y → r ≡ seesOnly t i (pick (earlier n y) y 0)
+    operand-seen n h e q = h ∙ ap (seesOnly t i) (e ∙ ap (λ x. pick (earlier n x) x 0) q)

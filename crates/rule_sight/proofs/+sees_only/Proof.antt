@@ -1,7 +1,7 @@
 -- By the case of the operator's shape; an operand that is walked has a smaller number than its node, and the measure is the node's number.
 use Prim.Native.Nat.{ℕ, _<_}
-use mathlib.Core.Path.{refl, ap, ap₂, _∙_}
-use mathlib.Core.Bool.{true, _&&_}
+use mathlib.Core.Path.{_≡_, refl, ap, ap₂, _∙_}
+use mathlib.Core.Bool.{Bool, _&&_}
 use native.Mathlib.Omega.{arith}
 use borrow.Author.Needs.{needs}
 use borrow.Fn.Kinds.{In}
@@ -10,10 +10,12 @@ use Rattle.lists.specs.Choice.{pick}
 use Rattle.table.specs.Table.{tableOf}
 use Rattle.machine.specs.Described.{earlier}
 use Rattle.rules.specs.Sight.{mayMention, mayMentionAfter, seesOnly}
+use Rattle.rule_references.specs.declared.Shape.{Shape}
 use Rattle.rule_references.specs.declared.Shape.the-variants as shape
+use Rattle.rule_references.specs.Operator.{meantShape}
 use Rattle.rule_references.proofs.find_operator.Reads as find-operator-reads
 use Rattle.table.proofs.node_field.Reads as node-field-reads
-use Rattle.rule_sight.proofs.Walk.{operand-falls, sees-none, sees-found}
+use Rattle.rule_sight.proofs.Walk.{operand-falls, operand-seen, seesBy, sees-none, sees-found}
 use Rattle.rule_sight.proofs.may_mention.Reads as may-mention-reads
 use Rattle.rule_sight.proofs.may_mention_after.Reads as may-mention-after-reads
 use Rattle.rule_sight.proofs.operand.Reads as operand-reads
@@ -32,8 +34,8 @@ sees-only-at t = and 1 sees-only-kinds.ps (is 1 sees-only-kinds.ps μ-sees-only 
 abbrev sees-only-below : ℕ → In 1 sees-only-kinds.ps
 sees-only-below t = and 1 sees-only-kinds.ps (falls 1 sees-only-kinds.ps _<_ μ-sees-only t) sees-only.Pre
 
-pub +sees-only-spec : {M : Type 1} → statement M
-+sees-only-spec = close μ-sees-only λ t. sees-only-lts.spec (
+abbrev claims : ℕ → sees-only-lts.Claims
+claims t = (
   node-field-reads.Asked,
   node-field-reads.Learnt,
   find-operator-reads.Asked,
@@ -47,6 +49,26 @@ pub +sees-only-spec : {M : Type 1} → statement M
   sees-only-below t,
   sees-only.Post,
 )
+
+-- What is known once the operator is found; each arm answers from it by its shape, and walks an operand that falls.
+module _ (t : ℕ) (f : sees-only-lts.After-find-operator (claims t) (sees-only-at t) sees-only.Post) where
+  abbrev start : sees-only-lts.Start (claims t) (sees-only-at t) sees-only.Post
+  start = f .before .before .before .before .before .before
+
+  abbrev n : ℕ
+  n = start .args .n
+
+  by-shape : (s : Shape) {r : Bool} → f .find-operator .result .shape ≡ s → r ≡ seesBy (tableOf (start .args .words .now)) (start .args .i) (meantShape s) n
+      → r ≡ seesOnly (tableOf (start .args .words .now)) (start .args .i) n
+  by-shape s {r} told h =
+      sees-found (tableOf (start .args .words .now)) (start .args .i) n r (f .before .before .before .before .if1 .left)
+      (f .find-operator .result) (f .before .node-field3 .result) (f .find-operator .ensures) (f .before .node-field3 .ensures) s told h
+
+  falling : (x : ℕ) {o : ℕ} → o ≡ pick (earlier n x) x 0 → o < t
+  falling x e = omega (arith, operand-falls n x (omega (arith, f .before .before .before .before .if1 .left)), start .pre .0)
+
+pub +sees-only-spec : {M : Type 1} → statement M
++sees-only-spec = close μ-sees-only λ t. sees-only-lts.spec (claims t)
     (sees-only-at t)
     sees-only.Post
     (λ c. let s = c .before .before .args in rw (c .if1 .taken) (sees-none (tableOf (s .words .now)) (s .i)))
@@ -63,84 +85,33 @@ pub +sees-only-spec : {M : Type 1} → statement M
     (λ c. search needs)
     (λ c κs. search needs)
     (λ c κs. let f = c .before .before .before in
-    let s = f .before .before .before .before .before .before in
-    let falls = operand-falls (s .args .n) ((f .before .before .before .node-field) .result) (omega (arith, f .before .before .before .before .if1 .left)) in
-    (omega (arith, falls, c .operand .ensures, s .pre .0), s .pre .1))
+    (falling t f (f .before .before .before .node-field .result) (c .operand .ensures), start t f .pre .1))
     (λ c. search needs)
     (λ c κs. search needs)
     (λ c κs. let f = c .before .before .before in
-    let s = f .before .before .before .before .before .before in
-    let falls = operand-falls (s .args .n) ((f .before .before .before .node-field) .result) (omega (arith, f .before .before .before .before .if1 .left)) in
-    (omega (arith, falls, c .operand2 .ensures, s .pre .0), s .pre .1))
+    (falling t f (f .before .before .before .node-field .result) (c .operand2 .ensures), start t f .pre .1))
     (λ c κs. search needs)
     (λ c κs. let f = c .before .before .before .before .before in
-    let s = f .before .before .before .before .before .before in
-    let falls = operand-falls (s .args .n) ((f .before .before .node-field2) .result) (omega (arith, f .before .before .before .before .if1 .left)) in
-    (omega (arith, falls, c .operand3 .ensures, s .pre .0), s .pre .1))
+    (falling t f (f .before .before .node-field2 .result) (c .operand3 .ensures), start t f .pre .1))
     (λ c. search needs)
-    (λ c. let f = c .before .before in
-    let o = f .find-operator in
-    let s = f .before .before .before .before .before .before in
-    let b = f .before .before .before .node-field in
-    let d = f .before .before .node-field2 in
-    let n = s .args .n in
-    let w = tableOf (s .args .words .now) in
-    sees-found w (s .args .i) n true (f .before .before .before .before .if1 .left) (o .result) (f .before .node-field3 .result) (o .ensures) (f .before .node-field3 .ensures) shape.Value
-    (c .enum-told .given .1) refl)
+    (λ c. by-shape t (c .before .before) shape.Value (c .enum-told .given .1) refl)
     (λ c. let f = c .before .before .before in
-    let o = f .find-operator in
-    let s = f .before .before .before .before .before .before in
-    let b = f .before .before .before .node-field in
-    let d = f .before .before .node-field2 in
-    let n = s .args .n in
-    let w = tableOf (s .args .words .now) in
-    sees-found w (s .args .i) n (c .may-mention .result) (f .before .before .before .before .if1 .left) (o .result) (f .before .node-field3 .result) (o .ensures) (f .before .node-field3 .ensures) shape.Identifier
-    (c .before .enum-told2 .given .1) (c .may-mention .ensures ∙ ap (mayMention w (s .args .i)) (b .ensures)))
+    let a = start t f .args in
+    by-shape t f shape.Identifier (c .before .enum-told2 .given .1)
+    (c .may-mention .ensures ∙ ap (mayMention (tableOf (a .words .now)) (a .i)) (f .before .before .before .node-field .ensures)))
     (λ c. let f = c .before .before .before in
-    let o = f .find-operator in
-    let s = f .before .before .before .before .before .before in
-    let b = f .before .before .before .node-field in
-    let d = f .before .before .node-field2 in
-    let n = s .args .n in
-    let w = tableOf (s .args .words .now) in
-    sees-found w (s .args .i) n (c .may-mention-after .result) (f .before .before .before .before .if1 .left) (o .result) (f .before .node-field3 .result) (o .ensures) (f .before .node-field3 .ensures) shape.Variable
-    (c .before .enum-told3 .given .1) (c .may-mention-after .ensures ∙ ap (mayMentionAfter w (s .args .i)) (b .ensures)))
-    (λ c. let f = c .before .before in
-    let o = f .find-operator in
-    let s = f .before .before .before .before .before .before in
-    let b = f .before .before .before .node-field in
-    let d = f .before .before .node-field2 in
-    let n = s .args .n in
-    let w = tableOf (s .args .words .now) in
-    sees-found w (s .args .i) n true (f .before .before .before .before .if1 .left) (o .result) (f .before .node-field3 .result) (o .ensures) (f .before .node-field3 .ensures) shape.NoOperand
-    (c .enum-told4 .given .1) refl)
+    let a = start t f .args in
+    by-shape t f shape.Variable (c .before .enum-told3 .given .1)
+    (c .may-mention-after .ensures ∙ ap (mayMentionAfter (tableOf (a .words .now)) (a .i)) (f .before .before .before .node-field .ensures)))
+    (λ c. by-shape t (c .before .before) shape.NoOperand (c .enum-told4 .given .1) refl)
     (λ c. let f = c .before .before .before .before in
-    let o = f .find-operator in
-    let s = f .before .before .before .before .before .before in
-    let b = f .before .before .before .node-field in
-    let d = f .before .before .node-field2 in
-    let n = s .args .n in
-    let w = tableOf (s .args .words .now) in
-    sees-found w (s .args .i) n (c .sees-only .result) (f .before .before .before .before .if1 .left) (o .result) (f .before .node-field3 .result) (o .ensures) (f .before .node-field3 .ensures) shape.OneOperand
-    (c .before .before .enum-told5 .given .1)
-    (c .sees-only .ensures ∙ ap (seesOnly w (s .args .i)) (c .before .operand .ensures ∙ ap (λ x. pick (earlier n x) x 0) (b .ensures))))
+    let a = start t f .args in
+    by-shape t f shape.OneOperand (c .before .before .enum-told5 .given .1)
+    (operand-seen (tableOf (a .words .now)) (a .i) (a .n) (c .sees-only .ensures) (c .before .operand .ensures) (f .before .before .before .node-field .ensures)))
     (λ c. let f = c .before .before .before .before .before .before in
-    let o = f .find-operator in
-    let s = f .before .before .before .before .before .before in
-    let b = f .before .before .before .node-field in
-    let d = f .before .before .node-field2 in
-    let n = s .args .n in
-    let w = tableOf (s .args .words .now) in
-    sees-found w (s .args .i) n (c .before .before .sees-only2 .result && c .sees-only3 .result) (f .before .before .before .before .if1 .left) (o .result) (f .before .node-field3 .result) (o .ensures) (f .before .node-field3 .ensures) shape.TwoOperands
-    (c .before .before .before .before .enum-told6 .given .1)
-    (ap₂ _&&_ (c .before .before .sees-only2 .ensures ∙ ap (seesOnly w (s .args .i)) (c .before .before .before .operand2 .ensures ∙ ap (λ x. pick (earlier n x) x 0) (b .ensures)))
-    (c .sees-only3 .ensures ∙ ap (seesOnly w (s .args .i)) (c .before .operand3 .ensures ∙ ap (λ x. pick (earlier n x) x 0) (d .ensures)))))
-    (λ c. let f = c .before .before in
-    let o = f .find-operator in
-    let s = f .before .before .before .before .before .before in
-    let b = f .before .before .before .node-field in
-    let d = f .before .before .node-field2 in
-    let n = s .args .n in
-    let w = tableOf (s .args .words .now) in
-    sees-found w (s .args .i) n true (f .before .before .before .before .if1 .left) (o .result) (f .before .node-field3 .result) (o .ensures) (f .before .node-field3 .ensures) shape.Unknown
-    (c .enum-told7 .given .1) refl)
+    let a = start t f .args in
+    let w = tableOf (a .words .now) in
+    by-shape t f shape.TwoOperands (c .before .before .before .before .enum-told6 .given .1)
+    (ap₂ _&&_ (operand-seen w (a .i) (a .n) (c .before .before .sees-only2 .ensures) (c .before .before .before .operand2 .ensures) (f .before .before .before .node-field .ensures))
+    (operand-seen w (a .i) (a .n) (c .sees-only3 .ensures) (c .before .operand3 .ensures) (f .before .before .node-field2 .ensures))))
+    (λ c. by-shape t (c .before .before) shape.Unknown (c .enum-told7 .given .1) refl)
