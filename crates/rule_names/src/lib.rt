@@ -44,17 +44,20 @@ fn out_of_order(words: &[u64], i: usize) -> bool
     after_concrete | ((b_at(words, i) == 0) & some_row(words, Query::Event(machine), i))
 }
 
-// 5: bad machine, class or refined event, or out of order.
+// 5: bad machine, class or refined event, or out of order. Only an event's row is compared with the rows before it.
 pub fn event_offends(words: &[u64], table: Table, i: usize) -> bool
     requires { ⌜ table ≡ countsOf (tableOf (now words)) ⌝ }
     ensures { λ r. ⌜ r ≡ eventOffends (tableOf (now (words .entry))) i ⌝ }
 {
+    if tag_at(words, i) != 40 {
+        return false;
+    }
     let machine = a_at(words, i);
     let class = b_at(words, i);
     let good_machine = (machine == 1) | (machine == 2);
     let good_class = (class < 2) | ((class == 2) & (machine == 2));
     let rest = good_refined(words, table, i) & !out_of_order(words, i);
-    (tag_at(words, i) == 40) & !(good_machine & (good_class & rest))
+    !(good_machine & (good_class & rest))
 }
 
 // Whether a number names an event of a machine that may have parameters.

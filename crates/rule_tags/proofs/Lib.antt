@@ -1,1 +1,2 @@
 pub mod TagLimits
+pub mod Twice

@@ -102,11 +102,14 @@ pub fn full_offends(words: &[u64], i: usize) -> bool
     tag_limits(tag).most <= count_rows(words, Query::CountedWith(tag), i)
 }
 
-// 11: an action or a witness whose event and target an earlier one has.
+// 11: an action or a witness whose event and target an earlier one has. No other row is compared with the rows before it.
 pub fn twice_offends(words: &[u64], i: usize) -> bool
     ensures { λ r. ⌜ r ≡ twiceOffends (tableOf (now (words .entry))) i ⌝ }
 {
     let tag = tag_at(words, i);
+    if !(((tag == 51) | (tag == 52)) | (tag == 60)) {
+        return false;
+    }
     let event = a_at(words, i);
     let target = b_at(words, i);
     some_row(words, Query::SameTarget { tag, event, target }, i)

@@ -1,5 +1,10 @@
--- The rows before it are searched for one with its tag, event and target.
+-- A row that is neither an action nor a witness has no target (Twice); of the others, the rows before are searched for one with its tag, event and target.
+use mathlib.Core.Path.{ap, sym, _∙_}
+use mathlib.Core.Bool.{not, _||_}
+use lib.Dec.{eqb}
+use Rattle.table.specs.Table.{tableOf}
 use Rattle.rules.specs.Rules.{twiceOffends}
+use Rattle.rule_tags.proofs.Twice.{twice-none}
 use borrow.Author.Needs.{needs}
 use Rattle.rule_tags.proofs.twice_offends.Statement.{statement}
 use Rattle.rule_tags.proofs.twice_offends.Tie as tie
@@ -8,8 +13,10 @@ pub twice-offends-spec : {M : Type 1} → statement M
 unfolding twiceOffends
 twice-offends-spec = tie.close (tie.spec
     (λ c κs. search needs)
+    (λ c. let a = c .before .before .before .args in
+    sym (twice-none (tableOf (a .words .now)) (a .i) (ap (λ k. not ((eqb k 51 || eqb k 52) || eqb k 60)) (sym (c .before .tag-at .ensures)) ∙ c .if1 .taken)))
     (λ c κs. search needs)
     (λ c κs. search needs)
     (λ c κs. search needs)
     (λ c. let d = c .before in
-    simp (c .some-row .ensures, d .b-at .ensures, d .before .a-at .ensures, d .before .before .tag-at .ensures)))
+    simp (c .some-row .ensures, d .b-at .ensures, d .before .a-at .ensures, d .before .before .before .tag-at .ensures)))
