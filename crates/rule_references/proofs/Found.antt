@@ -1,6 +1,6 @@
 -- What the operators' table gives: at the numbers of a range, which is computed, beyond the last number, and in each column.
 use Prim.Native.Nat.{ℕ, _+_, _≤_, _<_}
-use mathlib.Core.Path.{_≡_, refl, ap, sym}
+use mathlib.Core.Path.{_≡_, refl, ap, sym, _∙_}
 use mathlib.Core.Bool.{Bool, true, false, _&&_}
 use mathlib.Core.List.{List, [], _∷_}
 use native.Mathlib.Omega.{arith}
@@ -11,14 +11,16 @@ use Rattle.formula.proofs.Truth.{and-split}
 use Rattle.rules.specs.Sorts as sorts
 use Rattle.rules.specs.Sorts.{Shape, find, operators, shapeOf, operandSort, resultSort, unknown}
 use Rattle.rule_references.specs.declared.Operator.{Operator}
+use Rattle.rule_references.specs.declared.Shape as held
 use Rattle.rule_references.specs.Operator.{meant, meantShape}
 
 abbrev row : Shape → ℕ → ℕ → ℕ → sorts.Operator
 row s o r n = record { number = n; shape = s; operands = o; sort = r }
 
-pub find-range : (s : Shape) (o r lo k : ℕ) → values (row s o r) lo k ≡ values (find operators) lo k
-    → (n : ℕ) → lo ≤ n → n < lo + k → row s o r n ≡ find operators n
-find-range s o r lo k e n h l = range-same (row s o r) (find operators) lo k e n h l
+-- an operator that was made for a number of the range
+pub found-in : (lo k : ℕ) {made : Operator} {n o r : ℕ} {s : held.Shape} → made ≡ record { number = n; shape = s; operands = o; sort = r }
+    → values (row (meantShape s) o r) lo k ≡ values (find operators) lo k → lo ≤ n → n < lo + k → meant made ≡ find operators n
+found-in lo k {n} {o} {r} {s} made e h l = ap meant made ∙ range-same (row (meantShape s) o r) (find operators) lo k e n h l
 
 abbrev upTo : ℕ → List sorts.Operator → Bool
 upTo m [] = true
@@ -31,8 +33,8 @@ find-above m (o ∷ os) h n l =
     let q : o .number ≤ m = leb→le (o .number) m (p .0) in
     rw (ne-eqb (o .number) n (omega arith), find) (find-above m os (p .1) n l)
 
-pub find-beyond : (n : ℕ) → 36 < n → row unknown 0 0 n ≡ find operators n
-find-beyond n l = find-above 36 operators tt n l
+pub found-beyond : {made : Operator} (n : ℕ) → made ≡ record { number = n; shape = held.the-variants.Unknown; operands = 0; sort = 0 } → 36 < n → meant made ≡ find operators n
+found-beyond n made l = ap meant made ∙ find-above 36 operators tt n l
 
 -- a number from lo on that is not lo itself
 pub past : (lo n : ℕ) → lo ≤ n → (n ≡ lo → ⊥) → lo < n

@@ -17,7 +17,7 @@ ghost use Rattle.table.specs.Table.{tableOf};
 ghost use Rattle.table.specs.Counts.{countsOf};
 ghost use Rattle.rules.specs.Sorts.{find, operators, operandCount, namesIdentifier};
 ghost use Rattle.rules.specs.Rules.{earlierNode, namedVariable, goodColumns, guardEvent, actionTarget, witnessTarget, rootAt, namesRoot, goodTarget, referenceOffends};
-ghost use Rattle.rule_references.specs.Operator.{meant, meantShape};
+ghost use Rattle.rule_references.specs.Operator.{operatorAt, meant, meantShape};
 
 // How an operator uses its columns b and c: a literal's value, an identifier, a variable, or operands.
 pub enum Shape {
@@ -38,89 +38,37 @@ pub struct Operator {
     pub sort: u64,
 }
 
+impl Operator {
+    fn new(number: u64, shape: Shape, operands: u64, sort: u64) -> Self
+        ensures { λ r. ⌜ r ≡ operatorAt number shape operands sort ⌝ }
+    {
+        Self {
+            number,
+            shape,
+            operands,
+            sort,
+        }
+    }
+}
+
 // The operator that a number names.
 pub fn find_operator(number: u64) -> Operator
     ensures { λ r. ⌜ meant r ≡ find operators number ⌝ }
 {
     match number {
-        1 => Operator {
-            number,
-            shape: Shape::Value,
-            operands: 0,
-            sort: 1,
-        },
-        2 => Operator {
-            number,
-            shape: Shape::Identifier,
-            operands: 0,
-            sort: 0,
-        },
-        3 => Operator {
-            number,
-            shape: Shape::Variable,
-            operands: 0,
-            sort: 0,
-        },
-        4..=5 => Operator {
-            number,
-            shape: Shape::NoOperand,
-            operands: 0,
-            sort: 2,
-        },
-        6 => Operator {
-            number,
-            shape: Shape::OneOperand,
-            operands: 3,
-            sort: 2,
-        },
-        10..=14 => Operator {
-            number,
-            shape: Shape::TwoOperands,
-            operands: 1,
-            sort: 1,
-        },
-        15 => Operator {
-            number,
-            shape: Shape::OneOperand,
-            operands: 1,
-            sort: 1,
-        },
-        20 => Operator {
-            number,
-            shape: Shape::TwoOperands,
-            operands: 0,
-            sort: 3,
-        },
-        21..=22 => Operator {
-            number,
-            shape: Shape::TwoOperands,
-            operands: 1,
-            sort: 3,
-        },
-        30..=31 => Operator {
-            number,
-            shape: Shape::NoOperand,
-            operands: 0,
-            sort: 3,
-        },
-        32 => Operator {
-            number,
-            shape: Shape::OneOperand,
-            operands: 3,
-            sort: 3,
-        },
-        33..=36 => Operator {
-            number,
-            shape: Shape::TwoOperands,
-            operands: 3,
-            sort: 3,
-        },
-        _ => Operator {
-            number,
-            shape: Shape::Unknown,
-            operands: 0,
-            sort: 0,
-        },
+        1 => Operator::new(number, Shape::Value, 0, 1),
+        2 => Operator::new(number, Shape::Identifier, 0, 0),
+        3 => Operator::new(number, Shape::Variable, 0, 0),
+        4..=5 => Operator::new(number, Shape::NoOperand, 0, 2),
+        6 => Operator::new(number, Shape::OneOperand, 3, 2),
+        10..=14 => Operator::new(number, Shape::TwoOperands, 1, 1),
+        15 => Operator::new(number, Shape::OneOperand, 1, 1),
+        20 => Operator::new(number, Shape::TwoOperands, 0, 3),
+        21..=22 => Operator::new(number, Shape::TwoOperands, 1, 3),
+        30..=31 => Operator::new(number, Shape::NoOperand, 0, 3),
+        32 => Operator::new(number, Shape::OneOperand, 3, 3),
+        33..=36 => Operator::new(number, Shape::TwoOperands, 3, 3),
+        _ => Operator::new(number, Shape::Unknown, 0, 0),
     }
 }
 
