@@ -1,6 +1,6 @@
 -- Laws of the counts, searches and lists over the numbers below a bound, each by recursion on the bound or on the list.
 use Prim.Native.Nat.{ℕ, zero, suc, _+_, _≤_, _<_}
-use mathlib.Core.Path.{_≡_, refl, sym, subst}
+use mathlib.Core.Path.{_≡_, refl, ap, ap₂, sym, subst}
 use mathlib.Core.Bool.{Bool, true, false, cond}
 use mathlib.Core.List.{List, [], _∷_}
 use mathlib.Core.Logic.{_⊎_, inl, inr, ⊎-elim}
@@ -60,6 +60,12 @@ module _ (P : ℕ → Bool) where
   unfolding countBelow
   count-all zero f = refl
   count-all (suc n) f = omega (arith, count-all n (λ i h. f i (omega arith)), one-where (P n) (f n (omega arith)))
+
+  -- where none passes, the count is 0
+  pub count-never : ((i : ℕ) → P i ≡ false) → (n : ℕ) → countBelow P n ≡ 0
+  unfolding countBelow
+  count-never f zero = refl
+  count-never f (suc n) = ap₂ _+_ (count-never f n) (ap oneIf (f n))
 
   -- P passes below whatever passes: below n, the numbers that pass are those below the count
   abbrev pub Downward : ℕ → Type 0

@@ -39,6 +39,7 @@ pub struct Operator {
 }
 
 impl Operator {
+    // An operator of a number, from its columns in the operators' table.
     fn new(number: u64, shape: Shape, operands: u64, sort: u64) -> Self
         ensures { λ r. ⌜ r ≡ operatorAt number shape operands sort ⌝ }
     {
