@@ -15,7 +15,7 @@ use Rattle.rules.specs.declared.Verdict.the-variants.{Accepted, Refused}
 use Rattle.rules.specs.Rules.{offends, missing}
 use Rattle.rules.specs.Verdict.{firstRow, firstCheck, judge}
 use Rattle.rules.proofs.Tags.{rows-rising}
-use Rattle.verdict.proofs.Cases.{judge-row, judge-missing, judge-accepted}
+use Rattle.rules.proofs.Cases.{judge-row, judge-missing, judge-accepted}
 
 module _ (t : Table) (n : ℕ) (accepted : judge t ≡ Accepted n) where
   not-refused : (c r : ℕ) → judge t ≡ Refused c r → ⊥

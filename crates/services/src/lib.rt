@@ -37,16 +37,7 @@ pub fn find(words: &[u64], table: Table, k: u64) -> Slot
     requires { ⌜ Rising (tableOf (now words)) ⌝ }
     ensures { λ r. ⌜ Located (tableOf (now (words .entry))) k r ⌝ }
 {
-    seek(
-        words,
-        table,
-        Slot {
-            event: 0,
-            group: 0,
-            row: 0,
-            left: k - 1,
-        },
-    )
+    seek(words, table, Slot::start(k - 1))
 }
 
 // Writes a slot's sequent: row 80, then its entries into what is left of the buffer.

@@ -309,15 +309,6 @@ pub fn count(words: &[u64], table: Table) -> u64
     if size(words) == 0 {
         return 0;
     }
-    let end = seek(
-        words,
-        table,
-        Slot {
-            event: 0,
-            group: 0,
-            row: 0,
-            left: MANY,
-        },
-    );
+    let end = seek(words, table, Slot::start(MANY));
     MANY - end.left
 }

@@ -1,11 +1,10 @@
 -- The search passes over the whole list, and what it passed is the count (Counts); an empty table has no slots.
-use Prim.Native.Nat.{_≤_}
 use mathlib.Core.Path.{_≡_, sym, ap, _∙_, subst}
-use mathlib.Core.Logic.{inl, inr}
+use mathlib.Core.Logic.{inl}
 use native.Mathlib.Omega.{arith}
 use Rattle.table.specs.Table.{tableOf}
 use Rattle.sequent.proofs.Walk.{walk-count}
-use Rattle.walk.specs.Slots.{Sought}
+use Rattle.walk.specs.Slots.{Within, place, Sought}
 use Rattle.walk.proofs.Counts.{count-small, none-counted, start-place, passed-all}
 use borrow.Author.Needs.{needs}
 use Rattle.walk.proofs.count.Statement.{statement}
@@ -17,12 +16,16 @@ count-spec = tie.close (tie.spec
     (λ c. let s = c .before .before .before in
     let t = tableOf (s .args .words .now) in
     sym (walk-count t ∙ none-counted t (omega (arith, c .before .size .ensures))))
-    (λ c κs. (c .before .before .before .pre .0, inl (record { event = omega arith; group = omega arith; row = omega (arith, c .before .size .ensures) })))
-    (λ c. let s = c .before .before .before .before .before in
+    (λ c κs. search needs)
+    (λ c κs. let s = c .before .before .before .before in
+    (s .pre .0, inl (subst (Within (tableOf (s .args .words .now))) (sym (c .start .ensures)) (record { event = omega arith; group = omega arith; row = omega (arith, c .before .before .size .ensures) }))))
+    (λ c. let sought = c .before in
+    let s = sought .before .before .before .before .before in
     let t = tableOf (s .args .words .now) in
-    let all = passed-all t 4294967296 (c .before .seek .result) (count-small t (omega (arith, s .pre .1))) (subst (λ k. Sought t k (c .before .seek .result)) (start-place t 4294967296) (c .before .seek .ensures)) in
-    omega (arith, all))
-    (λ c. let s = c .before .before .before .before .before in
+    let at : place t (sought .before .start .result) ≡ 4294967296 = ap (place t) (sought .before .start .ensures) ∙ start-place t 4294967296 in
+    omega (arith, passed-all t 4294967296 (sought .seek .result) (count-small t (omega (arith, s .pre .1))) (subst (λ k. Sought t k (sought .seek .result)) at (sought .seek .ensures))))
+    (λ c. let sought = c .before in
+    let s = sought .before .before .before .before .before in
     let t = tableOf (s .args .words .now) in
-    let all = passed-all t 4294967296 (c .before .seek .result) (count-small t (omega (arith, s .pre .1))) (subst (λ k. Sought t k (c .before .seek .result)) (start-place t 4294967296) (c .before .seek .ensures)) in
-    omega (arith, all, walk-count t)))
+    let at : place t (sought .before .start .result) ≡ 4294967296 = ap (place t) (sought .before .start .ensures) ∙ start-place t 4294967296 in
+    omega (arith, walk-count t, passed-all t 4294967296 (sought .seek .result) (count-small t (omega (arith, s .pre .1))) (subst (λ k. Sought t k (sought .seek .result)) at (sought .seek .ensures)))))
