@@ -1,39 +1,53 @@
--- The walk from sequent to sequent: each search starts one place further on, and there are no more places than sequents.
-use Prim.Native.Nat.{ℕ, _+_, _≤_, _<_}
+-- The walk from sequent to sequent: a search that has come to a place goes on to the next. And where the rows of a sequent end in the buffer.
+use Prim.Native.Nat.{ℕ, _+_, _-_, _*_, _≤_, _<_}
 use mathlib.Core.Path.{_≡_, sym, ap, _∙_, subst}
+use mathlib.Core.List.{List}
 use mathlib.Core.Logic.{_⊎_, inl, inr}
 use native.Mathlib.Omega.{arith}
-use Rattle.table.specs.Table.{Table, count}
+use lib.ListN.{length, take, drop}
+use lib.Seq.{take-at}
+use Rattle.lists.specs.Over.{over}
+use Rattle.table.specs.Table.{Table}
 use Rattle.sequent.specs.Walk.{slotCount, walkTo, walkCount}
-use Rattle.sequent.proofs.Find.{slot-at-most, walk-reaches}
+use Rattle.sequent.proofs.Find.{slot-at-most}
+use Rattle.sequent.specs.Segments.{segments, entriesTo}
+use Rattle.service.specs.Printed.{sequentRows, rowsBytes}
+use Rattle.service.proofs.Printed.{rows-length}
+use Rattle.services.specs.Found.{slotSequentOf}
+use Rattle.services.proofs.Slots.{rows-count}
 use Rattle.walk.specs.declared.Slot.{Slot}
-use Rattle.walk.specs.Slots.{slotAt, Within, AtEnd, InWalk, place}
+use Rattle.walk.specs.Slots.{slotAt, Within, AtEnd, InWalk, place, Sought}
+use Rattle.walk.proofs.Counts.{passed-end}
 
-module _ (t : Table) where
-  -- the slot holds the sequent that is searched
-  pub record Holds (s : Slot) : Type 0 where
+module _ (t : Table) (p : ℕ) (s : Slot) (high : p < walkCount t) (h : Sought t p s) where
+  -- the slot of a sequent is one of the walk, and holds at most two
+  pub record Holds : Type 0 where
     pub within : Within t s
-    pub left : s .left < slotCount t (s .event) (s .group) (s .row)
+    pub left : s .left < 2
 
-  -- it does, or the walk has ended
-  abbrev pub Standing : Slot → Type 0
-  Standing s = (Within t s × (s .left < slotCount t (s .event) (s .group) (s .row))) ⊎ AtEnd t s
-
-  pub standing-holds : (s : Slot) → Standing s → s .event ≤ count t 40 → Holds s
-  standing-holds s (inl h) e = record { within = h .0; left = h .1 }
-  standing-holds s (inr x) e = absurd (omega (arith, x .event))
-
-  pub place-small : (s : Slot) → Holds s → place t s ≤ walkCount t
-  place-small s h =
-      omega (arith, h .left, walk-reaches t (s .event) (s .group) (s .row) (h .within .event) (h .within .group) (h .within .row))
-
-  pub left-small : (s : Slot) → Holds s → s .left < 2
-  left-small s h = omega (arith, h .left, slot-at-most t (s .event) (s .group) (s .row))
+  pub holds : Holds
+  holds = by-place (h .1)
+    where
+      by-place : (Within t s × (s .left < slotCount t (s .event) (s .group) (s .row))) ⊎ AtEnd t s → Holds
+      by-place (inl g) = record { within = g .0; left = omega (arith, g .1, slot-at-most t (s .event) (s .group) (s .row)) }
+      by-place (inr x) = absurd (omega (arith, passed-end t p s (h .0) x))
 
   -- one more to pass over in the same slot
-  pub after-in : (s r : Slot) → Holds s → r ≡ slotAt (s .event) (s .group) (s .row) (s .left + 1) → InWalk t r
-  after-in s r h q =
-      inl (subst (Within t) (sym q) (record { event = h .within .event; group = h .within .group; row = h .within .row }))
+  pub after-in : (r : Slot) → r ≡ slotAt (s .event) (s .group) (s .row) (s .left + 1) → InWalk t r
+  after-in r q =
+      inl (subst (Within t) (sym q) (record { event = holds .within .event; group = holds .within .group; row = holds .within .row }))
 
-  pub after-place : (s r : Slot) → r ≡ slotAt (s .event) (s .group) (s .row) (s .left + 1) → place t r ≡ place t s + 1
-  after-place s r q = ap (place t) q ∙ omega arith
+  pub after-sought : (r next : Slot) → r ≡ slotAt (s .event) (s .group) (s .row) (s .left + 1) → Sought t (place t r) next → Sought t (p + 1) next
+  after-sought r next q g =
+      let at : place t r ≡ p + 1 = ap (place t) q ∙ omega (arith, h .0) in
+      subst (λ n. Sought t n next) at g
+
+-- what was written stands in front
+pub front : (ws xs out : List ℕ) (n : ℕ) → length ws ≡ n → out ≡ over ws xs → take n out ≡ ws
+unfolding over
+front ws xs out n e q = ap (take n) q ∙ take-at ws (drop (length ws) xs) n e
+
+-- where a slot's rows end
+pub rows-end : (t : Table) (s : Slot) → s .row < t .size → (n : ℕ) → n ≡ entriesTo t (s .event) (s .group) (s .row) segments 0
+    → length (rowsBytes (sequentRows (slotSequentOf t s))) ≡ 38 * (1 + n)
+rows-end t s h n e = rows-length (sequentRows (slotSequentOf t s)) ∙ omega (arith, rows-count t s h)

@@ -6,17 +6,23 @@ use row::Row;
 use rules::Verdict;
 use services::write_slot;
 use table::Table;
-use table::size;
 use verdict::Loaded;
 use verdict::judge;
 use verdict::load;
 use walk::Slot;
 use walk::seek;
 ghost use mathlib.Core.Path.{_≡_};
-ghost use Prim.Native.Nat.{_+_, _*_, _<_, _≤_};
+ghost use Prim.Native.Nat.{_+_, _*_, _≤_};
 ghost use lib.ListN.{length};
 ghost use Rattle.table.specs.Table.{tableOf};
 ghost use Rattle.table.specs.Counts.{countsOf};
+ghost use Rattle.machine.specs.Described.{machineOf};
+ghost use Rattle.sequent.specs.Listed.{sequents};
+ghost use Rattle.rules.specs.declared.Verdict.the-variants.{Accepted};
+ghost use Rattle.rules.specs.Verdict.{judge as judgeOf};
+ghost use Rattle.service.specs.Printed.{sequentRows, rowsBytes};
+ghost use Rattle.service.specs.Service.{sequentAt};
+ghost use Rattle.services.specs.Found.{Located};
 
 // Prints bytes, and answers whether they were taken.
 fn print(bytes: &[u8]) -> bool {
@@ -39,31 +45,40 @@ fn print_refusal(number: u64, at: u64) {
     print(&out);
 }
 
-// Prints the sequent in a slot.
-fn print_slot(words: &[u64], table: Table, slot: Slot, out: &mut [u8]) -> bool
-    requires { ⌜ (table ≡ countsOf (tableOf (now words))) × (slot .row < tableOf (now words) .size) ⌝ }
+// Prints sequent k: the one place where sequents are printed, and only a sequent's own rows may be.
+fn print_sequent(words: &[u64], k: u64, rows: &[u8]) -> bool
+    requires { ⌜ now rows ≡ rowsBytes (sequentRows (sequentAt (sequents (machineOf (tableOf (now words)))) k)) ⌝ }
+{
+    print(rows)
+}
+
+// Writes the sequent in a slot, sequent k, and prints it.
+fn print_slot(words: &[u64], table: Table, slot: Slot, k: u64, out: &mut [u8]) -> bool
+    requires { ⌜ (table ≡ countsOf (tableOf (now words))) × Located (tableOf (now words)) k slot ⌝ }
     requires { ⌜ 38 * (1 + 4 * tableOf (now words) .size) ≤ length (now out) ⌝ }
 {
     let entries = count_entries(words, table, slot.event, slot.group, slot.row);
     let end = Row::LENGTH * (1 + entries as usize);
     write_slot(words, table, slot, out);
-    print(&out[..end])
+    print_sequent(words, k, &out[..end])
 }
 
-// Prints all sequents, in the order of the walk.
-fn print_sequents(words: &[u64], table: Table, out: &mut [u8])
-    requires { ⌜ table ≡ countsOf (tableOf (now words)) ⌝ }
+// Prints the sequents from 1 to the count, by one walk.
+fn print_sequents(words: &[u64], table: Table, count: u64, out: &mut [u8])
+    requires { ⌜ (table ≡ countsOf (tableOf (now words))) × (judgeOf (tableOf (now words)) ≡ Accepted count) ⌝ }
     requires { ⌜ 38 * (1 + 4 * tableOf (now words) .size) ≤ length (now out) ⌝ }
 {
-    if size(words) == 0 {
+    if count == 0 {
         return;
     }
     let mut slot = seek(words, table, Slot::start(0));
-    while slot.event <= table.events {
-        if !print_slot(words, table, slot, out) {
+    let mut printed = 0;
+    while printed < count {
+        if !print_slot(words, table, slot, printed + 1, out) {
             return;
         }
         slot = seek(words, table, slot.after());
+        printed += 1;
     }
 }
 
@@ -73,7 +88,7 @@ fn print_rows(words: &[u64], out: &mut [u8])
 {
     match judge(words) {
         Verdict::Refused(number, row) => print_refusal(number, row),
-        Verdict::Accepted(count) => print_sequents(words, Table::of(words), out),
+        Verdict::Accepted(count) => print_sequents(words, Table::of(words), count, out),
     }
 }
 

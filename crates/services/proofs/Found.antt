@@ -36,13 +36,19 @@ module _ (t : Table) where
   pub start-within : (k left : ℕ) → 1 ≤ k → k ≤ length (sequents (machineOf t)) → Within t (slotAt 0 0 0 left)
   start-within k left low high = record { event = omega arith; group = omega arith; row = some-rows k low high }
 
-  pub located : Rising t → (k : ℕ) (r : Slot) → 1 ≤ k → k ≤ length (sequents (machineOf t)) → Sought t (place t (slotAt 0 0 0 (k - 1))) r → Located t k r
-  located rising k r low high (p, inl (w, l)) = record {
+  -- a search for a place, counted from 0, ends in the slot that holds the sequent there
+  pub sought-located : Rising t → (p : ℕ) (r : Slot) → p < length (sequents (machineOf t)) → Sought t p r → Located t (p + 1) r
+  sought-located rising p r high (e, inl (w, l)) = record {
     row = w .row;
     holds =
-        found-left t rising (r .event) (r .group) (r .row) (r .left) (k - 1) noSequent (w .event) (w .group) (w .row) (p ∙ start-place t (k - 1)) l
+        (let q : p + 1 - 1 ≡ p = omega arith in ap (λ n. getD (sequents (machineOf t)) n noSequent) q)
+        ∙ found-left t rising (r .event) (r .group) (r .row) (r .left) p noSequent (w .event) (w .group) (w .row) e l
         ∙ ap (λ ss. getD ss (r .left) noSequent) (counted-made t (r .event) (r .group) (r .row) (omega arith) .1)
         ∙ slot-segmented t rising (r .event) (r .group) (r .row) (r .left) noSequent (w .group) (w .row) l;
   }
-  located rising k r low high (p, inr x) =
-      absurd (omega (arith, passed-end t (k - 1) r (p ∙ start-place t (k - 1)) x, walk-count t))
+  sought-located rising p r high (e, inr x) = absurd (omega (arith, passed-end t p r e x, walk-count t))
+
+  pub located : Rising t → (k : ℕ) (r : Slot) → 1 ≤ k → k ≤ length (sequents (machineOf t)) → Sought t (place t (slotAt 0 0 0 (k - 1))) r → Located t k r
+  located rising k r low high h =
+      let q : k - 1 + 1 ≡ k = omega arith in
+      subst (λ n. Located t n r) q (sought-located rising (k - 1) r (omega arith) (subst (λ n. Sought t n r) (start-place t (k - 1)) h))

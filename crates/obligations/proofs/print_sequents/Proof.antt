@@ -1,53 +1,58 @@
--- The loop's invariant: the slot holds the sequent to print next, or the walk has ended; each turn goes on by one sequent (Walk).
-use Prim.Native.Nat.{_+_, _-_}
-use mathlib.Core.Path.{_≡_, refl, sym, subst}
+-- The loop's invariant: the slot is where the search for the next sequent ends. It is printed (services' Found), and the search goes on (Walk).
+use Prim.Native.Nat.{_+_, _-_, _≤_}
+use mathlib.Core.Path.{_≡_, refl, sym, ap, _∙_, subst}
 use mathlib.Core.Logic.{inl}
 use native.Mathlib.Omega.{arith}
 use lib.ListN.{length}
 use Rattle.table.specs.Table.{tableOf}
-use Rattle.table.proofs.Counts.{counts-events}
-use Rattle.sequent.specs.Walk.{walkCount}
-use Rattle.walk.specs.Slots.{InWalk, place}
-use Rattle.obligations.proofs.Walk.{Standing, standing-holds, place-small, left-small, after-in, after-place}
+use Rattle.sequent.proofs.Walk.{walk-count}
+use Rattle.walk.specs.Slots.{Within, place, Sought}
+use Rattle.walk.proofs.Counts.{start-place}
+use Rattle.services.proofs.Judged.{judged-rising, judged-count}
+use Rattle.services.proofs.Found.{start-within, sought-located}
+use Rattle.obligations.proofs.Walk.{holds, after-in, after-sought}
 use borrow.Author.Needs.{needs}
 use Rattle.obligations.proofs.print_sequents.Statement.{statement}
 use Rattle.obligations.proofs.print_sequents.Tie as tie
 
 abbrev Inv-loop : tie.InvT-loop
-Inv-loop words table out₀ slot₀ out slot = (length out ≡ length out₀) × Standing (tableOf words) slot
+Inv-loop words table count out₀ slot₀ printed₀ out slot printed = (length out ≡ length out₀) × (printed ≤ count) × Sought (tableOf words) printed slot
 
 abbrev μ-loop : tie.MeasureT-loop
-μ-loop words table out₀ slot₀ out slot = walkCount (tableOf words) + 1 - place (tableOf words) slot
+μ-loop words table count out₀ slot₀ printed₀ out slot printed = count - printed
 
 pub print-sequents-spec : {M : Type 1} → statement M
 print-sequents-spec = tie.close (tie.spec
     Inv-loop
     μ-loop
-    (λ c κs. search needs)
     (λ c. search needs)
     (λ c κs. search needs)
-    (λ c κs. let s = c .before .before .before .before .before in
-    (s .pre .0, subst (InWalk (tableOf (s .args .words .now))) (sym (c .start .ensures)) (inl (record { event = omega arith; group = omega arith; row = omega (arith, c .before .before .size .ensures) }))))
-    (λ c. (refl, c .seek .ensures .1))
-    (λ c κs. let turn = c .before .before .before .before in
-    let s = turn .before .before .before .before .before .before .before in
+    (λ c κs. let s = c .before .before .before .before in
     let t = tableOf (s .args .words .now) in
-    let holds = standing-holds t (turn .loop .slot) (turn .loop .inv .1) (omega (arith, counts-events t (s .args .table) (s .pre .0))) in
-    ((s .pre .0, holds .within .row), omega (arith, s .pre .1, turn .loop .inv .0)))
-    (λ c. let turn = c .before .before .before .before .before .before .before .before in omega (arith, c .before .before .out .given, turn .loop .inv .0))
+    (s .pre .0 .0, inl (subst (Within t) (sym (c .start .ensures)) (start-within t 1 0 (omega arith) (omega (arith, judged-count t (s .args .count) (s .pre .0 .1)))))))
+    (λ c. let s = c .before .before .before .before .before in
+    let t = tableOf (s .args .words .now) in
+    (refl, omega arith, subst (λ n. Sought t n (c .seek .result)) (ap (place t) (c .before .start .ensures) ∙ start-place t 0) (c .seek .ensures)))
+    (λ c. omega arith)
+    (λ c κs. let turn = c .before .before in
+    let s = turn .before .before .before .before .before .before in
+    let t = tableOf (s .args .words .now) in
+    ((s .pre .0 .0, sought-located t (judged-rising t (s .args .count) (s .pre .0 .1)) (turn .loop .printed) (turn .loop .slot) (omega (arith, c .before .loop-test .taken, judged-count t (s .args .count) (s .pre .0 .1))) (turn .loop .inv .2)), omega (arith, s .pre .1, turn .loop .inv .0)))
+    (λ c. let turn = c .before .before .before .before .before .before in omega (arith, c .before .before .out .given, turn .loop .inv .0))
     (λ c. search needs)
-    (λ c κs. let turn = c .before .before .before .before .before .before .before .before in
-    let s = turn .before .before .before .before .before .before .before in
+    (λ c κs. let turn = c .before .before .before .before .before .before in
+    let s = turn .before .before .before .before .before .before in
     let t = tableOf (s .args .words .now) in
-    omega (arith, left-small t (turn .loop .slot) (standing-holds t (turn .loop .slot) (turn .loop .inv .1) (omega (arith, counts-events t (s .args .table) (s .pre .0))))))
-    (λ c κs. let turn = c .before .before .before .before .before .before .before .before .before in
-    let s = turn .before .before .before .before .before .before .before in
+    omega (arith, holds t (turn .loop .printed) (turn .loop .slot) (omega (arith, c .before .before .before .before .before .loop-test .taken, walk-count t, judged-count t (s .args .count) (s .pre .0 .1))) (turn .loop .inv .2) .left))
+    (λ c κs. let turn = c .before .before .before .before .before .before .before in
+    let s = turn .before .before .before .before .before .before in
     let t = tableOf (s .args .words .now) in
-    (s .pre .0, after-in t (turn .loop .slot) (c .after .result) (standing-holds t (turn .loop .slot) (turn .loop .inv .1) (omega (arith, counts-events t (s .args .table) (s .pre .0)))) (c .after .ensures)))
-    (λ c. let turn = c .before .before .before .before .before .before .before .before .before .before in
-    let s = turn .before .before .before .before .before .before .before in
+    (s .pre .0 .0, after-in t (turn .loop .printed) (turn .loop .slot) (omega (arith, c .before .before .before .before .before .before .loop-test .taken, walk-count t, judged-count t (s .args .count) (s .pre .0 .1))) (turn .loop .inv .2) (c .after .result) (c .after .ensures)))
+    (λ c. omega arith)
+    (λ c. omega arith)
+    (λ c. let turn = c .before .before .before .before .before .before .before .before in
+    let s = turn .before .before .before .before .before .before in
     let t = tableOf (s .args .words .now) in
-    omega (arith, c .seek2 .ensures .0, after-place t (turn .loop .slot) (c .before .after .result) (c .before .after .ensures), place-small t (turn .loop .slot) (standing-holds t (turn .loop .slot) (turn .loop .inv .1) (omega (arith, counts-events t (s .args .table) (s .pre .0), c .before .before .before .before .before .before .before .if2 .taken)))))
-    (λ c. let turn = c .before .before .before .before .before .before .before .before .before .before in (omega (arith, c .before .before .before .before .out .given, turn .loop .inv .0), c .seek2 .ensures .1))
-    (λ c. c .before .before .before .loop .inv .0)
+    (omega (arith, c .before .before .before .before .out .given, turn .loop .inv .0), omega (arith, c .before .before .before .before .before .before .before .loop-test .taken), after-sought t (turn .loop .printed) (turn .loop .slot) (omega (arith, c .before .before .before .before .before .before .before .loop-test .taken, walk-count t, judged-count t (s .args .count) (s .pre .0 .1))) (turn .loop .inv .2) (c .before .after .result) (c .seek2 .result) (c .before .after .ensures) (c .seek2 .ensures)))
+    (λ c. c .before .loop .inv .0)
     (λ c. search needs))

@@ -1,8 +1,13 @@
--- A sequent has at most four entries for each row of its table, so the buffer has room.
+-- A sequent has at most four entries for each row of its table, so the buffer has room; what is printed is what was written, the rows of sequent k.
+use Prim.Native.Nat.{_+_, _*_, _≤_}
+use mathlib.Core.Path.{_≡_, sym, ap, _∙_}
 use native.Mathlib.Omega.{arith}
-use lib.ListN.{length-take}
+use lib.ListN.{length, length-take}
 use Rattle.table.specs.Table.{tableOf}
 use Rattle.sequent.proofs.Seek.{entries-at-most}
+use Rattle.service.specs.Printed.{sequentRows, rowsBytes}
+use Rattle.services.specs.Found.{slotSequentOf}
+use Rattle.obligations.proofs.Walk.{front, rows-end}
 use borrow.Author.Needs.{needs}
 use Rattle.obligations.proofs.print_slot.Statement.{statement}
 use Rattle.obligations.proofs.print_slot.Tie as tie
@@ -18,7 +23,7 @@ print-slot-spec = tie.close (tie.spec
     omega (arith, s .good, c .count-entries .ensures, entries-at-most (tableOf (s .args .words .now)) (a .event) (a .group) (a .row), s .pre .1))
     (λ c κs. let s = c .before .before .before .before in
     let a = s .args .slot in
-    (s .pre .0, omega (arith, entries-at-most (tableOf (s .args .words .now)) (a .event) (a .group) (a .row), s .pre .1)))
+    ((s .pre .0 .0, s .pre .0 .1 .row), omega (arith, entries-at-most (tableOf (s .args .words .now)) (a .event) (a .group) (a .row), s .pre .1)))
     (λ c. let counted = c .before .before .before .before in
     let s = counted .before .before .before in
     let a = s .args .slot in
@@ -28,6 +33,13 @@ print-slot-spec = tie.close (tie.spec
     let s = counted .before .before .before in
     let a = s .args .slot in
     simp (length-take) (omega (arith, counted .count-entries .ensures, entries-at-most (tableOf (s .args .words .now)) (a .event) (a .group) (a .row), s .pre .1, known .before .out .given)))
-    (λ c κs. search needs)
+    (λ c κs. let written = c .before .before .before in
+    let counted = written .before .before in
+    let s = counted .before .before .before in
+    let t = tableOf (s .args .words .now) in
+    let rs = sequentRows (slotSequentOf t (s .args .slot)) in
+    let end : length (rowsBytes rs) ≡ 38 * (1 + counted .count-entries .result) = rows-end t (s .args .slot) (s .pre .0 .1 .row) (counted .count-entries .result) (counted .count-entries .ensures) in
+    front (rowsBytes rs) (s .args .out .now) (written .write-slot .last .1 .1 .1 .0) (38 * (1 + counted .count-entries .result)) end (written .write-slot .ensures)
+    ∙ ap (λ q. rowsBytes (sequentRows q)) (sym (s .pre .0 .1 .holds)))
     (λ c. search needs)
     (λ c. search needs))
