@@ -26,7 +26,7 @@ use Rattle.verdict.specs.declared.Loaded.{Loaded}
 use Rattle.verdict.specs.declared.Loaded.the-variants.{Words, Refused}
 use Rattle.verdict.specs.Loaded.{rowOf, loadedRows, loadedOf, judged, HoldsRows}
 
-pub take-length : (n : ℕ) (xs : List ℕ) → n ≤ length xs → length (take n xs) ≡ n
+take-length : (n : ℕ) (xs : List ℕ) → n ≤ length xs → length (take n xs) ≡ n
 take-length n xs h = length-take n xs ∙ omega arith
 
 refused-not-words : (number row n : ℕ) → _≡_ {A = Loaded} (Refused number row) (Words n) → ⊥
@@ -116,7 +116,7 @@ module _ (bytes : List ℕ) where
       ap (take n) (q ∙ ap (λ m. over (wordsTo bytes m) ws) (all .0)) ∙ take-at (wordsTo bytes rows) (drop (length (wordsTo bytes rows)) ws) n size
 
   -- 65,536 bytes hold 1,724 rows
-  pub words-small : (n : ℕ) → loadedOf bytes ≡ Words n → n ≤ 6896
+  words-small : (n : ℕ) → loadedOf bytes ≡ Words n → n ≤ 6896
   words-small n e = by-frame (leb (length bytes) 65536) refl
     where
       by-frame : (b : Bool) → leb (length bytes) 65536 ≡ b → n ≤ 6896
@@ -128,3 +128,15 @@ module _ (bytes : List ℕ) where
           by-torn true q =
               let whole = whole (leb-true (length bytes) 65536 p) (eqb-true (length bytes % 38) 0 q) in
               omega (arith, rows-words (ltb (firstBad bytes rows) rows) n refl (sym whole ∙ e) .1, leb-true (length bytes) 65536 p)
+
+  -- the filled part of an array of 6,896 words
+  pub record Filled (words : List ℕ) (n : ℕ) : Type 0 where
+    pub within : n ≤ length words
+    pub size : n ≡ length (take n words)
+    pub small : length (take n words) ≤ 6896
+
+  pub filled : (words : List ℕ) (n : ℕ) → length words ≡ 6896 → loadedOf bytes ≡ Words n → Filled words n
+  filled words n e p =
+      let within : n ≤ length words = omega (arith, words-small n p) in
+      let size = take-length n words within in
+      record { within = within; size = sym size; small = omega (arith, size, words-small n p) }

@@ -1,11 +1,10 @@
 -- By checks 1 and 2; then by what the filled part of the words holds, the numbers of all rows (verdict's Rows).
 use mathlib.Core.Path.{ap, sym, _∙_}
-use native.Mathlib.Omega.{arith}
 use Rattle.table.specs.Table.{tableOf}
 use Rattle.machine.specs.Described.{machineOf}
 use Rattle.rules.specs.Verdict.{judge, machine}
 use Rattle.verdict.specs.Loaded.{judged}
-use Rattle.verdict.proofs.Rows.{take-length, verdict-judged, words-small}
+use Rattle.verdict.proofs.Rows.{verdict-judged, filled}
 use Rattle.services.specs.Found.{serveBy}
 use borrow.Author.Needs.{needs}
 use Rattle.services.proofs.serve.Statement.{statement}
@@ -18,16 +17,14 @@ serve-spec = tie.close (tie.spec
     (λ c. search needs)
     (λ c. search needs)
     (λ c. let told = c .before in
-    let b = told .before .before .before .before .before .before .before .args .bytes .now in
-    omega (arith, words-small b (told .n .given .0 .0) (sym (told .before .before .before .load .ensures .0) ∙ told .n .given .1), told .before .before .words2 .given))
+    let load = told .before .before .before in
+    filled (told .before .before .before .before .before .before .before .args .bytes .now) (load .load .last .1 .0) (told .n .given .0 .0) (told .before .before .words2 .given) (sym (load .load .ensures .0) ∙ told .n .given .1) .within)
     (λ c. let told = c .before .before in
-    let b = told .before .before .before .before .before .before .before .args .bytes .now in
-    let small = words-small b (told .n .given .0 .0) (sym (told .before .before .before .load .ensures .0) ∙ told .n .given .1) in
-    sym (take-length (told .n .given .0 .0) (told .before .before .before .load .last .1 .0) (omega (arith, small, told .before .before .words2 .given))))
+    let load = told .before .before .before in
+    filled (told .before .before .before .before .before .before .before .args .bytes .now) (load .load .last .1 .0) (told .n .given .0 .0) (told .before .before .words2 .given) (sym (load .load .ensures .0) ∙ told .n .given .1) .size)
     (λ c κs. let told = c .before .before .before in
-    let b = told .before .before .before .before .before .before .before .args .bytes .now in
-    let small = words-small b (told .n .given .0 .0) (sym (told .before .before .before .load .ensures .0) ∙ told .n .given .1) in
-    omega (arith, small, take-length (told .n .given .0 .0) (told .before .before .before .load .last .1 .0) (omega (arith, small, told .before .before .words2 .given))))
+    let load = told .before .before .before in
+    filled (told .before .before .before .before .before .before .before .args .bytes .now) (load .load .last .1 .0) (told .n .given .0 .0) (told .before .before .words2 .given) (sym (load .load .ensures .0) ∙ told .n .given .1) .small)
     (λ c. let told = c .before in
     let s = told .before .before .before .before .before .before .before in
     let b = s .args .bytes .now in
