@@ -5,11 +5,12 @@ use table::Table;
 use table::a_at;
 use table::b_at;
 use table::c_at;
+use table::number_in;
 use table::size;
 use table::tag_at;
 ghost use mathlib.Core.Path.{_≡_};
 ghost use mathlib.Core.Bool.{not, _&&_};
-ghost use Prim.Native.Nat.{_+_, _-_, _<_, _^_};
+ghost use Prim.Native.Nat.{_+_, _<_, _^_};
 ghost use lib.Dec.{eqb};
 ghost use Rattle.lists.specs.Rows.{someBelow};
 ghost use Rattle.table.specs.Table.{tableOf};
@@ -24,18 +25,6 @@ fn follows(x: u64, y: u64) -> bool
         return false;
     }
     y - 1 == x
-}
-
-// The number that row i has in the section that begins at row start.
-fn number_in(start: u64, i: usize) -> u64
-    requires { ⌜ i < 2 ^ 63 ⌝ }
-    ensures { λ r. ⌜ r ≡ i + 1 - start ⌝ }
-{
-    let past = i as u64 + 1;
-    if past < start {
-        return 0;
-    }
-    past - start
 }
 
 // Whether the event at row i, whose number is event, needs an action for the identifier at row j, whose number is target, and has none.

@@ -11,11 +11,12 @@ use table::b_at;
 use table::c_at;
 use table::identifier_field;
 use table::node_field;
+use table::number_in;
 use table::one_if;
 use table::size;
 use table::tag_at;
 ghost use mathlib.Core.Path.{_≡_};
-ghost use Prim.Native.Nat.{_+_, _-_, _^_, _<_, _≤_};
+ghost use Prim.Native.Nat.{_≤_};
 ghost use Rattle.table.specs.Table.{tableOf};
 ghost use Rattle.table.specs.Counts.{countsOf};
 ghost use Rattle.rules.specs.Sorts.{sortOf, fitting};
@@ -200,18 +201,6 @@ fn uses(words: &[u64], n: u64) -> u64
     count
 }
 
-// The number of row i in the section that begins at start.
-fn number_from(start: u64, i: usize) -> u64
-    requires { ⌜ i < 2 ^ 63 ⌝ }
-    ensures { λ r. ⌜ r ≡ i + 1 - start ⌝ }
-{
-    let past = i as u64 + 1;
-    if past < start {
-        return 0;
-    }
-    past - start
-}
-
 // Whether row i offends against check 9.
 pub fn use_offends(words: &[u64], table: Table, i: usize) -> bool
     requires { ⌜ table ≡ countsOf (tableOf (now words)) ⌝ }
@@ -220,7 +209,7 @@ pub fn use_offends(words: &[u64], table: Table, i: usize) -> bool
     let tag = tag_at(words, i);
     if tag == 20 {
         let start = table.nodes_start;
-        return !(uses(words, number_from(start, i)) == 1);
+        return !(uses(words, number_in(start, i)) == 1);
     }
     false
 }

@@ -1,6 +1,6 @@
 // 01, Rows: a table's rows as words, four a row (tag, a, b, c), and where its identifiers, nodes and events stand.
 ghost use mathlib.Core.Path.{_≡_};
-ghost use Prim.Native.Nat.{_+_, _*_, _-_, _<_, _≤_};
+ghost use Prim.Native.Nat.{_+_, _*_, _-_, _^_, _<_, _≤_};
 ghost use mathlib.Core.Bool.{_&&_};
 ghost use lib.Dec.{eqb, leb};
 ghost use lib.ListN.{length, getD};
@@ -91,6 +91,18 @@ pub fn among(x: u64, count: u64) -> bool
     ensures { λ r. ⌜ r ≡ leb 1 x && leb x count ⌝ }
 {
     (1 <= x) & (x <= count)
+}
+
+// The number that row i has in the section that begins at row start.
+pub fn number_in(start: u64, i: usize) -> u64
+    requires { ⌜ i < 2 ^ 63 ⌝ }
+    ensures { λ r. ⌜ r ≡ i + 1 - start ⌝ }
+{
+    let past = i as u64 + 1;
+    if past < start {
+        return 0;
+    }
+    past - start
 }
 
 impl Table {

@@ -17,7 +17,7 @@ unfolding useOffends
 returns c =
     let k = c .before .before .before in
     let s = k .before .before in
-    simp (eq-eqb _ _ (sym (k .tag-at .ensures) ∙ c .before .before .if1 .taken), c .uses .ensures, c .before .number-from .ensures, starts-nodes (tableOf (s .args .words .now)) (s .args .table) (s .pre))
+    simp (eq-eqb _ _ (sym (k .tag-at .ensures) ∙ c .before .before .if1 .taken), c .uses .ensures, c .before .number-in .ensures, starts-nodes (tableOf (s .args .words .now)) (s .args .table) (s .pre))
 
 returns-2 : tie.Need-returns-2
 unfolding useOffends
