@@ -1,28 +1,18 @@
 -- Rows that are written one after another, each into what is left of the buffer, are counted and written together.
 use Prim.Native.Nat.{ℕ, _+_, _-_, _*_, _≤_, _<_, _^_}
-use mathlib.Core.Path.{_≡_, refl, sym, ap, ap₂, _∙_, subst}
+use mathlib.Core.Path.{_≡_, sym, ap, ap₂, _∙_, subst}
 use mathlib.Core.List.{List, [], _∷_, _++_, flatMap, append-nil}
 use native.Mathlib.Omega.{arith}
 use lib.ListN.{length, take, drop, length-append, length-take, length-drop}
 use borrow.Rule.Slice.PartMut.{putMid}
 use Rattle.lists.specs.Over.{over}
-use Rattle.lists.proofs.Flat.{flat-join}
 use Rattle.lists.proofs.Over.{over-none, over-tail}
 use Rattle.row.specs.declared.Row.{Row}
 use Rattle.row.specs.Row.{rowBytes, width}
-use Rattle.row.proofs.Form.{row-length}
 use Rattle.service.specs.Printed.{rowsBytes}
+use Rattle.service.proofs.Printed.{rows-length, rows-join}
 use Rattle.spell.specs.Spell.{capped, restStart, Spelled}
 use Rattle.spell.proofs.Capped.{capped-below, capped-add, start-after}
-
-pub rows-length : (rs : List Row) → length (rowsBytes rs) ≡ 38 * length rs
-unfolding rowsBytes flatMap
-rows-length [] = refl
-rows-length (r ∷ rs) = length-append (rowBytes width r) (rowsBytes rs) ∙ omega (arith, row-length width r, rows-length rs)
-
-rows-join : (rs ss : List Row) → rowsBytes (rs ++ ss) ≡ rowsBytes rs ++ rowsBytes ss
-unfolding rowsBytes
-rows-join rs ss = flat-join (rowBytes width) rs ss
 
 -- one row: written where it has room
 pub row-written : (row : Row) (entry exit : List ℕ) → exit ≡ over (rowBytes width row) entry → Spelled (row ∷ []) 1 entry exit
