@@ -9,7 +9,7 @@ use table::a_at;
 use table::b_at;
 use table::c_at;
 use table::event_field;
-use table::identifier_field;
+use table::is_variable;
 use table::one_if;
 use table::size;
 use table::tag_at;
@@ -29,7 +29,7 @@ ghost use Rattle.table.specs.Counts.{countsOf};
 ghost use Rattle.sequent.specs.Entry.{written};
 ghost use Rattle.sequent.specs.Numbers.{numbers, numbersOf};
 ghost use Rattle.sequent.specs.Walk.{matchedBy, actionRow};
-ghost use Rattle.sequent.specs.Segments.{isWFIS, headerKind, beforeIn, headerItem, goalOf, goalAt, isInitial, hasAbstract, hasConcrete, isVariableNumber, hasMoves, hasWitnesses};
+ghost use Rattle.sequent.specs.Segments.{isWFIS, headerKind, beforeIn, headerItem, goalOf, goalAt, isInitial, hasAbstract, hasConcrete, hasMoves, hasWitnesses};
 ghost use Rattle.sequent.specs.Segments.{witnessIn, hasAbstractMoves, segments, segmentTest, segmentEntry, entryWalk, entriesTo};
 ghost use Rattle.service.specs.Printed.{rowsBytes};
 ghost use Rattle.entries.specs.Seek.{place, nextPlace, Stands, Sought};
@@ -52,15 +52,6 @@ fn matched_by(words: &[u64], table: Table, event: u64) -> u64
         return 1;
     }
     event_field(words, table, event, Table::REFINED)
-}
-
-// Kinds 2 and 3.
-fn is_variable(words: &[u64], table: Table, x: u64) -> bool
-    requires { ⌜ table ≡ countsOf (tableOf (now words)) ⌝ }
-    ensures { λ r. ⌜ r ≡ isVariableNumber (tableOf (now (words .entry))) x ⌝ }
-{
-    let kind = identifier_field(words, table, x, Table::KIND);
-    (kind == 2) | (kind == 3)
 }
 
 // The row of an event's action for a variable; the number of rows where it is unassigned.

@@ -8,11 +8,12 @@ use lib.Dec.{T, ltb, eqb, ltb→lt, eqb→eq}
 use borrow.Author.Tests.{ltb-true, ltb-false}
 use Rattle.lists.specs.All.{In}
 use Rattle.lists.specs.Distinct.{Distinct}
+use Rattle.lists.specs.Choice.{pick}
 use Rattle.lists.specs.Rows.{first, numbers}
 use Rattle.lists.proofs.Distinct.{pairwise-keep, numbers-distinct}
 use Rattle.lists.proofs.First.{Least, first-least}
 use Rattle.lists.proofs.Rows.{numbers-in, in-numbers, in-keep}
-use Rattle.table.specs.Table.{Table, tagged, section, count, named, kindOf, operatorOf, leftOf, rightOf, isAction}
+use Rattle.table.specs.Table.{Table, tagged, section, count, named, kindOf, operandNode, operatorOf, leftOf, rightOf, isAction}
 use Rattle.table.proofs.Sections.{section-row, section-distinct, named-bounds, bounds-named}
 use Rattle.formula.specs.Tree.{bottom, Tree, constant}
 use Rattle.formula.proofs.Truth.{and-split, test-true, true-test}
@@ -32,6 +33,17 @@ operandsOf (binaryOf o) = 2
 operandsOf (divisionOf o) = 2
 operandsOf (connectiveOf o) = 2
 operandsOf unknown = 0
+
+earlier-bounds : (n m : ℕ) → T (earlier n m) → (1 ≤ m) × (m < n)
+earlier-bounds n m h = let s = and-split (ltb 0 m) (ltb m n) h in (ltb→lt 0 m (s .0), ltb→lt m n (s .1))
+
+-- an operand has a smaller number
+pub operand-falls : (n m : ℕ) → 1 ≤ n → operandNode n m < n
+operand-falls n m h = go (earlier n m) (earlier-bounds n m)
+  where
+    go : (b : Bool) → (T b → (1 ≤ m) × (m < n)) → pick b m 0 < n
+    go true f = f tt .1
+    go false f = h
 
 module _ (t : Table) where
   -- events and identifiers are the numbers that name one
@@ -97,19 +109,13 @@ module _ (t : Table) where
       within true q = let h = ltb-true f (t .size) q in kind (tagged t 51 f) refl h (true-test _ (least .passes (omega arith)))
       within false q = none (λ i h s. true≢false (sym (test-true _ s) ∙ least .before i (omega arith) (omega (arith, ltb-false f (t .size) q))))
 
-  -- an operand's tree, as its node has it, to a depth and whole
+  -- an operand's tree, as its node has it, to a depth
   abbrev operandTo : ℕ → ℕ → ℕ → Tree
   operandTo d n m = elim (earlier n m) [ true ↦ treeTo t d m | false ↦ constant bottom ]
-
-  abbrev pub operandOf : ℕ → ℕ → Tree
-  operandOf n m = elim (earlier n m) [ true ↦ treeOf t m | false ↦ constant bottom ]
 
   either-tree : (b : Bool) (u v : Tree) → (T b → u ≡ v) → _≡_ {A = Tree} (elim b [ true ↦ u | false ↦ constant bottom ]) (elim b [ true ↦ v | false ↦ constant bottom ])
   either-tree true u v f = f tt
   either-tree false u v f = refl
-
-  earlier-bounds : (n m : ℕ) → T (earlier n m) → (1 ≤ m) × (m < n)
-  earlier-bounds n m h = let s = and-split (ltb 0 m) (ltb m n) h in (ltb→lt 0 m (s .0), ltb→lt m n (s .1))
 
   -- any depth from the node's number on gives the same tree
   tree-depth : (d d′ n : ℕ) → 1 ≤ n → n ≤ d → n ≤ d′ → treeTo t d n ≡ treeTo t d′ n
@@ -122,14 +128,20 @@ module _ (t : Table) where
       (λ e. let b = earlier-bounds n m e in tree-depth d d′ m (b .0) (omega (arith, b .1)) (omega (arith, b .1))) in
       ap₂ (node (operatorNumbered (operatorOf t n)) (leftOf t n)) (operand (leftOf t n)) (operand (rightOf t n))
 
+  -- it is the tree of the operand's node, of node 0 where the operand is no earlier one
+  operand-tree : (d m : ℕ) → operandTo d (suc d) m ≡ treeOf t (operandNode (suc d) m)
+  unfolding treeOf treeTo
+  operand-tree d m = go (earlier (suc d) m) (earlier-bounds (suc d) m)
+    where
+      go : (b : Bool) → (T b → (1 ≤ m) × (m < suc d)) → _≡_ {A = Tree} (elim b [ true ↦ treeTo t d m | false ↦ constant bottom ]) (treeOf t (pick b m 0))
+      go true f = tree-depth d m m (f tt .0) (omega (arith, f tt .1)) (omega arith)
+      go false f = refl
+
   -- the tree of a node, from the trees of its operands
   pub tree-step : (n : ℕ) → 1 ≤ n
-      → treeOf t n ≡ node (operatorNumbered (operatorOf t n)) (leftOf t n) (operandOf n (leftOf t n)) (operandOf n (rightOf t n))
+      → treeOf t n ≡ node (operatorNumbered (operatorOf t n)) (leftOf t n) (treeOf t (operandNode n (leftOf t n))) (treeOf t (operandNode n (rightOf t n)))
   unfolding treeOf treeTo
   tree-step zero l = absurd (omega arith)
   tree-step (suc d) l =
       let n = suc d in
-      let operand : (m : ℕ) → operandTo d n m ≡ operandOf n m = λ m.
-      either-tree (earlier n m) (treeTo t d m) (treeTo t m m)
-      (λ e. let b = earlier-bounds n m e in tree-depth d m m (b .0) (omega (arith, b .1)) (omega arith)) in
-      ap₂ (node (operatorNumbered (operatorOf t n)) (leftOf t n)) (operand (leftOf t n)) (operand (rightOf t n))
+      ap₂ (node (operatorNumbered (operatorOf t n)) (leftOf t n)) (operand-tree d (leftOf t n)) (operand-tree d (rightOf t n))

@@ -1,14 +1,15 @@
--- A kind is a variable's by its number: by cases on the numbers that it is compared with.
+-- An identifier is a variable by the number of its kind: by cases on the numbers that it is compared with.
 use Prim.Native.Nat.{ℕ}
 use mathlib.Core.Path.{_≡_, refl, sym, ap₂}
 use mathlib.Core.Bool.{Bool, true, false, _||_}
 use native.Mathlib.Omega.{arith}
 use lib.Dec.{eqb}
 use borrow.Author.Tests.{eqb-true, ne-eqb}
+use Rattle.table.specs.Table.{Table, kindOf, isVariableNumber}
 use Rattle.machine.specs.Machine.{Kind, isVariable, constantKind, abstractVariable, concreteVariable, abstractParameter, concreteParameter}
-use Rattle.machine.specs.Described.{kindNumbered}
+use Rattle.machine.specs.Described.{kindNumbered, machineOf}
 
-pub variable-kind : (n : ℕ) → isVariable (kindNumbered n) ≡ (eqb n 2 || eqb n 3)
+variable-kind : (n : ℕ) → isVariable (kindNumbered n) ≡ (eqb n 2 || eqb n 3)
 unfolding kindNumbered
 variable-kind n =
     go (eqb n 1) (eqb n 2) (eqb n 3) (eqb n 4) (λ p. ne-eqb n 2 (omega (arith, eqb-true n 1 p))) (λ p. ne-eqb n 3 (omega (arith, eqb-true n 1 p)))
@@ -30,3 +31,7 @@ variable-kind n =
     go false false true d f g = refl
     go false false false true f g = refl
     go false false false false f g = refl
+
+pub variable-numbered : (t : Table) (x : ℕ) → isVariable (machineOf t .kind x) ≡ isVariableNumber t x
+unfolding machineOf
+variable-numbered t x = variable-kind (kindOf t x)

@@ -1,18 +1,15 @@
 -- What a row's formula may mention, by the row's tag; and what the tree of a node mentions, from its operator's shape and the trees of its operands.
-use Prim.Native.Nat.{ℕ, _≤_, _<_}
-use mathlib.Core.Path.{_≡_, refl, sym, ap, ap₂, _∙_, subst}
-use mathlib.Core.Bool.{Bool, true, false, _&&_}
+use Prim.Native.Nat.{ℕ, _≤_}
+use mathlib.Core.Path.{_≡_, refl, sym, ap, _∙_, subst}
+use mathlib.Core.Bool.{Bool, true, _&&_}
 use native.Mathlib.Omega.{arith}
-use lib.Dec.{T, ltb, ltb→lt}
-use Rattle.lists.specs.Choice.{pick}
-use Rattle.formula.specs.Tree.{Tree, constant, bottom}
+use Rattle.formula.specs.Tree.{Tree}
 use Rattle.formula.specs.Mentions.{mentions}
-use Rattle.formula.proofs.Truth.{and-split, true-test}
-use Rattle.table.specs.Table.{Table, operatorOf, leftOf, rightOf}
+use Rattle.table.specs.Table.{Table, operandNode, operatorOf, leftOf, rightOf}
 use Rattle.machine.specs.Operator as meaning
 use Rattle.machine.specs.Operator.{Operator, literalOf, identifierOf, afterOf, constantOf, unaryOf, binaryOf, divisionOf, connectiveOf, operatorNumbered}
-use Rattle.machine.specs.Described.{node, earlier, treeTo, treeOf}
-use Rattle.machine.proofs.Described.{operandOf, tree-step}
+use Rattle.machine.specs.Described.{node, treeTo, treeOf}
+use Rattle.machine.proofs.Described.{tree-step}
 use Rattle.rules.specs.Sorts.{Shape, value, anIdentifier, aVariable, none, one, two, unknown, find, operators, shapeOf}
 use Rattle.rules.specs.Sight.{mayMention, mayMentionAfter, seesOnly}
 use Rattle.rules.proofs.Operators.{shapeFor, shape-agrees}
@@ -44,57 +41,39 @@ module _ (P Q : ℕ → Bool) where
   mentions-node (connectiveOf o) b l r = refl
   mentions-node meaning.unknown b l r = refl
 
--- an operand that is an earlier node falls
-pub operand-falls : (n x : ℕ) → 1 ≤ n → pick (earlier n x) x 0 < n
-operand-falls n x h = go (earlier n x) refl
-  where
-    go : (b : Bool) → earlier n x ≡ b → pick b x 0 < n
-    go true e = ltb→lt x n (and-split (ltb 0 x) (ltb x n) (true-test _ e) .1)
-    go false e = h
+module _ (t : Table) (i : ℕ) where
+  pub mention-when : (x tag : ℕ) (r : Bool) → tag ≡ t .tag i → r ≡ seen t tag i x → r ≡ mayMention t i x
+  unfolding mayMention
+  mention-when x tag r e h = subst (λ k. r ≡ seen t k i x) e h
 
-module _ (t : Table) where
-  operand-tree : (n x : ℕ) → treeOf t (pick (earlier n x) x 0) ≡ operandOf t n x
-  unfolding treeOf treeTo
-  operand-tree n x = go (earlier n x)
-    where
-      go : (b : Bool) → treeOf t (pick b x 0) ≡ elim b [ true ↦ treeOf t x | false ↦ constant bottom ]
-      go true = refl
-      go false = refl
+  pub after-when : (x tag : ℕ) (r : Bool) → tag ≡ t .tag i → r ≡ seenAfter t tag i x → r ≡ mayMentionAfter t i x
+  unfolding mayMentionAfter
+  after-when x tag r e h = subst (λ k. r ≡ seenAfter t k i x) e h
 
-  module _ (i : ℕ) where
-    pub mention-when : (x tag : ℕ) (r : Bool) → tag ≡ t .tag i → r ≡ seen t tag i x → r ≡ mayMention t i x
-    unfolding mayMention
-    mention-when x tag r e h = subst (λ k. r ≡ seen t k i x) e h
+  pub sees-none : true ≡ seesOnly t i 0
+  unfolding seesOnly treeOf treeTo mentions
+  sees-none = refl
 
-    pub after-when : (x tag : ℕ) (r : Bool) → tag ≡ t .tag i → r ≡ seenAfter t tag i x → r ≡ mayMentionAfter t i x
-    unfolding mayMentionAfter
-    after-when x tag r e h = subst (λ k. r ≡ seenAfter t k i x) e h
+  abbrev pub seesBy : Shape → ℕ → Bool
+  seesBy s n =
+      mentionsBy (mayMention t i) (mayMentionAfter t i) s (leftOf t n) (seesOnly t i (operandNode n (leftOf t n)))
+      (seesOnly t i (operandNode n (rightOf t n)))
 
-    pub sees-none : true ≡ seesOnly t i 0
-    unfolding seesOnly treeOf treeTo mentions
-    sees-none = refl
+  pub sees-step : (n : ℕ) → 1 ≤ n → seesBy (shapeOf (operatorOf t n)) n ≡ seesOnly t i n
+  unfolding seesOnly
+  sees-step n h =
+      let P = mayMention t i in
+      let Q = mayMentionAfter t i in
+      ap (λ s. seesBy s n) (shape-agrees (operatorOf t n))
+      ∙ mentions-node P Q (operatorNumbered (operatorOf t n)) (leftOf t n) (treeOf t (operandNode n (leftOf t n))) (treeOf t (operandNode n (rightOf t n)))
+      ∙ ap (mentions P Q) (sym (tree-step t n h))
 
-    abbrev pub seesBy : Shape → ℕ → Bool
-    seesBy s n =
-        mentionsBy (mayMention t i) (mayMentionAfter t i) s (leftOf t n) (seesOnly t i (pick (earlier n (leftOf t n)) (leftOf t n) 0))
-        (seesOnly t i (pick (earlier n (rightOf t n)) (rightOf t n) 0))
+  -- the same from the operator that was found, by its shape's case
+  pub sees-found : (n : ℕ) (r : Bool) → (n ≡ 0 → ⊥) → (o : found.Operator) (m : ℕ) → meant o ≡ find operators m → m ≡ operatorOf t n
+      → (s : held.Shape) → o .shape ≡ s → r ≡ seesBy (meantShape s) n → r ≡ seesOnly t i n
+  sees-found n r f o m e q s told h =
+      h ∙ ap (λ s. seesBy s n) (sym (ap meantShape told) ∙ shape-found o m e ∙ ap shapeOf q) ∙ sees-step n (omega arith)
 
-    pub sees-step : (n : ℕ) → 1 ≤ n → seesBy (shapeOf (operatorOf t n)) n ≡ seesOnly t i n
-    unfolding seesOnly
-    sees-step n h =
-        let P = mayMention t i in
-        let Q = mayMentionAfter t i in
-        ap (λ s. seesBy s n) (shape-agrees (operatorOf t n))
-        ∙ ap₂ (mentionsBy P Q (shapeFor (operatorNumbered (operatorOf t n))) (leftOf t n)) (ap (mentions P Q) (operand-tree n (leftOf t n))) (ap (mentions P Q) (operand-tree n (rightOf t n)))
-        ∙ mentions-node P Q (operatorNumbered (operatorOf t n)) (leftOf t n) (operandOf t n (leftOf t n)) (operandOf t n (rightOf t n))
-        ∙ ap (mentions P Q) (sym (tree-step t n h))
-
-    -- the same from the operator that was found, by its shape's case
-    pub sees-found : (n : ℕ) (r : Bool) → (n ≡ 0 → ⊥) → (o : found.Operator) (m : ℕ) → meant o ≡ find operators m → m ≡ operatorOf t n
-        → (s : held.Shape) → o .shape ≡ s → r ≡ seesBy (meantShape s) n → r ≡ seesOnly t i n
-    sees-found n r f o m e q s told h =
-        h ∙ ap (λ s. seesBy s n) (sym (ap meantShape told) ∙ shape-found o m e ∙ ap shapeOf q) ∙ sees-step n (omega arith)
-
-    -- an operand as the walk of its node reads it: the number x that was looked up is the node's y
-    pub operand-seen : (n : ℕ) {x y o : ℕ} {r : Bool} → r ≡ seesOnly t i o → o ≡ pick (earlier n x) x 0 → x ≡ y → r ≡ seesOnly t i (pick (earlier n y) y 0)
-    operand-seen n h e q = h ∙ ap (seesOnly t i) (e ∙ ap (λ x. pick (earlier n x) x 0) q)
+  -- an operand as the walk of its node reads it: the number x that was looked up is the node's y
+  pub operand-seen : (n : ℕ) {x y o : ℕ} {r : Bool} → r ≡ seesOnly t i o → o ≡ operandNode n x → x ≡ y → r ≡ seesOnly t i (operandNode n y)
+  operand-seen n h e q = h ∙ ap (seesOnly t i) (e ∙ ap (operandNode n) q)

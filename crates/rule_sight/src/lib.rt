@@ -10,12 +10,11 @@ use table::b_at;
 use table::event_field;
 use table::identifier_field;
 use table::node_field;
+use table::operand;
 use table::tag_at;
 ghost use mathlib.Core.Path.{_≡_};
-ghost use Rattle.lists.specs.Choice.{pick};
 ghost use Rattle.table.specs.Table.{tableOf};
 ghost use Rattle.table.specs.Counts.{countsOf};
-ghost use Rattle.machine.specs.Described.{earlier};
 ghost use Rattle.rules.specs.Sight.{eventSees, mayMention, mayMentionAfter, seesOnly};
 ghost use Rattle.rules.specs.Rules.{sightOffends};
 
@@ -76,16 +75,6 @@ fn may_mention_after(words: &[u64], table: Table, i: usize, x: u64) -> bool
         return (target == 2) & ((kind == 3) | (x == b));
     }
     false
-}
-
-// An operand of the node n, or 0 where it is no earlier node.
-fn operand(n: u64, x: u64) -> u64
-    ensures { λ r. ⌜ r ≡ pick (earlier n x) x 0 ⌝ }
-{
-    if (0 < x) & (x < n) {
-        return x;
-    }
-    0
 }
 
 // Whether the tree of the node n mentions only what the formula of row i may.

@@ -14,16 +14,16 @@ use Rattle.lists.specs.Rows.{numbers, keep}
 use Rattle.lists.proofs.All.{all-at}
 use Rattle.lists.proofs.Rows.{numbers-in}
 use Rattle.lists.proofs.Flat.{keep-keep, keep-below, keep-only, keep-map, map-when, flat-next}
-use Rattle.table.specs.Table.{Table, tagged, section, kindOf}
+use Rattle.table.specs.Table.{Table, tagged, section, isVariableNumber}
 use Rattle.table.proofs.Sections.{Rising}
 use Rattle.machine.specs.Machine.{Witness}
 use Rattle.machine.specs.Described.{machineOf}
-use Rattle.machine.proofs.Variables.{variable-kind}
+use Rattle.machine.proofs.Variables.{variable-numbered}
 use Rattle.sequent.specs.Entry.{Entry, written, moves, variable}
 use Rattle.sequent.specs.Sequent.{Sequent}
 use Rattle.sequent.specs.Listed.{sequent, formulas, base, guarded, moved, allWritten, variables, witnessEntries, parameterWitnesses, invHypotheses}
 use Rattle.sequent.specs.Walk.{groups, before, isFormula, rowOfEvent, isAbstract, isConvergent, ownKind, identifierAt, makes, roleOf, baseAt, guardedAt, movedAt, made, slotCount}
-use Rattle.sequent.specs.Segments.{headerKind, beforeIn, headerItem, goalOf, goalAt, isInitial, hasAbstract, hasConcrete, isVariableNumber, hasMoves, hasWitnesses, witnessIn}
+use Rattle.sequent.specs.Segments.{headerKind, beforeIn, headerItem, goalOf, goalAt, isInitial, hasAbstract, hasConcrete, hasMoves, hasWitnesses, witnessIn}
 use Rattle.sequent.specs.Segments.{hasAbstractMoves, segmentTest, segmentEntry, segment, hypothesisWalk, entryWalk, slotSequent}
 use Rattle.sequent.proofs.Walk.{formulas-below}
 use Rattle.sequent.proofs.Groups.{by-role, variables-own, guards-rows, witnesses-rows, map-identifiers}
@@ -92,10 +92,6 @@ module _ (t : Table) where
   witnesses-written : (e : ℕ) → witnessEntries (machineOf t) (machineOf t .witnesses e) ≡ rooted (t .c) (rowOfEvent t 60 e)
   witnesses-written e = ap (map (λ w. written (w .root))) (witnesses-rows t e) ∙ map-map (λ w. written (w .root)) witnessOf (keep (rowOfEvent t 60 e) rows)
 
-  is-variable : (x : ℕ) → variable (machineOf t) x ≡ isVariableNumber t x
-  unfolding machineOf
-  is-variable x = variable-kind (kindOf t x)
-
   parameters-written : (e : ℕ) → witnessEntries (machineOf t) (parameterWitnesses (machineOf t) e)
       ≡ rooted (t .c) (λ j. not (isVariableNumber t (t .b j)) && rowOfEvent t 60 e j)
   parameters-written e =
@@ -105,7 +101,7 @@ module _ (t : Table) where
       ∙ ap (map (λ j. written (t .c j)))
       (keep-keep (λ j. other (witnessOf j)) (rowOfEvent t 60 e) rows
       ∙ ap (λ P. keep P rows)
-      (fun-ext (λ j. and-comm (rowOfEvent t 60 e j) (other (witnessOf j)) ∙ ap (λ b. not b && rowOfEvent t 60 e j) (is-variable (t .b j)))))
+      (fun-ext (λ j. and-comm (rowOfEvent t 60 e j) (other (witnessOf j)) ∙ ap (λ b. not b && rowOfEvent t 60 e j) (variable-numbered t (t .b j)))))
     where
       root : Witness → Entry
       root w = written (w .root)
@@ -193,7 +189,7 @@ module _ (t : Table) where
       → cond (variable (machineOf t) (t .b i)) (moved (machineOf t) (roleOf t e) e) (guarded (machineOf t) (roleOf t e) e) ++ rest
       ≡ basic e (rooted (t .b) (rowOfEvent t 50 e) ++ (cond (isVariableNumber t (t .b i)) (moving e (ownKind t e)) [] ++ rest))
   witness-then e i rest =
-      ap (λ b. cond b (moved (machineOf t) (roleOf t e) e) (guarded (machineOf t) (roleOf t e) e) ++ rest) (is-variable (t .b i)) ∙ by-test (isVariableNumber t (t .b i))
+      ap (λ b. cond b (moved (machineOf t) (roleOf t e) e) (guarded (machineOf t) (roleOf t e) e) ++ rest) (variable-numbered t (t .b i)) ∙ by-test (isVariableNumber t (t .b i))
     where
       by-test : (b : Bool) → cond b (moved (machineOf t) (roleOf t e) e) (guarded (machineOf t) (roleOf t e) e) ++ rest
           ≡ basic e (rooted (t .b) (rowOfEvent t 50 e) ++ (cond b (moving e (ownKind t e)) [] ++ rest))

@@ -6,7 +6,7 @@ use mathlib.Core.List.{List, [], _∷_, map, flatMap}
 use lib.Dec.{ltb, leb, eqb}
 use lib.ListN.{getD}
 use Rattle.lists.specs.Rows.{countBelow, sumBelow, numbers, keep}
-use Rattle.table.specs.Table.{Table, tagged, kindOf, classOf}
+use Rattle.table.specs.Table.{Table, tagged, classOf, isVariableNumber}
 use Rattle.sequent.specs.Entry.{Entry, written, primed, defined, moves, feasible, witnessed, natural, decreases}
 use Rattle.sequent.specs.Sequent.{Sequent}
 use Rattle.sequent.specs.Listed.{sequent, WD, INV, FIS, GRD, SIM, WFIS, NAT, VAR}
@@ -68,13 +68,9 @@ module _ (t : Table) where
   abbrev pub hasConcrete : ℕ → ℕ → Bool
   hasConcrete e g = ltb g 2 || (not (isInitial e) && not (isAbstract t e))
 
-  -- the identifier is a variable
-  abbrev pub isVariableNumber : ℕ → Bool
-  isVariableNumber x = eqb (kindOf t x) 2 || eqb (kindOf t x) 3
-
   -- "moves for a variable witness", SIM, INV, VAR
   abbrev pub hasMoves : ℕ → ℕ → Bool
-  hasMoves g i = (eqb g 7 || (eqb g 8 || eqb g 10)) || (eqb g 5 && isVariableNumber (t .b i))
+  hasMoves g i = (eqb g 7 || (eqb g 8 || eqb g 10)) || (eqb g 5 && isVariableNumber t (t .b i))
 
   -- GRD, SIM, INV but of a convergent event
   abbrev pub hasWitnesses : ℕ → ℕ → Bool
@@ -82,7 +78,7 @@ module _ (t : Table) where
 
   -- GRD: "parameter witnesses"
   abbrev pub witnessIn : ℕ → ℕ → Bool
-  witnessIn g j = not (eqb g 6) || not (isVariableNumber (t .b j))
+  witnessIn g j = not (eqb g 6) || not (isVariableNumber t (t .b j))
 
   -- "for a convergent event form 4 of each abstract variable instead of witnesses"
   abbrev pub hasAbstractMoves : ℕ → ℕ → Bool

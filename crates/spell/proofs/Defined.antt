@@ -8,16 +8,17 @@ use lib.Dec.{T, eqb, eqb→eq}
 use Rattle.row.specs.declared.Row.{Row}
 use Rattle.formula.specs.Tree.{Binary, plus, minus, times, equal, less, atMost, iff, Division, quotient, remainder, Connective, and, or, implies, Tree}
 use Rattle.formula.specs.WellDefined.{wellDefined}
-use Rattle.table.specs.Table.{Table, operatorOf, leftOf, rightOf}
+use Rattle.table.specs.Table.{Table, operandNode, operatorOf, leftOf, rightOf}
 use Rattle.machine.specs.Operator as meaning
 use Rattle.machine.specs.Operator.{Operator, literalOf, identifierOf, afterOf, constantOf, unaryOf, binaryOf, divisionOf, connectiveOf, operatorNumbered}
 use Rattle.machine.specs.Described.{node, treeTo, treeOf}
+use Rattle.machine.proofs.Described.{tree-step}
 use Rattle.rules.specs.Sorts.{shapeOf}
 use Rattle.rules.proofs.Operators.{shapeFor, shape-agrees}
 use Rattle.service.specs.Spelled.{spelled, binaryNumber, divisionNumber, connectiveNumber, spellTree}
 use Rattle.spell.specs.declared.Node.{Node}
-use Rattle.spell.specs.Spell.{divides, openingRows, guardRows, closingRows, nodeBy, operandNode, nodeOf, shownRows, definedRows}
-use Rattle.spell.proofs.Nodes.{numberIs, operator-numbered, operands-same, tree-at, nodeFrom, node-none, node-from}
+use Rattle.spell.specs.Spell.{divides, openingRows, guardRows, closingRows, nodeBy, nodeOf, shownRows, definedRows}
+use Rattle.spell.proofs.Nodes.{numberIs, operator-numbered, operands-same, nodeFrom, node-none, node-from}
 
 -- the pieces by the operator's number
 module _ (o : ℕ) where
@@ -136,7 +137,7 @@ module _ (t : Table) where
       let b = leftOf t n in
       let x = operandNode n b in
       let y = operandNode n (rightOf t n) in
-      ap definedTree (tree-at t n h)
+      ap definedTree (tree-step t n h)
       ∙ defined-by (operatorNumbered m) m (operator-numbered m) false b x y (treeOf t x) (treeOf t y)
       ∙ ap (λ s. definedAs (nodeBy s m false b x y .operator) (nodeBy s m false b x y .operands) x y) (sym (shape-agrees m))
 

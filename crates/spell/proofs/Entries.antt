@@ -8,14 +8,14 @@ use lib.ListN.{getD, List·getD-eq-default}
 use Rattle.lists.specs.Choice.{pick}
 use Rattle.formula.specs.Tree.{Tree}
 use Rattle.formula.specs.Formula.{someValue, someAfterValue}
-use Rattle.table.specs.Table.{Table}
+use Rattle.table.specs.Table.{Table, isVariableNumber}
 use Rattle.machine.specs.Described.{machineOf}
+use Rattle.machine.proofs.Variables.{variable-numbered}
 use Rattle.sequent.specs.declared.Entry.{Entry as Numbers}
 use Rattle.sequent.specs.Entry.{Entry, written, variable, formula}
 use Rattle.sequent.specs.Numbers.{forms, entryOf}
 use Rattle.service.specs.Spelled.{spelled, spellTree, spell}
-use Rattle.spell.specs.Spell.{variableKind, shownRows, definedRows, movesRows, witnessNode, entryRows}
-use Rattle.spell.proofs.Nodes.{variable-kind}
+use Rattle.spell.specs.Spell.{shownRows, definedRows, movesRows, witnessNode, entryRows}
 
 -- a number that is no form from 2 to 8 counts as form 1
 other-form : (n : ℕ) → (2 ≤ n → 8 < n) → (λ a b. written a) ≡ getD forms n (λ a b. written a)
@@ -57,11 +57,11 @@ module _ (t : Table) (h : Numbers) where
   feasible-rows e = form-numbered 5 e
 
   pub witnessed-rows : h .form ≡ 6
-      → spelled (pick (variableKind t (h .second)) 41 40) (h .second) ∷ shownRows t false (witnessNode t (h .first) (h .second)) ≡ entryRows t h
+      → spelled (pick (isVariableNumber t (h .second)) 41 40) (h .second) ∷ shownRows t false (witnessNode t (h .first) (h .second)) ≡ entryRows t h
   unfolding shownRows witnessNode machineOf
   witnessed-rows e =
       let a = machineOf t .tree (witnessNode t (h .first) (h .second)) in
-      ap (λ v. spelled (pick v 41 40) (h .second) ∷ spellTree a) (sym (variable-kind t (h .second)))
+      ap (λ v. spelled (pick v 41 40) (h .second) ∷ spellTree a) (sym (variable-numbered t (h .second)))
       ∙ some-rows (variable (machineOf t) (h .second)) (h .second) a
       ∙ form-numbered 6 e
 

@@ -2,29 +2,28 @@
 -- number the row shows. Its operands have smaller numbers.
 use Prim.Native.Nat.{ℕ, zero, suc, _≤_, _<_}
 use mathlib.Core.Path.{_≡_, refl, sym, ap, ap₂, _∙_, subst}
-use mathlib.Core.Bool.{Bool, true, false, cond, _&&_, _||_}
+use mathlib.Core.Bool.{Bool, true, false, cond, _&&_}
 use mathlib.Core.List.{List, [], _∷_, _++_}
 use native.Mathlib.Omega.{arith}
-use lib.Dec.{T, eqb, ltb, ltb→lt, eqb→eq}
+use lib.Dec.{T, eqb, eqb→eq}
 use borrow.Author.Tests.{eq-eqb, ne-eqb, eqb-true}
 use Rattle.lists.specs.Choice.{pick}
 use Rattle.row.specs.declared.Row.{Row}
-use Rattle.formula.specs.Tree.{Constant, literal, TRUE, FALSE, top, bottom, Tree, constant, identifier, after}
+use Rattle.formula.specs.Tree.{Constant, literal, TRUE, FALSE, top, bottom, Tree, identifier, after}
 use Rattle.formula.specs.AfterValues.{atAfter}
-use Rattle.formula.proofs.Truth.{and-split, true-test}
-use Rattle.table.specs.Table.{Table, kindOf, operatorOf, leftOf, rightOf}
-use Rattle.machine.specs.Machine.{isVariable, constantKind, abstractVariable, concreteVariable, abstractParameter, concreteParameter}
+use Rattle.formula.proofs.Truth.{and-split}
+use Rattle.table.specs.Table.{Table, isVariableNumber, operandNode, operatorOf, leftOf, rightOf}
 use Rattle.machine.specs.Operator as meaning
 use Rattle.machine.specs.Operator.{Operator, Numbered, literalOf, identifierOf, afterOf, constantOf, unaryOf, binaryOf, divisionOf, connectiveOf, operatorNumbered}
-use Rattle.machine.specs.Described.{node, earlier, kindNumbered, treeTo, treeOf, machineOf}
-use Rattle.machine.proofs.Described.{operandOf, tree-step}
+use Rattle.machine.specs.Described.{node, treeTo, treeOf, machineOf}
+use Rattle.machine.proofs.Described.{operand-falls, tree-step}
+use Rattle.machine.proofs.Variables.{variable-numbered}
 use Rattle.sequent.specs.Entry.{variable}
 use Rattle.rules.specs.Sorts.{Shape, value, anIdentifier, aVariable, none, one, two, unknown, shapeOf}
 use Rattle.rules.proofs.Operators.{shapeFor, shape-agrees}
-use Rattle.rule_references.specs.declared.Operator as found
 use Rattle.service.specs.Spelled.{spelled, constantRow, unaryNumber, binaryNumber, divisionNumber, connectiveNumber, spellTree}
 use Rattle.spell.specs.declared.Node.{Node}
-use Rattle.spell.specs.Spell.{leaf, nodeBy, operandNode, variableKind, nodeOf, shownRows}
+use Rattle.spell.specs.Spell.{leaf, nodeBy, nodeOf, shownRows}
 
 -- the operator that a number names has that number in its row
 abbrev constantIs : Constant → ℕ → Bool
@@ -61,22 +60,6 @@ find-numbered (o ∷ os) h n = go (eqb (o .number) n) refl (and-split (numberIs 
 pub operator-numbered : (n : ℕ) → T (numberIs (operatorNumbered n) n)
 unfolding operatorNumbered
 operator-numbered n = find-numbered meaning.operators tt n
-
--- 01's variables are those of kind 2 or 3
-kind-variable : (k : ℕ) → isVariable (kindNumbered k) ≡ eqb k 2 || eqb k 3
-unfolding kindNumbered
-kind-variable k = go (eqb k 1) (eqb k 2) (eqb k 3) (eqb k 4) (λ e. rw (eqb-true k 1 e))
-  where
-    go : (a b c d : Bool) → (a ≡ true → false ≡ b || c)
-        → isVariable (elim a [
-          | true ↦ constantKind
-          | false ↦ elim b [ true ↦ abstractVariable | false ↦ elim c [ true ↦ concreteVariable | false ↦ elim d [ true ↦ abstractParameter | false ↦ concreteParameter ] ] ]
-        ]) ≡ b || c
-    go true b c d f = f refl
-    go false true c d f = refl
-    go false false true d f = refl
-    go false false false true f = refl
-    go false false false false f = refl
 
 -- how many operands follow a row, and their rows
 abbrev pub operandRows : ℕ → List Row → List Row → List Row
@@ -155,34 +138,7 @@ module _ (v : ℕ → Bool) where
   shown-by meaning.unknown n h true b x y l r = refl
   shown-by meaning.unknown n h false b x y l r = refl
 
--- an operand that is an earlier node falls
-operand-falls : (n x : ℕ) → 1 ≤ n → operandNode n x < n
-operand-falls n x h = go (earlier n x) refl
-  where
-    go : (b : Bool) → earlier n x ≡ b → pick b x 0 < n
-    go true e = ltb→lt x n (and-split (ltb 0 x) (ltb x n) (true-test _ e) .1)
-    go false e = h
-
 module _ (t : Table) where
-  operand-tree : (n x : ℕ) → treeOf t (operandNode n x) ≡ operandOf t n x
-  unfolding treeOf treeTo
-  operand-tree n x = go (earlier n x)
-    where
-      go : (b : Bool) → treeOf t (pick b x 0) ≡ elim b [ true ↦ treeOf t x | false ↦ constant bottom ]
-      go true = refl
-      go false = refl
-
-  pub variable-kind : (x : ℕ) → variable (machineOf t) x ≡ variableKind t x
-  unfolding machineOf
-  variable-kind x = kind-variable (kindOf t x)
-
-  -- a node's tree from those of its operands
-  pub tree-at : (n : ℕ) → 1 ≤ n
-      → treeOf t n ≡ node (operatorNumbered (operatorOf t n)) (leftOf t n) (treeOf t (operandNode n (leftOf t n))) (treeOf t (operandNode n (rightOf t n)))
-  tree-at n h =
-      tree-step t n h
-      ∙ ap₂ (node (operatorNumbered (operatorOf t n)) (leftOf t n)) (sym (operand-tree n (leftOf t n))) (sym (operand-tree n (rightOf t n)))
-
   -- the node that was read is the table's
   pub node-none : (primed : Bool) (n : ℕ) → n ≡ 0 → leaf 31 0 ≡ nodeOf t primed n
   unfolding nodeOf
@@ -190,7 +146,7 @@ module _ (t : Table) where
 
   abbrev pub nodeFrom : Bool → ℕ → Node
   nodeFrom primed n =
-      nodeBy (shapeOf (operatorOf t n)) (operatorOf t n) (primed && variableKind t (leftOf t n)) (leftOf t n) (operandNode n (leftOf t n)) (operandNode n (rightOf t n))
+      nodeBy (shapeOf (operatorOf t n)) (operatorOf t n) (primed && isVariableNumber t (leftOf t n)) (leftOf t n) (operandNode n (leftOf t n)) (operandNode n (rightOf t n))
 
   pub node-from : (primed : Bool) (n : ℕ) → (n ≡ 0 → ⊥) → nodeFrom primed n ≡ nodeOf t primed n
   unfolding nodeOf
@@ -210,9 +166,9 @@ module _ (t : Table) where
       let b = leftOf t n in
       let x = operandNode n b in
       let y = operandNode n (rightOf t n) in
-      ap (shown v primed) (tree-at n h)
+      ap (shown v primed) (tree-step t n h)
       ∙ shown-by v (operatorNumbered m) m (operator-numbered m) primed b x y (treeOf t x) (treeOf t y)
-      ∙ ap₂ (λ s after. rowsBy (nodeBy s m (primed && after) b x y) (shown v primed (treeOf t x)) (shown v primed (treeOf t y))) (sym (shape-agrees m)) (variable-kind b)
+      ∙ ap₂ (λ s after. rowsBy (nodeBy s m (primed && after) b x y) (shown v primed (treeOf t x)) (shown v primed (treeOf t y))) (sym (shape-agrees m)) (variable-numbered t b)
 
   pub shown-node : (primed : Bool) (n : ℕ)
       → shownRows t primed n ≡ rowsBy (nodeOf t primed n) (shownRows t primed (nodeOf t primed n .left)) (shownRows t primed (nodeOf t primed n .right))
@@ -222,7 +178,7 @@ module _ (t : Table) where
       let b = leftOf t n in
       shown-step primed n (omega arith)
       ∙ ap (λ rs. spelled (nodeFrom primed n .operator) (nodeFrom primed n .b) ∷ rs)
-      (operands-same (shapeOf (operatorOf t n)) (operatorOf t n) (primed && variableKind t b) b (operandNode n b) (operandNode n (rightOf t n))
+      (operands-same (shapeOf (operatorOf t n)) (operatorOf t n) (primed && isVariableNumber t b) b (operandNode n b) (operandNode n (rightOf t n))
       (λ k x y. operandRows k (shownRows t primed x) (shownRows t primed y)) (λ x y x′ y′. refl) (λ x y y′. refl))
       ∙ ap (λ d. rowsBy d (shownRows t primed (d .left)) (shownRows t primed (d .right))) (node-from primed n (λ e. omega arith))
 
@@ -232,7 +188,7 @@ module _ (t : Table) where
       let n = suc m in
       let b = leftOf t n in
       subst (λ d. (d .left < n) × (d .right < n)) (node-from primed n (λ e. omega arith))
-      (operands-below (shapeOf (operatorOf t n)) (operatorOf t n) (primed && variableKind t b) b (operandNode n b) (operandNode n (rightOf t n)) n (operand-falls n b (omega arith))
+      (operands-below (shapeOf (operatorOf t n)) (operatorOf t n) (primed && isVariableNumber t b) b (operandNode n b) (operandNode n (rightOf t n)) n (operand-falls n b (omega arith))
       (operand-falls n (rightOf t n) (omega arith)))
 
 -- Node n, read as d: its rows, by how many operands it has.

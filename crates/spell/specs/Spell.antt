@@ -12,8 +12,8 @@ use Rattle.row.specs.declared.Row.{Row}
 use Rattle.formula.specs.Tree.{Tree}
 use Rattle.formula.specs.AfterValues.{atAfter}
 use Rattle.formula.specs.WellDefined.{wellDefined}
-use Rattle.table.specs.Table.{Table, kindOf, operatorOf, leftOf, rightOf}
-use Rattle.machine.specs.Described.{earlier, treeOf, machineOf}
+use Rattle.table.specs.Table.{Table, isVariableNumber, operandNode, operatorOf, leftOf, rightOf}
+use Rattle.machine.specs.Described.{treeOf, machineOf}
 use Rattle.sequent.specs.declared.Entry.{Entry as Numbers}
 use Rattle.sequent.specs.Entry.{variable, actionTree, witnessRoot, formula}
 use Rattle.sequent.specs.Numbers.{entryOf}
@@ -52,10 +52,6 @@ nodeBy one o primed b l r = record { operator = o; b = 0; operands = 1; left = l
 nodeBy two o primed b l r = record { operator = o; b = 0; operands = 2; left = l; right = r }
 nodeBy unknown o primed b l r = leaf 31 0
 
--- an operand that is no earlier node counts as ⊥, as node 0 does
-abbrev pub operandNode : ℕ → ℕ → ℕ
-operandNode n x = pick (earlier n x) x 0
-
 -- 01, Well-definedness, of a pair in prefix order: the rows before WD(a), those between it and WD(b), given a's, and those after it, given b's
 -- "÷ and mod"
 abbrev pub divides : ℕ → Bool
@@ -74,15 +70,11 @@ unfoldable pub closingRows : ℕ → List Row → List Row
 closingRows operator right = pick (divides operator) (spelled 32 0 ∷ ((spelled 20 0 ∷ right) ++ (spelled 1 0 ∷ []))) []
 
 module _ (t : Table) where
-  -- 01: "kind: .. 2 abstract variable, 3 concrete variable"
-  abbrev pub variableKind : ℕ → Bool
-  variableKind x = eqb (kindOf t x) 2 || eqb (kindOf t x) 3
-
   -- what node n is spelled by: the operator and b of its row, how many operands follow it, and their nodes; primed is form 2
   unfoldable pub nodeOf : Bool → ℕ → Node
   nodeOf primed n =
       pick (eqb n 0) (leaf 31 0)
-      (nodeBy (shapeOf (operatorOf t n)) (operatorOf t n) (primed && variableKind (leftOf t n)) (leftOf t n) (operandNode n (leftOf t n)) (operandNode n (rightOf t n)))
+      (nodeBy (shapeOf (operatorOf t n)) (operatorOf t n) (primed && isVariableNumber t (leftOf t n)) (leftOf t n) (operandNode n (leftOf t n)) (operandNode n (rightOf t n)))
 
   -- "1 node as written; 2 node with every variable at its after value", the latter where primed
   abbrev pub shownTree : Bool → ℕ → Tree

@@ -8,8 +8,9 @@ use scan::find_row;
 use sequent::Entry;
 use table::Table;
 use table::c_at;
-use table::identifier_field;
+use table::is_variable;
 use table::node_field;
+use table::operand;
 use table::size;
 use table::tag_at;
 ghost use mathlib.Core.Path.{_≡_};
@@ -17,11 +18,11 @@ ghost use Prim.Native.Nat.{_+_, _≤_};
 ghost use mathlib.Core.Bool.{true, false};
 ghost use mathlib.Core.List.{[], _∷_, _++_};
 ghost use Rattle.lists.specs.Choice.{pick};
-ghost use Rattle.table.specs.Table.{tableOf};
+ghost use Rattle.table.specs.Table.{tableOf, isVariableNumber};
 ghost use Rattle.table.specs.Counts.{countsOf};
 ghost use Rattle.rule_references.specs.Operator.{meantShape};
 ghost use Rattle.service.specs.Spelled.{spelled};
-ghost use Rattle.spell.specs.Spell.{capped, restStart, Spelled, leaf, nodeBy, operandNode, variableKind, nodeOf, shownRows, definedRows, openingRows, guardRows, closingRows, movesRows, witnessNode, entryRows};
+ghost use Rattle.spell.specs.Spell.{capped, restStart, Spelled, leaf, nodeBy, nodeOf, shownRows, definedRows, openingRows, guardRows, closingRows, movesRows, witnessNode, entryRows};
 
 // More rows than any buffer has room for.
 const ROWS_CAP: u64 = 1152921504606846976;
@@ -73,25 +74,6 @@ fn row_83(out: &mut [u8], operator: u64, b: u64) -> u64
         row.write(out);
     }
     1
-}
-
-// Whether an identifier is a variable of one of the machines.
-fn is_variable(words: &[u64], table: Table, x: u64) -> bool
-    requires { ⌜ table ≡ countsOf (tableOf (now words)) ⌝ }
-    ensures { λ r. ⌜ r ≡ variableKind (tableOf (now (words .entry))) x ⌝ }
-{
-    let kind = identifier_field(words, table, x, Table::KIND);
-    (kind == 2) | (kind == 3)
-}
-
-// An operand of the node n, or 0 where it is no earlier node.
-fn operand(n: u64, x: u64) -> u64
-    ensures { λ r. ⌜ r ≡ operandNode n x ⌝ }
-{
-    if (0 < x) & (x < n) {
-        return x;
-    }
-    0
 }
 
 // A node without operands.
@@ -393,7 +375,7 @@ fn some_operator(variable: bool) -> u64
 // Form 6: some value of x, or some after value of a variable, meets the witness.
 fn spell_witnessed(words: &[u64], table: Table, e: u64, x: u64, out: &mut [u8]) -> u64
     requires { ⌜ table ≡ countsOf (tableOf (now words)) ⌝ }
-    ensures { λ r. ⌜ Spelled (spelled (pick (variableKind (tableOf (now (words .entry))) x) 41 40) x ∷ shownRows (tableOf (now (words .entry))) false (witnessNode (tableOf (now (words .entry))) e x)) r (now (out .entry)) (now (out .exit)) ⌝ }
+    ensures { λ r. ⌜ Spelled (spelled (pick (isVariableNumber (tableOf (now (words .entry))) x) 41 40) x ∷ shownRows (tableOf (now (words .entry))) false (witnessNode (tableOf (now (words .entry))) e x)) r (now (out .entry)) (now (out .exit)) ⌝ }
 {
     let operator = some_operator(is_variable(words, table, x));
     let root = witness_root(words, e, x);

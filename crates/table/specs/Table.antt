@@ -4,6 +4,7 @@ use mathlib.Core.Bool.{Bool, true, false, not, cond, _&&_, _||_}
 use mathlib.Core.List.{List, [], _∷_, _++_, map}
 use lib.Dec.{ltb, leb, eqb}
 use lib.ListN.{length, getD}
+use Rattle.lists.specs.Choice.{pick}
 use Rattle.lists.specs.Rows.{countBelow, numbers, keep}
 
 -- The rows, counted from 0: a tag and numbers a, b, c, each a word of 64 bits.
@@ -23,6 +24,10 @@ tableOf ws = record {
   b = λ i. getD ws (4 * i + 2) 0;
   c = λ i. getD ws (4 * i + 3) 0;
 }
+
+-- 01: "Operands have smaller numbers than their node": the operand x of the node n; 0, which names no node, where x is no earlier one
+abbrev pub operandNode : ℕ → ℕ → ℕ
+operandNode n x = pick (ltb 0 x && ltb x n) x 0
 
 module _ (t : Table) where
   abbrev pub tagged : ℕ → ℕ → Bool
@@ -59,6 +64,10 @@ module _ (t : Table) where
 
   abbrev pub ownerOf : ℕ → ℕ
   ownerOf x = t .c (rowOf 10 x)
+
+  -- "2 abstract variable, 3 concrete variable": whether an identifier is one of them
+  abbrev pub isVariableNumber : ℕ → Bool
+  isVariableNumber x = eqb (kindOf x) 2 || eqb (kindOf x) 3
 
   -- operator and operands of a node
   abbrev pub operatorOf : ℕ → ℕ

@@ -5,7 +5,7 @@ ghost use mathlib.Core.Bool.{_&&_};
 ghost use lib.Dec.{eqb, leb};
 ghost use lib.ListN.{length, getD};
 ghost use Rattle.lists.specs.Rows.{oneIf};
-ghost use Rattle.table.specs.Table.{tableOf, named, rowOf};
+ghost use Rattle.table.specs.Table.{tableOf, named, rowOf, isVariableNumber, operandNode};
 ghost use Rattle.table.specs.Counts.{emptyCounts, countedRow, countsOf, Small};
 
 // How many rows stand before the identifiers, the nodes and the events of a table, and how many of these there are.
@@ -198,12 +198,31 @@ pub fn identifier_field(words: &[u64], table: Table, x: u64, column: usize) -> u
     field(words, table.identifiers_start, x, column)
 }
 
+// Whether an identifier is a variable of one of the machines.
+pub fn is_variable(words: &[u64], table: Table, x: u64) -> bool
+    requires { ⌜ table ≡ countsOf (tableOf (now words)) ⌝ }
+    ensures { λ r. ⌜ r ≡ isVariableNumber (tableOf (now (words .entry))) x ⌝ }
+{
+    let kind = identifier_field(words, table, x, Table::KIND);
+    (kind == 2) | (kind == 3)
+}
+
 // A column of a node: 1 operator, 2 and 3 operands.
 pub fn node_field(words: &[u64], table: Table, n: u64, column: usize) -> u64
     requires { ⌜ (table ≡ countsOf (tableOf (now words))) × (column < 4) ⌝ }
     ensures { λ r. ⌜ r ≡ getD (now (words .entry)) (4 * rowOf (tableOf (now (words .entry))) 20 n + column) 0 ⌝ }
 {
     field(words, table.nodes_start, n, column)
+}
+
+// An operand of the node n, or 0 where it is no earlier node.
+pub fn operand(n: u64, x: u64) -> u64
+    ensures { λ r. ⌜ r ≡ operandNode n x ⌝ }
+{
+    if (0 < x) & (x < n) {
+        return x;
+    }
+    0
 }
 
 // A column of an event: 1 machine, 2 class, 3 refined event.

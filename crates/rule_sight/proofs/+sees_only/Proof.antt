@@ -6,19 +6,18 @@ use native.Mathlib.Omega.{arith}
 use borrow.Author.Needs.{needs}
 use borrow.Fn.Kinds.{In}
 use borrow.Fn.PlainCycle.{Measures, is, falls, and}
-use Rattle.lists.specs.Choice.{pick}
-use Rattle.table.specs.Table.{tableOf}
-use Rattle.machine.specs.Described.{earlier}
+use Rattle.table.specs.Table.{tableOf, operandNode}
+use Rattle.machine.proofs.Described.{operand-falls}
 use Rattle.rules.specs.Sight.{mayMention, mayMentionAfter, seesOnly}
 use Rattle.rule_references.specs.declared.Shape.{Shape}
 use Rattle.rule_references.specs.declared.Shape.the-variants as shape
 use Rattle.rule_references.specs.Operator.{meantShape}
 use Rattle.rule_references.proofs.find_operator.Reads as find-operator-reads
 use Rattle.table.proofs.node_field.Reads as node-field-reads
-use Rattle.rule_sight.proofs.Walk.{operand-falls, operand-seen, seesBy, sees-none, sees-found}
+use Rattle.table.proofs.operand.Reads as operand-reads
+use Rattle.rule_sight.proofs.Walk.{operand-seen, seesBy, sees-none, sees-found}
 use Rattle.rule_sight.proofs.may_mention.Reads as may-mention-reads
 use Rattle.rule_sight.proofs.may_mention_after.Reads as may-mention-after-reads
-use Rattle.rule_sight.proofs.operand.Reads as operand-reads
 use Rattle.rule_sight.proofs.sees_only.Reads as sees-only
 use Rattle.rule_sight.proofs.sees_only.Kinds as sees-only-kinds
 use Rattle.rule_sight.proofs.+sees_only.Lts-sees_only as sees-only-lts
@@ -64,7 +63,7 @@ module _ (t : ℕ) (f : sees-only-lts.After-find-operator (claims t) (sees-only-
       sees-found (tableOf (start .args .words .now)) (start .args .i) n r (f .before .before .before .before .if1 .left)
       (f .find-operator .result) (f .before .node-field3 .result) (f .find-operator .ensures) (f .before .node-field3 .ensures) s told h
 
-  falling : (x : ℕ) {o : ℕ} → o ≡ pick (earlier n x) x 0 → o < t
+  falling : (x : ℕ) {o : ℕ} → o ≡ operandNode n x → o < t
   falling x e = omega (arith, operand-falls n x (omega (arith, f .before .before .before .before .if1 .left)), start .pre .0)
 
 pub +sees-only-spec : {M : Type 1} → statement M

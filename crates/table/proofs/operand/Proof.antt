@@ -1,8 +1,8 @@
 -- By the test.
 use mathlib.Core.Path.{ap, sym}
 use Rattle.lists.specs.Choice.{pick}
-use Rattle.spell.proofs.operand.Statement.{statement}
-use Rattle.spell.proofs.operand.Tie as tie
+use Rattle.table.proofs.operand.Statement.{statement}
+use Rattle.table.proofs.operand.Tie as tie
 
 pub operand-spec : {M : Type 1} → statement M
 operand-spec = tie.close (tie.spec

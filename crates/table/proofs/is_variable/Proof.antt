@@ -1,7 +1,7 @@
 -- By the kind that is looked up.
 use borrow.Author.Needs.{needs}
-use Rattle.entries.proofs.is_variable.Statement.{statement}
-use Rattle.entries.proofs.is_variable.Tie as tie
+use Rattle.table.proofs.is_variable.Statement.{statement}
+use Rattle.table.proofs.is_variable.Tie as tie
 
 pub is-variable-spec : {M : Type 1} → statement M
 is-variable-spec = tie.close (tie.spec
