@@ -1,10 +1,11 @@
 -- A node's tree, as written or with its variables at their after values, is spelled by its row and the rows of its operands: by the case of its operator, whose
 -- number the row shows. Its operands have smaller numbers.
-use Prim.Native.Nat.{ℕ, zero, suc, _≤_, _<_}
+use Prim.Native.Nat.{ℕ, zero, suc, _-_, _≤_, _<_, max}
 use mathlib.Core.Path.{_≡_, refl, sym, ap, ap₂, _∙_, subst}
 use mathlib.Core.Bool.{Bool, true, false, cond, _&&_}
 use mathlib.Core.List.{List, [], _∷_, _++_}
 use native.Mathlib.Omega.{arith}
+use native.Mathlib.Nat.{le-max-left, le-max-right, max-le}
 use lib.Dec.{T, eqb, eqb→eq}
 use borrow.Author.Tests.{eq-eqb, ne-eqb, eqb-true}
 use Rattle.lists.specs.Choice.{pick}
@@ -23,7 +24,7 @@ use Rattle.rules.specs.Sorts.{Shape, value, anIdentifier, aVariable, none, one,
 use Rattle.rules.proofs.Operators.{shapeFor, shape-agrees}
 use Rattle.service.specs.Spelled.{spelled, constantRow, unaryNumber, binaryNumber, divisionNumber, connectiveNumber, spellTree}
 use Rattle.spell.specs.declared.Node.{Node}
-use Rattle.spell.specs.Spell.{leaf, nodeBy, nodeOf, shownRows}
+use Rattle.spell.specs.Spell.{leaf, nodeBy, operandRows, nodeOf, shownRows}
 
 -- the operator that a number names has that number in its row
 abbrev constantIs : Constant → ℕ → Bool
@@ -61,11 +62,11 @@ pub operator-numbered : (n : ℕ) → T (numberIs (operatorNumbered n) n)
 unfolding operatorNumbered
 operator-numbered n = find-numbered meaning.operators tt n
 
--- how many operands follow a row, and their rows
-abbrev pub operandRows : ℕ → List Row → List Row → List Row
-operandRows zero l r = []
-operandRows (suc zero) l r = l
-operandRows (suc (suc k)) l r = l ++ r
+-- the rows of two operands
+pub operands-two : (k : ℕ) (l r : List Row) → (k ≡ 0 → ⊥) → (k ≡ 1 → ⊥) → l ++ r ≡ operandRows k l r
+operands-two zero l r f g = absurd (f refl)
+operands-two (suc zero) l r f g = absurd (g refl)
+operands-two (suc (suc k)) l r f g = refl
 
 abbrev rowsBy : Node → List Row → List Row → List Row
 rowsBy d l r = spelled (d .operator) (d .b) ∷ operandRows (d .operands) l r
@@ -82,14 +83,24 @@ operands-same one o primed b x y f g h = h x y 0
 operands-same two o primed b x y f g h = refl
 operands-same unknown o primed b x y f g h = g x y 0 0
 
-operands-below : (s : Shape) (o : ℕ) (primed : Bool) (b x y n : ℕ) → x < n → y < n → (nodeBy s o primed b x y .left < n) × (nodeBy s o primed b x y .right < n)
-operands-below value o primed b x y n f g = (omega arith, omega arith)
-operands-below anIdentifier o primed b x y n f g = (omega arith, omega arith)
-operands-below aVariable o primed b x y n f g = (omega arith, omega arith)
-operands-below none o primed b x y n f g = (omega arith, omega arith)
-operands-below one o primed b x y n f g = (f, omega arith)
-operands-below two o primed b x y n f g = (f, g)
-operands-below unknown o primed b x y n f g = (omega arith, omega arith)
+-- one more than the greater of a node's operands; 0 where it has none
+abbrev pub above : Node → ℕ
+above d = pick (eqb (d .operands) 0) 0 (suc (max (d .left) (d .right)))
+
+pub left-below : (d : Node) → (d .operands ≡ 0 → ⊥) → d .left < above d
+left-below d f = rw (ne-eqb (d .operands) 0 f) (omega (arith, le-max-left (d .left) (d .right)))
+
+pub right-below : (d : Node) → (d .operands ≡ 0 → ⊥) → d .right < above d
+right-below d f = rw (ne-eqb (d .operands) 0 f) (omega (arith, le-max-right (d .left) (d .right)))
+
+operands-below : (s : Shape) (o : ℕ) (primed : Bool) (b x y n : ℕ) → x < n → y < n → above (nodeBy s o primed b x y) ≤ n
+operands-below value o primed b x y n f g = omega arith
+operands-below anIdentifier o primed b x y n f g = omega arith
+operands-below aVariable o primed b x y n f g = omega arith
+operands-below none o primed b x y n f g = omega arith
+operands-below one o primed b x y n f g = omega (arith, max-le {a = x} {b = 0} {k = n - 1} (omega arith) (omega arith))
+operands-below two o primed b x y n f g = omega (arith, max-le {a = x} {b = y} {k = n - 1} (omega arith) (omega arith))
+operands-below unknown o primed b x y n f g = omega arith
 
 module _ (v : ℕ → Bool) where
   -- a tree as it is spelled
@@ -170,7 +181,7 @@ module _ (t : Table) where
       ∙ shown-by v (operatorNumbered m) m (operator-numbered m) primed b x y (treeOf t x) (treeOf t y)
       ∙ ap₂ (λ s after. rowsBy (nodeBy s m (primed && after) b x y) (shown v primed (treeOf t x)) (shown v primed (treeOf t y))) (sym (shape-agrees m)) (variable-numbered t b)
 
-  pub shown-node : (primed : Bool) (n : ℕ)
+  shown-node : (primed : Bool) (n : ℕ)
       → shownRows t primed n ≡ rowsBy (nodeOf t primed n) (shownRows t primed (nodeOf t primed n .left)) (shownRows t primed (nodeOf t primed n .right))
   shown-node primed zero = shown-zero primed ∙ ap (λ d. rowsBy d (shownRows t primed (d .left)) (shownRows t primed (d .right))) (node-none primed 0 refl)
   shown-node primed (suc m) =
@@ -182,42 +193,19 @@ module _ (t : Table) where
       (λ k x y. operandRows k (shownRows t primed x) (shownRows t primed y)) (λ x y x′ y′. refl) (λ x y y′. refl))
       ∙ ap (λ d. rowsBy d (shownRows t primed (d .left)) (shownRows t primed (d .right))) (node-from primed n (λ e. omega arith))
 
-  pub operands-fall : (primed : Bool) (n : ℕ) → (nodeOf t primed n .operands ≡ 0 → ⊥) → (nodeOf t primed n .left < n) × (nodeOf t primed n .right < n)
-  operands-fall primed zero f = absurd (f (ap (λ d. d .operands) (sym (node-none primed 0 refl))))
-  operands-fall primed (suc m) f =
+  operands-fall : (primed : Bool) (n : ℕ) → above (nodeOf t primed n) ≤ n
+  operands-fall primed zero = subst (λ d. above d ≤ 0) (node-none primed 0 refl) (omega arith)
+  operands-fall primed (suc m) =
       let n = suc m in
       let b = leftOf t n in
-      subst (λ d. (d .left < n) × (d .right < n)) (node-from primed n (λ e. omega arith))
+      subst (λ d. above d ≤ n) (node-from primed n (λ e. omega arith))
       (operands-below (shapeOf (operatorOf t n)) (operatorOf t n) (primed && isVariableNumber t b) b (operandNode n b) (operandNode n (rightOf t n)) n (operand-falls n b (omega arith))
       (operand-falls n (rightOf t n) (omega arith)))
 
--- Node n, read as d: its rows, by how many operands it has.
+-- Node n, read as d: its row, then the rows of its operands, which have smaller numbers.
 module _ (t : Table) (primed : Bool) (n : ℕ) (d : Node) (e : d ≡ nodeOf t primed n) where
-  shown-read : (k : ℕ) → d .operands ≡ k
-      → spelled (d .operator) (d .b) ∷ operandRows k (shownRows t primed (d .left)) (shownRows t primed (d .right)) ≡ shownRows t primed n
-  shown-read k q =
-      ap (λ k. spelled (d .operator) (d .b) ∷ operandRows k (shownRows t primed (d .left)) (shownRows t primed (d .right))) (sym q)
-      ∙ ap (λ d. rowsBy d (shownRows t primed (d .left)) (shownRows t primed (d .right))) e
-      ∙ sym (shown-node t primed n)
+  pub shown-read : (spelled (d .operator) (d .b) ∷ []) ++ operandRows (d .operands) (shownRows t primed (d .left)) (shownRows t primed (d .right)) ≡ shownRows t primed n
+  shown-read = ap (λ d. rowsBy d (shownRows t primed (d .left)) (shownRows t primed (d .right))) e ∙ sym (shown-node t primed n)
 
-  pub shown-none : d .operands ≡ 0 → spelled (d .operator) (d .b) ∷ [] ≡ shownRows t primed n
-  shown-none q = shown-read 0 q
-
-  pub shown-one : d .operands ≡ 1 → (spelled (d .operator) (d .b) ∷ []) ++ shownRows t primed (d .left) ≡ shownRows t primed n
-  shown-one q = shown-read 1 q
-
-  pub shown-two : (d .operands ≡ 0 → ⊥) → (d .operands ≡ 1 → ⊥)
-      → ((spelled (d .operator) (d .b) ∷ []) ++ shownRows t primed (d .left)) ++ shownRows t primed (d .right) ≡ shownRows t primed n
-  shown-two f g = go (d .operands) refl
-    where
-      go : (k : ℕ) → d .operands ≡ k
-          → spelled (d .operator) (d .b) ∷ (shownRows t primed (d .left) ++ shownRows t primed (d .right)) ≡ shownRows t primed n
-      go zero q = absurd (f q)
-      go (suc zero) q = absurd (g q)
-      go (suc (suc k)) q = shown-read (suc (suc k)) q
-
-  pub left-falls : (d .operands ≡ 0 → ⊥) → d .left < n
-  left-falls f = subst (λ d. (d .operands ≡ 0 → ⊥) → d .left < n) (sym e) (λ f. operands-fall t primed n f .0) f
-
-  pub right-falls : (d .operands ≡ 0 → ⊥) → d .right < n
-  right-falls f = subst (λ d. (d .operands ≡ 0 → ⊥) → d .right < n) (sym e) (λ f. operands-fall t primed n f .1) f
+  pub above-falls : above d ≤ n
+  above-falls = subst (λ d. above d ≤ n) (sym e) (operands-fall t primed n)

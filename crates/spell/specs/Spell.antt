@@ -1,6 +1,6 @@
 -- 01, Sequents: "An entry spelled out is rows 83 in prefix order", as the code counts and writes them: "Rows are written one after another into what is left of
 -- the buffer."
-use Prim.Native.Nat.{ℕ, _*_, _/_, _≤_, _^_}
+use Prim.Native.Nat.{ℕ, zero, suc, _*_, _/_, _≤_, _^_}
 use mathlib.Core.Path.{_≡_}
 use mathlib.Core.Bool.{Bool, _&&_, _||_}
 use mathlib.Core.List.{List, [], _∷_, _++_}
@@ -51,6 +51,12 @@ nodeBy none o primed b l r = leaf o 0
 nodeBy one o primed b l r = record { operator = o; b = 0; operands = 1; left = l; right = 0 }
 nodeBy two o primed b l r = record { operator = o; b = 0; operands = 2; left = l; right = r }
 nodeBy unknown o primed b l r = leaf 31 0
+
+-- "in prefix order": after a node's row those of its operands, as many as it has, from those of the left one and the right one
+abbrev pub operandRows : ℕ → List Row → List Row → List Row
+operandRows zero l r = []
+operandRows (suc zero) l r = l
+operandRows (suc (suc k)) l r = l ++ r
 
 -- 01, Well-definedness, of a pair in prefix order: the rows before WD(a), those between it and WD(b), given a's, and those after it, given b's
 -- "÷ and mod"

@@ -22,7 +22,7 @@ ghost use Rattle.table.specs.Table.{tableOf, isVariableNumber};
 ghost use Rattle.table.specs.Counts.{countsOf};
 ghost use Rattle.rule_references.specs.Operator.{meantShape};
 ghost use Rattle.service.specs.Spelled.{spelled};
-ghost use Rattle.spell.specs.Spell.{capped, restStart, Spelled, leaf, nodeBy, nodeOf, shownRows, definedRows, openingRows, guardRows, closingRows, movesRows, witnessNode, entryRows};
+ghost use Rattle.spell.specs.Spell.{capped, restStart, Spelled, leaf, nodeBy, operandRows, nodeOf, shownRows, definedRows, openingRows, guardRows, closingRows, movesRows, witnessNode, entryRows};
 
 // More rows than any buffer has room for.
 const ROWS_CAP: u64 = 1152921504606846976;
@@ -152,39 +152,38 @@ pub fn spell_expression(words: &[u64], table: Table, n: u64, primed: bool, out: 
         return spell_predicate(words, table, n, primed, out);
     }
     let head = row_83(out, node.operator, node.b);
-    if node.operands == 0 {
-        return head;
-    }
-    let left_at = rest_start(out.len(), head);
-    let left = spell_expression(words, table, node.left, primed, &mut out[left_at..]);
-    let rows = add_rows(head, left);
-    if node.operands == 1 {
-        return rows;
-    }
-    let right_at = rest_start(out.len(), rows);
-    let right = spell_expression(words, table, node.right, primed, &mut out[right_at..]);
-    add_rows(rows, right)
+    let at = rest_start(out.len(), head);
+    let operands = spell_operands(words, table, node, primed, &mut out[at..]);
+    add_rows(head, operands)
 }
 
-// The tree of node n, a predicate: its row, then its operands' rows. Operands may be expressions, which hand predicates on.
+// The tree of node n, a predicate: its row, then its operands' rows.
 pub fn spell_predicate(words: &[u64], table: Table, n: u64, primed: bool, out: &mut [u8]) -> u64
     requires { ⌜ table ≡ countsOf (tableOf (now words)) ⌝ }
     ensures { λ r. ⌜ Spelled (shownRows (tableOf (now (words .entry))) primed n) r (now (out .entry)) (now (out .exit)) ⌝ }
 {
     let node = node_at(words, table, n, primed);
     let head = row_83(out, node.operator, node.b);
+    let at = rest_start(out.len(), head);
+    let operands = spell_operands(words, table, node, primed, &mut out[at..]);
+    add_rows(head, operands)
+}
+
+// The trees of a node's operands, each begun as an expression, which hands a predicate on.
+fn spell_operands(words: &[u64], table: Table, node: Node, primed: bool, out: &mut [u8]) -> u64
+    requires { ⌜ table ≡ countsOf (tableOf (now words)) ⌝ }
+    ensures { λ r. ⌜ Spelled (operandRows (node .operands) (shownRows (tableOf (now (words .entry))) primed (node .left)) (shownRows (tableOf (now (words .entry))) primed (node .right))) r (now (out .entry)) (now (out .exit)) ⌝ }
+{
     if node.operands == 0 {
-        return head;
+        return 0;
     }
-    let left_at = rest_start(out.len(), head);
-    let left = spell_expression(words, table, node.left, primed, &mut out[left_at..]);
-    let rows = add_rows(head, left);
+    let left = spell_expression(words, table, node.left, primed, out);
     if node.operands == 1 {
-        return rows;
+        return left;
     }
-    let right_at = rest_start(out.len(), rows);
-    let right = spell_expression(words, table, node.right, primed, &mut out[right_at..]);
-    add_rows(rows, right)
+    let at = rest_start(out.len(), left);
+    let right = spell_expression(words, table, node.right, primed, &mut out[at..]);
+    add_rows(left, right)
 }
 
 // A row, then the tree of node n.

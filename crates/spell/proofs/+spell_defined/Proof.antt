@@ -2,7 +2,7 @@
 use mathlib.Core.Bool.{false}
 use native.Mathlib.Omega.{arith}
 use Rattle.table.specs.Table.{tableOf}
-use Rattle.spell.proofs.Nodes.{left-falls, right-falls}
+use Rattle.spell.proofs.Nodes.{left-below, right-below, above-falls}
 use Rattle.spell.proofs.Defined.{defined-none, defined-one, defined-two}
 use Rattle.spell.proofs.Written.{spelled-join, spelled-as}
 use borrow.Author.Needs.{needs}
@@ -73,7 +73,7 @@ pub +spell-defined-spec : {M : Type 1} → statement M
     let a = s .args in
     let w = tableOf (a .words .now) in
     let d = k .node-at in
-    (omega (arith, left-falls w false (a .n) (d .result) (d .ensures) (c .before .before .before .if1 .left), s .pre .0), s .pre .1))
+    (omega (arith, left-below (d .result) (c .before .before .before .if1 .left), above-falls w false (a .n) (d .result) (d .ensures), s .pre .0), s .pre .1))
     (λ c. search needs)
     (λ c. let h = c .before .before in
     let k = h .before .before .before .before .before .before in
@@ -93,7 +93,7 @@ pub +spell-defined-spec : {M : Type 1} → statement M
     let a = s .args in
     let w = tableOf (a .words .now) in
     let d = k .node-at in
-    (omega (arith, left-falls w false (a .n) (d .result) (d .ensures) (o .before .before .before .before .if1 .left), s .pre .0), s .pre .1))
+    (omega (arith, left-below (d .result) (o .before .before .before .before .if1 .left), above-falls w false (a .n) (d .result) (d .ensures), s .pre .0), s .pre .1))
     (λ c κs. search needs)
     (λ c κs. search needs)
     (λ c. search needs)
@@ -111,7 +111,7 @@ pub +spell-defined-spec : {M : Type 1} → statement M
     let a = s .args in
     let w = tableOf (a .words .now) in
     let d = k .node-at in
-    (omega (arith, right-falls w false (a .n) (d .result) (d .ensures) (o .before .before .before .before .if1 .left), s .pre .0), s .pre .1))
+    (omega (arith, right-below (d .result) (o .before .before .before .before .if1 .left), above-falls w false (a .n) (d .result) (d .ensures), s .pre .0), s .pre .1))
     (λ c κs. search needs)
     (λ c κs. search needs)
     (λ c. search needs)
