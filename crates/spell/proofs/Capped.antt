@@ -51,3 +51,8 @@ unfolding restStart
 start-after size n h g =
     let below : n < cap = omega arith in
     rw capped-below (simp (le-ltb (size / 38) n (omega arith)))
+
+-- rows that have no room leave nothing
+pub start-full : (size n : ℕ) → size < 2 ^ 64 → size < 38 * n → restStart size (capped n) ≡ size
+unfolding restStart
+start-full size n h g = simp (capped-room size n h ∙ lt-ltb size (38 * n) g)

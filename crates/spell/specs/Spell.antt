@@ -5,7 +5,7 @@ use mathlib.Core.Path.{_≡_}
 use mathlib.Core.Bool.{Bool, _&&_, _||_}
 use mathlib.Core.List.{List, [], _∷_, _++_}
 use lib.Dec.{eqb, ltb}
-use lib.ListN.{length}
+use lib.ListN.{length, take}
 use Rattle.lists.specs.Choice.{pick}
 use Rattle.lists.specs.Over.{over}
 use Rattle.row.specs.declared.Row.{Row}
@@ -33,10 +33,14 @@ capped n = pick (ltb n cap) n cap
 unfoldable pub restStart : ℕ → ℕ → ℕ
 restStart size rows = pick (ltb (size / 38) rows) size (38 * rows)
 
--- rows were counted and, where the buffer has room for them, written into its front
+-- how many rows a buffer has room for
+abbrev pub room : List ℕ → ℕ
+room out = length out / 38
+
+-- rows were counted and written into the front of the buffer, as many of them, from the first on, as it has room for
 pub record Spelled (rs : List Row) (r : ℕ) (entry exit : List ℕ) : Type 0 where
   pub counted : r ≡ capped (length rs)
-  pub written : 38 * length rs ≤ length entry → exit ≡ over (rowsBytes rs) entry
+  pub written : exit ≡ over (rowsBytes (take (room entry) rs)) entry
 
 -- "(operator, b of operators 1 to 3, 0)": a node without operands
 abbrev pub leaf : ℕ → ℕ → Node

@@ -1,5 +1,5 @@
-// 01, Sequents: an entry spelled out as rows 83. Each function gives the count of its rows, capped, and writes them into the front of the buffer where they
-// have room; with an empty buffer it only counts.
+// 01, Sequents: an entry spelled out as rows 83. Each function gives the count of its rows, capped, and writes as many of them as there
+// is room for into the front of the buffer; with an empty buffer it only counts.
 use row::Row;
 use rule_references::Shape;
 use rule_references::find_operator;

@@ -7,6 +7,7 @@ use Rattle.table.specs.Table.{tableOf}
 use Rattle.service.specs.declared.Reply.the-variants as reply
 use Rattle.service.specs.Service.{writeRows}
 use Rattle.spell.specs.Spell.{entryRows}
+use Rattle.spell.proofs.Written.{all-rows}
 use Rattle.spell.proofs.Room.{rows-above, rows-within}
 use Rattle.services.specs.Found.{slotSequentOf, outcome}
 use Rattle.services.proofs.Slots.{no-entry, an-entry, spelled-entry, among-low, not-true, not-false, no-room, room}
@@ -46,7 +47,7 @@ spell-found-spec = tie.close (tie.spec
     let t = tableOf (s .args .words .now) in
     let entry = spelled .before .before .entry-at in
     let fits = rows-within (length (s .args .out .now)) (length (entryRows t (entry .result))) (spelled .spell .result) (omega (arith, s .good)) (spelled .spell .ensures .counted) (again .before .before .if2 .left) in
-    ap₂ (λ n out. outcome (reply.Written n) out) (fits .1) (again .spell2 .ensures .written (omega (arith, fits .0)))
+    ap₂ (λ n out. outcome (reply.Written n) out) (fits .1) (all-rows (again .spell2 .ensures) (fits .0))
     ∙ sym (an-entry t (s .args .slot) (s .pre .1) (s .args .j) (counted .count-entries .result) (s .args .out .now) (counted .count-entries .ensures) (sym (chosen .before .among .ensures) ∙ not-false (chosen .before .among .result) (chosen .if1 .left))
     ∙ ap (λ rs. writeRows rs (s .args .out .now)) (spelled-entry t (s .args .slot) (s .pre .1) (s .args .j) (entry .result) (entry .ensures))
     ∙ room (entryRows t (entry .result)) (s .args .out .now) (fits .0))))
