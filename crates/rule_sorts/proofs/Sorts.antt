@@ -1,18 +1,20 @@
 -- The definitions of checks 8 and 9 by their cases: an operator that names an identifier, a number of operands, a tag.
 use Prim.Native.Nat.{ℕ, zero, suc, _+_, _*_, _<_}
-use mathlib.Core.Path.{_≡_, refl, sym, subst, _∙_}
-use mathlib.Core.Bool.{Bool, true, false, not, _&&_, _||_}
+use mathlib.Core.Path.{_≡_, refl, sym, ap, subst, _∙_}
+use mathlib.Core.Bool.{Bool, true, false, not, _&&_, _||_, and-false, true≢false}
 use mathlib.Core.List.{List}
 use native.Mathlib.Omega.{arith}
 use native.Mathlib.Numerals.{add-one}
 use native.Mathlib.Decide.{decLt}
 use lib.Dec.{eqb, ltb}
 use lib.ListN.{length, List·getD-eq-default}
+use borrow.Author.Tests.{ne-eqb, eqb-false}
 use Rattle.lists.specs.Rows.{oneIf}
-use Rattle.table.specs.Table.{Table, tableOf, typeOf, operatorOf, leftOf}
+use Rattle.table.specs.Table.{Table, tableOf, tagged, isAction, typeOf, operatorOf, leftOf}
 use Rattle.rules.specs.Sorts.{shapeOf, resultSort, operandSort, operandCount, namesIdentifier, sortOf, fitting}
 use Rattle.rules.specs.Rules.{goodOperands, rootAt, namesRoot, rootSort, usesAt, usesTo}
 use Rattle.rules.proofs.Sorts.{rootSortOf}
+use Rattle.rule_sorts.specs.Uses.{mayUse}
 
 module _ (t : Table) where
   pub sort-when : (n r : ℕ) (b : Bool) → b ≡ namesIdentifier (shapeOf (operatorOf t n))
@@ -49,6 +51,32 @@ module _ (t : Table) where
 
   pub uses-when : (n i tag r : ℕ) → tag ≡ t .tag i → r ≡ usesOf tag n i → r ≡ usesAt t n i
   uses-when n i tag r e h = subst (λ k. r ≡ usesOf k n i) e h
+
+  -- a row that holds no n uses no node n: its root is one of its columns, or 0
+  root-unheld : (n i : ℕ) → eqb n 0 ≡ false → eqb (t .a i) n ≡ false → eqb (t .b i) n ≡ false → eqb (t .c i) n ≡ false → eqb (rootAt t i) n ≡ false
+  unfolding rootAt
+  root-unheld n i z a b c = by-tag (tagged t 30 i || (tagged t 31 i || (tagged t 32 i || tagged t 70 i))) (tagged t 50 i) (isAction t i || tagged t 60 i)
+    where
+      by-tag : (p q r : Bool) → eqb (elim p [ true ↦ t .a i | false ↦ elim q [ true ↦ t .b i | false ↦ elim r [ true ↦ t .c i | false ↦ 0 ] ] ]) n ≡ false
+      by-tag true q r = a
+      by-tag false true r = b
+      by-tag false false true = c
+      by-tag false false false = ne-eqb 0 n (λ e. eqb-false n 0 z (sym e))
+
+  none-counted : (d p q r : Bool) {x y z : Bool} → x ≡ false → y ≡ false → z ≡ false
+      → _≡_ {A = ℕ} 0 (elim d [ true ↦ oneIf (p && x) + oneIf (q && y) | false ↦ oneIf (r && z) ])
+  none-counted true p q r ex ey ez = simp (ex, ey, and-false)
+  none-counted false p q r ex ey ez = simp (ez, and-false)
+
+  pub uses-unheld : (n i : ℕ) {held : Bool} → held ≡ mayUse t n i → not held ≡ true → 0 ≡ usesAt t n i
+  uses-unheld n i e h = by-columns (eqb n 0) (eqb (t .a i) n) (eqb (t .b i) n) (eqb (t .c i) n) refl refl refl refl (ap not (sym e) ∙ h)
+    where
+      by-columns : (z a b c : Bool) → eqb n 0 ≡ z → eqb (t .a i) n ≡ a → eqb (t .b i) n ≡ b → eqb (t .c i) n ≡ c → not (z || (a || (b || c))) ≡ true → 0 ≡ usesAt t n i
+      by-columns true a b c ez ea eb ec h = absurd (true≢false (sym h))
+      by-columns false true b c ez ea eb ec h = absurd (true≢false (sym h))
+      by-columns false false true c ez ea eb ec h = absurd (true≢false (sym h))
+      by-columns false false false true ez ea eb ec h = absurd (true≢false (sym h))
+      by-columns false false false false ez ea eb ec h = none-counted (tagged t 20 i) (ltb 0 (operandCount (shapeOf (t .a i)))) (ltb 1 (operandCount (shapeOf (t .a i)))) (namesRoot t i) eb ec (root-unheld n i ez ea eb ec)
 
   pub uses-none : (n : ℕ) → 0 ≡ usesTo t n 0
   unfolding usesTo

@@ -1,1 +1,2 @@
+pub mod Uses
 pub mod Walk

@@ -16,11 +16,12 @@ use table::one_if;
 use table::size;
 use table::tag_at;
 ghost use mathlib.Core.Path.{_≡_};
-ghost use Prim.Native.Nat.{_≤_};
+ghost use Prim.Native.Nat.{_≤_, _<_};
 ghost use Rattle.table.specs.Table.{tableOf};
 ghost use Rattle.table.specs.Counts.{countsOf};
 ghost use Rattle.rules.specs.Sorts.{sortOf, fitting};
 ghost use Rattle.rules.specs.Verdict.{firstRow};
+ghost use Rattle.rule_sorts.specs.Uses.{mayUse};
 ghost use Rattle.rule_sorts.specs.Walk.{firstBefore, ofPredicate};
 ghost use Rattle.lists.specs.Choice.{pick};
 ghost use Rattle.rules.specs.Rules.{goodOperands, rootSort, sortOffends, usesAt, usesTo, useOffends};
@@ -168,11 +169,26 @@ pub fn first_unsorted(words: &[u64], table: Table) -> usize
     first_expression(words, table, rows, rows)
 }
 
+// Whether row i may use the node n: a column holds n, or n is 0. Most rows are passed over by this.
+fn may_use(words: &[u64], n: u64, i: usize) -> bool
+    requires { ⌜ i < tableOf (now words) .size ⌝ }
+    ensures { λ r. ⌜ r ≡ mayUse (tableOf (now (words .entry))) n i ⌝ }
+{
+    let a = words[4 * i + 1];
+    let b = words[4 * i + 2];
+    let c = words[4 * i + 3];
+    (n == 0) | ((a == n) | ((b == n) | (c == n)))
+}
+
 // How often the row at i uses the node n, as an operand or a root.
 fn uses_at(words: &[u64], n: u64, i: usize) -> u64
+    requires { ⌜ i < tableOf (now words) .size ⌝ }
     ensures { λ r. ⌜ r ≡ usesAt (tableOf (now (words .entry))) n i ⌝ }
     ensures { λ r. ⌜ r ≤ 2 ⌝ }
 {
+    if !may_use(words, n, i) {
+        return 0;
+    }
     let tag = tag_at(words, i);
     let found = find_operator(a_at(words, i));
     let shape = found.shape;
