@@ -55,3 +55,25 @@ module _ (P : ℕ → Bool) (n i : ℕ) where
   pub first-end : n ≤ i → first P (n - i) i ≡ i
   unfolding first
   first-end h = let z : n - i ≡ 0 = omega arith in rw z
+
+-- none of the numbers below i passes
+abbrev pub NoneBelow : (ℕ → Bool) → ℕ → Type 0
+NoneBelow P i = (j : ℕ) → j < i → P j ≡ false
+
+-- The search below n by what does not pass: the first is i where none below i passes but i does, and n where none below n does.
+module _ (P : ℕ → Bool) where
+  pub none-next : (i : ℕ) → NoneBelow P i → P i ≡ false → NoneBelow P (i + 1)
+  none-next i none e j h = ⊎-elim (λ (q : j ≡ i). subst (λ x. P x ≡ false) (sym q) e) (λ (q : j < i). none j q) (eq-or-lt-of-le (omega arith))
+
+  not-below : (n i : ℕ) → NoneBelow P i → i ≤ n → i ≤ first P n 0
+  not-below n i none h = go (ltb (first P n 0) i) refl
+    where
+      go : (b : Bool) → ltb (first P n 0) i ≡ b → i ≤ first P n 0
+      go true l = let k : first P n 0 < i = ltb-true _ i l in absurd (true≢false (sym (first-least P n 0 .passes (omega arith)) ∙ none (first P n 0) k))
+      go false l = ltb-false _ i l
+
+  pub first-at : (n i : ℕ) → NoneBelow P i → i < n → P i ≡ true → i ≡ first P n 0
+  first-at n i none h e = omega (arith, not-below n i none (omega arith), least-at-most (first-least P n 0) i (omega arith) e)
+
+  pub first-none : (n : ℕ) → NoneBelow P n → n ≡ first P n 0
+  first-none n none = omega (arith, not-below n n none (omega arith), first-least P n 0 .to)

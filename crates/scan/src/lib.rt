@@ -8,6 +8,7 @@ ghost use mathlib.Core.Path.{_≡_};
 ghost use Rattle.lists.specs.Rows.{countBelow, someBelow, first};
 ghost use Rattle.table.specs.Table.{tableOf};
 ghost use Rattle.scan.specs.Query.{holds, passesOf};
+ghost use Rattle.scan.specs.Span.{pastLast, spanOf, Spans};
 
 // A test of a row, with the numbers that it compares the row's with.
 pub enum Query {
@@ -89,4 +90,55 @@ pub fn find_row(words: &[u64], query: Query) -> usize
         i += 1;
     }
     i
+}
+
+// Rows among which those that pass a test stand: none is before `from`, and none at `to` or behind it.
+pub struct Span {
+    pub from: usize,
+    pub to: usize,
+}
+
+// One more than the last row that passes, or 0.
+fn past_last(words: &[u64], query: Query) -> usize
+    ensures { λ r. ⌜ r ≡ pastLast (passesOf (tableOf (now (words .entry))) query) (tableOf (now (words .entry)) .size) ⌝ }
+{
+    let mut i = size(words);
+    while 0 < i {
+        let last = i - 1;
+        if passes(
+            query,
+            tag_at(words, last),
+            a_at(words, last),
+            b_at(words, last),
+        ) {
+            return i;
+        }
+        i = last;
+    }
+    0
+}
+
+// From the first row that passes to the last.
+pub fn span_of(words: &[u64], query: Query) -> Span
+    ensures { λ r. ⌜ r ≡ spanOf (passesOf (tableOf (now (words .entry))) query) (tableOf (now (words .entry)) .size) ⌝ }
+{
+    Span {
+        from: find_row(words, query),
+        to: past_last(words, query),
+    }
+}
+
+// The first row that passes, or the number of rows, where all that pass are known to stand in a span.
+pub fn find_within(words: &[u64], query: Query, span: Span) -> usize
+    requires { ⌜ Spans (passesOf (tableOf (now words)) query) (tableOf (now words) .size) span ⌝ }
+    ensures { λ r. ⌜ r ≡ first (passesOf (tableOf (now (words .entry))) query) (tableOf (now (words .entry)) .size) 0 ⌝ }
+{
+    let mut i = span.from;
+    while i < span.to {
+        if passes(query, tag_at(words, i), a_at(words, i), b_at(words, i)) {
+            return i;
+        }
+        i += 1;
+    }
+    size(words)
 }

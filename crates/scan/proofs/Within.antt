@@ -1,0 +1,65 @@
+-- The last number that passes by recursion on the bound; and that nothing passes beside the span from the first to the last.
+use Prim.Native.Nat.{ℕ, zero, suc, _+_, _≤_, _<_}
+use mathlib.Core.Path.{_≡_, refl, ap, sym, _∙_, subst}
+use mathlib.Core.Bool.{Bool, true, false, true≢false}
+use mathlib.Core.Logic.{_⊎_, inl, inr, ⊎-elim}
+use native.Mathlib.Omega.{arith}
+use native.Mathlib.Nat.{eq-or-lt-of-le}
+use native.Mathlib.Numerals.{add-one}
+use native.Mathlib.Decide.{decLt}
+use Rattle.lists.specs.Rows.{first}
+use Rattle.lists.proofs.Choice.{chosen, not-chosen}
+use Rattle.lists.proofs.First.{NoneBelow, first-least}
+use Rattle.scan.specs.declared.Span.{Span}
+use Rattle.scan.specs.Span.{pastLast, spanOf, Spans}
+
+module _ (P : ℕ → Bool) where
+  pub past-none : (i : ℕ) → i ≡ 0 → 0 ≡ pastLast P i
+  unfolding pastLast
+  past-none zero e = refl
+  past-none (suc i) e = absurd (omega arith)
+
+  pub past-here : (i k : ℕ) → i ≡ k + 1 → P k ≡ true → i ≡ pastLast P i
+  unfolding pastLast
+  past-here i k h e = (h ∙ add-one k) ∙ sym (chosen (P k) (suc k) (pastLast P k) e) ∙ ap (pastLast P) (sym (h ∙ add-one k))
+
+  pub past-next : (i k : ℕ) → i ≡ k + 1 → P k ≡ false → pastLast P k ≡ pastLast P i
+  unfolding pastLast
+  past-next i k h e = sym (not-chosen (P k) (suc k) (pastLast P k) e) ∙ ap (pastLast P) (sym (h ∙ add-one k))
+
+  past-at-most : (n : ℕ) → pastLast P n ≤ n
+  unfolding pastLast
+  past-at-most zero = omega arith
+  past-at-most (suc n) = go (P n) (past-at-most n)
+    where
+      go : (b : Bool) → pastLast P n ≤ n → elim b [ true ↦ suc n | false ↦ pastLast P n ] ≤ suc n
+      go true h = omega arith
+      go false h = omega arith
+
+  past-above : (n j : ℕ) → pastLast P n ≤ j → j < n → P j ≡ false
+  unfolding pastLast
+  past-above zero j h l = absurd (omega arith)
+  past-above (suc n) j h l = go (P n) refl h (past-above n j)
+    where
+      go : (b : Bool) → P n ≡ b → elim b [ true ↦ suc n | false ↦ pastLast P n ] ≤ j → (pastLast P n ≤ j → j < n → P j ≡ false) → P j ≡ false
+      go true e g above = absurd (omega arith)
+      go false e g above = ⊎-elim (λ (q : j ≡ n). subst (λ x. P x ≡ false) (sym q) e) (λ (q : j < n). above g q) (eq-or-lt-of-le (omega arith))
+
+  pub span-holds : (n : ℕ) → Spans P n (spanOf P n)
+  span-holds n = record {
+    within = past-at-most n;
+    below = λ j h. first-least P n 0 .before j (omega arith) h;
+    above = past-above n;
+  }
+
+  -- past the span nothing passes that did not before
+  pub spans-none : (n : ℕ) (s : Span) → Spans P n s → (i : ℕ) → NoneBelow P i → s .to ≤ i → NoneBelow P n
+  spans-none n s spans i none h j l = go (decLt j i)
+    where
+      go : Dec (j < i) → P j ≡ false
+      go (yes k) = none j k
+      go (no f) = spans .above j (omega (arith, f)) l
+
+  -- the span of a test is one of every stricter test
+  pub spans-stricter : (Q : ℕ → Bool) → ((j : ℕ) → P j ≡ false → Q j ≡ false) → {n : ℕ} {s : Span} → Spans P n s → Spans Q n s
+  spans-stricter Q f h = record { within = h .within; below = λ j l. f j (h .below j l); above = λ j g l. f j (h .above j g l) }

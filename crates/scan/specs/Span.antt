@@ -1,0 +1,21 @@
+-- Rows that pass a test by their tag stand together where 01's "tags never fall" holds; a later search among them starts and ends there.
+use Prim.Native.Nat.{ℕ, zero, suc, _≤_, _<_}
+use mathlib.Core.Path.{_≡_}
+use mathlib.Core.Bool.{Bool, true, false}
+use Rattle.lists.specs.Rows.{first}
+use Rattle.scan.specs.declared.Span.{Span}
+
+-- one more than the last number below n that passes, or 0
+unfoldable pub pastLast : (ℕ → Bool) → ℕ → ℕ
+pastLast P zero = 0
+pastLast P (suc n) = elim (P n) [ true ↦ suc n | false ↦ pastLast P n ]
+
+-- from the first to the last
+abbrev pub spanOf : (ℕ → Bool) → ℕ → Span
+spanOf P n = record { from = first P n 0; to = pastLast P n }
+
+-- no number below n passes but those of the span
+pub record Spans (P : ℕ → Bool) (n : ℕ) (s : Span) : Type 0 where
+  pub within : s .to ≤ n
+  pub below : (j : ℕ) → j < s .from → P j ≡ false
+  pub above : (j : ℕ) → s .to ≤ j → j < n → P j ≡ false
