@@ -1,13 +1,19 @@
 -- A row that stands for an identifier is a row of the table; and the groups' tests by the group's number.
 use Prim.Native.Nat.{ℕ, suc, _≤_, _<_}
-use mathlib.Core.Path.{_≡_, refl, sym, ap, _∙_}
-use mathlib.Core.Bool.{Bool, true, false, _&&_}
+use mathlib.Core.Path.{_≡_, refl, sym, ap, subst, _∙_}
+use mathlib.Core.Bool.{Bool, true, false, _&&_, _||_, cond, true≢false}
 use native.Mathlib.Omega.{arith}
 use lib.Dec.{ltb, eqb}
 use lib.ListN.{getD, List·getD-eq-default}
 use borrow.Author.Tests.{ltb-true, eqb-true, eqb-false}
 use Rattle.lists.proofs.Rows.{count-at-most}
 use Rattle.table.specs.Table.{Table, tagged, count}
+use Rattle.scan.specs.declared.Span.{Span}
+use Rattle.scan.specs.declared.Query.the-variants.{CountedWith, Assigns}
+use Rattle.scan.specs.Query.{passesOf}
+use Rattle.scan.specs.Span.{Spans}
+use Rattle.scan.proofs.Within.{span-holds, spans-stricter}
+use Rattle.walk.specs.Actions.{actionsOf}
 use Rattle.sequent.specs.Walk.{groups, groupTests, ownKind, identifierAt, isConvergent}
 
 left-true : (p q : Bool) → p && q ≡ true → p ≡ true
@@ -19,18 +25,42 @@ unfolding count
 identifier-within t kind i e = omega (arith, ltb-true i (count t 10) (left-true (ltb i (count t 10)) _ e), count-at-most (tagged t 10) (t .size))
 
 -- A test of the identifier that row i stands for, where that is a variable of the event's machine.
-module _ (t : Table) (e i : ℕ) {kind : ℕ} {b : Bool} (own : kind ≡ ownKind t e) (found : b ≡ identifierAt t kind i) where
-  own-found : b ≡ identifierAt t (ownKind t e) i
-  own-found = found ∙ ap (λ k. identifierAt t k i) own
-
+module _ (t : Table) (e i : ℕ) {b : Bool} (found : b ≡ identifierAt t (ownKind t e) i) where
   pub own-within : b ≡ true → i < t .size
-  own-within h = identifier-within t (ownKind t e) i (sym own-found ∙ h)
+  own-within h = identifier-within t (ownKind t e) i (sym found ∙ h)
 
   pub own-tested : (q r : Bool) → b ≡ true → r ≡ q → r ≡ (identifierAt t (ownKind t e) i && q)
-  own-tested q r h p = p ∙ sym (ap (λ b. b && q) (sym own-found ∙ h))
+  own-tested q r h p = p ∙ sym (ap (λ b. b && q) (sym found ∙ h))
 
   pub own-none : (q : Bool) → b ≡ false → false ≡ (identifierAt t (ownKind t e) i && q)
-  own-none q h = sym (ap (λ b. b && q) (sym own-found ∙ h))
+  own-none q h = sym (ap (λ b. b && q) (sym found ∙ h))
+
+-- a row's tag compared, where it was read
+pub tag-known : (k : ℕ) {tag read : ℕ} {b : Bool} → read ≡ tag → eqb read k ≡ b → eqb tag k ≡ b
+tag-known k e h = ap (λ n. eqb n k) (sym e) ∙ h
+
+-- a tag that is of neither machine's invariants is not of one's
+pub no-invariant : (b : Bool) (tag : ℕ) → (eqb tag 31 || eqb tag 32) ≡ false → false ≡ eqb tag (cond b 31 32)
+no-invariant b tag h = by-tag (eqb tag 31) (eqb tag 32) refl refl h b
+  where
+    by-tag : (x y : Bool) → eqb tag 31 ≡ x → eqb tag 32 ≡ y → (x || y) ≡ false → (b : Bool) → false ≡ eqb tag (cond b 31 32)
+    by-tag true y ex ey h b = absurd (true≢false h)
+    by-tag false true ex ey h b = absurd (true≢false h)
+    by-tag false false ex ey h true = sym ex
+    by-tag false false ex ey h false = sym ey
+
+-- The actions of an event for a variable stand in the span of all actions.
+module _ (t : Table) (e x : ℕ) where
+  no-action : (p q r : Bool) → (p || (true && (p || q))) ≡ false → ((p || q) && r) ≡ false
+  no-action true q r h = absurd (true≢false h)
+  no-action false true r h = absurd (true≢false h)
+  no-action false false r h = refl
+
+  pub assigns-span : {actions : Span} → actions ≡ actionsOf t → Spans (passesOf t (Assigns e x)) (t .size) actions
+  unfolding actionsOf
+  assigns-span p = subst (Spans (passesOf t (Assigns e x)) (t .size)) (sym p)
+      (spans-stricter (passesOf t (CountedWith 51)) (passesOf t (Assigns e x)) (λ j h. no-action (eqb (t .tag j) 51) (eqb (t .tag j) 52) (eqb (t .a j) e && eqb (t .b j) x) h)
+      (span-holds (passesOf t (CountedWith 51)) (t .size)))
 
 -- a number from n on that is not n
 pub past : (n : ℕ) {g : ℕ} → (g ≡ n → ⊥) → n ≤ g → suc n ≤ g

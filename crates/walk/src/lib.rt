@@ -1,6 +1,8 @@
 // 01, Sequents, "Order": the list of sequents as a walk of slots, each an event (0 for none), a group of that order and a row.
 use scan::Query;
-use scan::find_row;
+use scan::Span;
+use scan::find_within;
+use scan::span_of;
 use table::Table;
 use table::a_at;
 use table::event_field;
@@ -11,12 +13,13 @@ ghost use mathlib.Core.Path.{_≡_};
 ghost use Prim.Native.Nat.{_+_, _-_, _^_, _<_, _≤_};
 ghost use mathlib.Core.Bool.{_&&_, false, cond};
 ghost use lib.ListN.{getD, length};
-ghost use Rattle.table.specs.Table.{tableOf, refinedBy};
+ghost use Rattle.table.specs.Table.{tableOf, tagged, refinedBy};
 ghost use Rattle.table.specs.Counts.{countsOf};
 ghost use Rattle.sequent.specs.Walk.{hasGroup, groupTests, isFormula, rowOfEvent, isAbstract, isRefining, isMatched, isConvergent};
 ghost use Rattle.sequent.specs.Walk.{ownKind, ownInvariantTag, identifierAt, isAssigned, becomesSuch, makes, slotCount, groups};
 ghost use Rattle.machine.specs.Described.{machineOf};
 ghost use Rattle.sequent.specs.Listed.{sequents};
+ghost use Rattle.walk.specs.Actions.{actionsOf};
 ghost use Rattle.walk.specs.Slots.{slotAt, nextSlot, InWalk, place, Sought};
 
 // "30, 31, 32 axiom, abstract invariant, concrete invariant"
@@ -107,17 +110,19 @@ pub fn identifier_at(words: &[u64], table: Table, kind: u64, i: usize) -> bool
 }
 
 // Whether an event has an action for a variable.
-fn is_assigned(words: &[u64], event: u64, target: u64) -> bool
+fn is_assigned(words: &[u64], actions: Span, event: u64, target: u64) -> bool
+    requires { ⌜ actions ≡ actionsOf (tableOf (now words)) ⌝ }
     ensures { λ r. ⌜ r ≡ isAssigned (tableOf (now (words .entry))) event target ⌝ }
 {
-    find_row(words, Query::Assigns { event, target }) < size(words)
+    find_within(words, Query::Assigns { event, target }, actions) < size(words)
 }
 
 // Whether that action is a 52.
-fn becomes_such(words: &[u64], event: u64, target: u64) -> bool
+fn becomes_such(words: &[u64], actions: Span, event: u64, target: u64) -> bool
+    requires { ⌜ actions ≡ actionsOf (tableOf (now words)) ⌝ }
     ensures { λ r. ⌜ r ≡ becomesSuch (tableOf (now (words .entry))) event target ⌝ }
 {
-    let row = find_row(words, Query::Assigns { event, target });
+    let row = find_within(words, Query::Assigns { event, target }, actions);
     (row < size(words)) & !(tag_at(words, row) == 51)
 }
 
@@ -128,24 +133,35 @@ fn has_group(event: u64, group: u64) -> bool
     if event == 0 { group < 2 } else { 2 <= group }
 }
 
-// Group 3: a variable of the event's machine that it assigns. The row i stands for the identifier i + 1.
-fn assigned_at(words: &[u64], table: Table, event: u64, i: usize) -> bool
+// Whether the row i stands for a variable of the event's machine. Most rows are past the identifiers.
+fn own_variable_at(words: &[u64], table: Table, event: u64, i: usize) -> bool
     requires { ⌜ table ≡ countsOf (tableOf (now words)) ⌝ }
+    ensures { λ r. ⌜ r ≡ identifierAt (tableOf (now (words .entry))) (ownKind (tableOf (now (words .entry))) event) i ⌝ }
+{
+    if table.identifiers <= i as u64 {
+        return false;
+    }
+    identifier_at(words, table, own_kind(words, table, event), i)
+}
+
+// Group 3: a variable of the event's machine that it assigns. The row i stands for the identifier i + 1.
+fn assigned_at(words: &[u64], table: Table, actions: Span, event: u64, i: usize) -> bool
+    requires { ⌜ (table ≡ countsOf (tableOf (now words))) × (actions ≡ actionsOf (tableOf (now words))) ⌝ }
     ensures { λ r. ⌜ r ≡ identifierAt (tableOf (now (words .entry))) (ownKind (tableOf (now (words .entry))) event) i && isAssigned (tableOf (now (words .entry))) event (i + 1) ⌝ }
 {
-    if identifier_at(words, table, own_kind(words, table, event), i) {
-        return is_assigned(words, event, i as u64 + 1);
+    if own_variable_at(words, table, event, i) {
+        return is_assigned(words, actions, event, i as u64 + 1);
     }
     false
 }
 
 // Group 4: such a variable whose action is a 52.
-fn feasible_at(words: &[u64], table: Table, event: u64, i: usize) -> bool
-    requires { ⌜ table ≡ countsOf (tableOf (now words)) ⌝ }
+fn feasible_at(words: &[u64], table: Table, actions: Span, event: u64, i: usize) -> bool
+    requires { ⌜ (table ≡ countsOf (tableOf (now words))) × (actions ≡ actionsOf (tableOf (now words))) ⌝ }
     ensures { λ r. ⌜ r ≡ identifierAt (tableOf (now (words .entry))) (ownKind (tableOf (now (words .entry))) event) i && becomesSuch (tableOf (now (words .entry))) event (i + 1) ⌝ }
 {
-    if identifier_at(words, table, own_kind(words, table, event), i) {
-        return becomes_such(words, event, i as u64 + 1);
+    if own_variable_at(words, table, event, i) {
+        return becomes_such(words, actions, event, i as u64 + 1);
     }
     false
 }
@@ -155,47 +171,91 @@ fn refined_guard_at(words: &[u64], table: Table, event: u64, i: usize) -> bool
     requires { ⌜ table ≡ countsOf (tableOf (now words)) ⌝ }
     ensures { λ r. ⌜ r ≡ isRefining (tableOf (now (words .entry))) event && rowOfEvent (tableOf (now (words .entry))) 50 (refinedBy (tableOf (now (words .entry))) event) i ⌝ }
 {
-    let refined = event_field(words, table, event, Table::REFINED);
-    is_refining(words, table, event) & row_of_event(words, 50, refined, i)
+    if tag_at(words, i) == 50 {
+        return is_refining(words, table, event)
+            & (a_at(words, i) == event_field(words, table, event, Table::REFINED));
+    }
+    false
+}
+
+// Group 7: an abstract variable, where the event is matched.
+fn simulated_at(words: &[u64], table: Table, event: u64, i: usize) -> bool
+    requires { ⌜ table ≡ countsOf (tableOf (now words)) ⌝ }
+    ensures { λ r. ⌜ r ≡ isMatched (tableOf (now (words .entry))) event && identifierAt (tableOf (now (words .entry))) 2 i ⌝ }
+{
+    if identifier_at(words, table, 2, i) {
+        return is_matched(words, table, event);
+    }
+    false
+}
+
+// Group 8: an invariant of the event's machine.
+fn invariant_at(words: &[u64], table: Table, event: u64, i: usize) -> bool
+    requires { ⌜ table ≡ countsOf (tableOf (now words)) ⌝ }
+    ensures { λ r. ⌜ r ≡ tagged (tableOf (now (words .entry))) (ownInvariantTag (tableOf (now (words .entry))) event) i ⌝ }
+{
+    let tag = tag_at(words, i);
+    if (tag == 31) | (tag == 32) {
+        return tag == own_invariant_tag(words, table, event);
+    }
+    false
+}
+
+// Groups 9 and 10: the variant, where the event is convergent.
+fn variant_at(words: &[u64], table: Table, event: u64, i: usize) -> bool
+    requires { ⌜ table ≡ countsOf (tableOf (now words)) ⌝ }
+    ensures { λ r. ⌜ r ≡ isConvergent (tableOf (now (words .entry))) event && tagged (tableOf (now (words .entry))) 70 i ⌝ }
+{
+    if tag_at(words, i) == 70 {
+        return is_convergent(words, table, event);
+    }
+    false
 }
 
 // Whether the slot makes sequents, by its group, where the event has the group.
-fn group_test(words: &[u64], table: Table, event: u64, group: u64, i: usize) -> bool
-    requires { ⌜ table ≡ countsOf (tableOf (now words)) ⌝ }
+fn group_test(words: &[u64], table: Table, actions: Span, event: u64, group: u64, i: usize) -> bool
+    requires { ⌜ (table ≡ countsOf (tableOf (now words))) × (actions ≡ actionsOf (tableOf (now words))) ⌝ }
     ensures { λ r. ⌜ r ≡ getD (groupTests (tableOf (now (words .entry)))) group (λ e i. false) event i ⌝ }
 {
     match group {
         0 => is_formula(words, i),
         1 => tag_at(words, i) == 70,
         2 => row_of_event(words, 50, event, i),
-        3 => assigned_at(words, table, event, i),
-        4 => feasible_at(words, table, event, i),
+        3 => assigned_at(words, table, actions, event, i),
+        4 => feasible_at(words, table, actions, event, i),
         5 => row_of_event(words, 60, event, i),
         6 => refined_guard_at(words, table, event, i),
-        7 => is_matched(words, table, event) & identifier_at(words, table, 2, i),
-        8 => tag_at(words, i) == own_invariant_tag(words, table, event),
-        9 | 10 => is_convergent(words, table, event) & (tag_at(words, i) == 70),
+        7 => simulated_at(words, table, event, i),
+        8 => invariant_at(words, table, event, i),
+        9 | 10 => variant_at(words, table, event, i),
         _ => false,
     }
 }
 
 // Whether the slot makes sequents.
-pub fn makes(words: &[u64], table: Table, event: u64, group: u64, i: usize) -> bool
-    requires { ⌜ table ≡ countsOf (tableOf (now words)) ⌝ }
+pub fn makes(words: &[u64], table: Table, actions: Span, event: u64, group: u64, i: usize) -> bool
+    requires { ⌜ (table ≡ countsOf (tableOf (now words))) × (actions ≡ actionsOf (tableOf (now words))) ⌝ }
     ensures { λ r. ⌜ r ≡ makes (tableOf (now (words .entry))) event group i ⌝ }
 {
     if has_group(event, group) {
-        return group_test(words, table, event, group, i);
+        return group_test(words, table, actions, event, group, i);
     }
     false
 }
 
 // How many sequents it makes.
-pub fn slot_count(words: &[u64], table: Table, event: u64, group: u64, i: usize) -> u64
-    requires { ⌜ table ≡ countsOf (tableOf (now words)) ⌝ }
+pub fn slot_count(
+    words: &[u64],
+    table: Table,
+    actions: Span,
+    event: u64,
+    group: u64,
+    i: usize,
+) -> u64
+    requires { ⌜ (table ≡ countsOf (tableOf (now words))) × (actions ≡ actionsOf (tableOf (now words))) ⌝ }
     ensures { λ r. ⌜ r ≡ slotCount (tableOf (now (words .entry))) event group i ⌝ }
 {
-    if makes(words, table, event, group, i) {
+    if makes(words, table, actions, event, group, i) {
         if group == 5 {
             return 2;
         }
@@ -287,9 +347,10 @@ pub fn seek(words: &[u64], table: Table, from: Slot) -> Slot
     ensures { λ r. ⌜ Sought (tableOf (now (words .entry))) (place (tableOf (now (words .entry))) from) r ⌝ }
 {
     let rows = size(words);
+    let actions = span_of(words, Query::CountedWith(51));
     let mut slot = from;
     while slot.event <= table.events {
-        let count = slot_count(words, table, slot.event, slot.group, slot.row);
+        let count = slot_count(words, table, actions, slot.event, slot.group, slot.row);
         if slot.left < count {
             return slot;
         }

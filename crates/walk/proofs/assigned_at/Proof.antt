@@ -9,14 +9,13 @@ use Rattle.walk.proofs.assigned_at.Tie as tie
 pub assigned-at-spec : {M : Type 1} → statement M
 assigned-at-spec = tie.close (tie.spec
     (λ c κs. search needs)
-    (λ c κs. search needs)
     (λ c. let found = c .before in
-    let a = found .before .before .before .args in
-    omega (arith, own-within (tableOf (a .words .now)) (a .event) (a .i) (found .before .own-kind .ensures) (found .identifier-at .ensures) (c .if1 .taken)))
+    let a = found .before .before .args in
+    omega (arith, own-within (tableOf (a .words .now)) (a .event) (a .i) (found .own-variable-at .ensures) (c .if1 .taken)))
     (λ c κs. search needs)
     (λ c. let found = c .before .before in
-    let a = found .before .before .before .args in
-    own-tested (tableOf (a .words .now)) (a .event) (a .i) (found .before .own-kind .ensures) (found .identifier-at .ensures) _ _ (c .before .if1 .taken) (c .is-assigned .ensures))
+    let a = found .before .before .args in
+    own-tested (tableOf (a .words .now)) (a .event) (a .i) (found .own-variable-at .ensures) _ _ (c .before .if1 .taken) (c .is-assigned .ensures))
     (λ c. let found = c .before in
-    let a = found .before .before .before .args in
-    own-none (tableOf (a .words .now)) (a .event) (a .i) (found .before .own-kind .ensures) (found .identifier-at .ensures) _ (c .if1 .left)))
+    let a = found .before .before .args in
+    own-none (tableOf (a .words .now)) (a .event) (a .i) (found .own-variable-at .ensures) _ (c .if1 .left)))

@@ -20,9 +20,6 @@ group-test-spec = tie.close (tie.spec
     (λ c κs. search needs)
     (λ c κs. search needs)
     (λ c κs. search needs)
-    (λ c κs. search needs)
-    (λ c κs. search needs)
-    (λ c κs. search needs)
     (λ c. let a = c .before .before .before .args in
     let g : a .group ≡ 0 = omega arith in test-of (tableOf (a .words .now)) (a .event) (a .i) 0 g (c .is-formula .ensures))
     (λ c. let a = c .before .before .before .args in
@@ -37,11 +34,11 @@ group-test-spec = tie.close (tie.spec
     let g : a .group ≡ 5 = omega arith in test-of (tableOf (a .words .now)) (a .event) (a .i) 5 g (c .row-of-event2 .ensures))
     (λ c. let a = c .before .before .before .args in
     let g : a .group ≡ 6 = omega arith in test-of (tableOf (a .words .now)) (a .event) (a .i) 6 g (c .refined-guard-at .ensures))
+    (λ c. let a = c .before .before .before .args in
+    let g : a .group ≡ 7 = omega arith in test-of (tableOf (a .words .now)) (a .event) (a .i) 7 g (c .simulated-at .ensures))
+    (λ c. let a = c .before .before .before .args in
+    let g : a .group ≡ 8 = omega arith in test-of (tableOf (a .words .now)) (a .event) (a .i) 8 g (c .invariant-at .ensures))
     (λ c. let a = c .before .before .before .before .args in
-    let g : a .group ≡ 7 = omega arith in test-of (tableOf (a .words .now)) (a .event) (a .i) 7 g (simp (c .identifier-at .ensures, c .before .is-matched .ensures)))
-    (λ c. let a = c .before .before .before .before .args in
-    let g : a .group ≡ 8 = omega arith in test-of (tableOf (a .words .now)) (a .event) (a .i) 8 g (simp (c .own-invariant-tag .ensures, c .before .tag-at2 .ensures)))
-    (λ c. let a = c .before .before .before .before .before .args in
-    let rest = c .before .before .before .match .rest in
-    test-convergent (tableOf (a .words .now)) (a .event) (a .i) (a .group) (past 8 (λ e. rest .1 e) (past 7 (λ e. rest .0 .1 e) (past 6 (λ e. rest .0 .0 .1 e) (past 5 (λ e. rest .0 .0 .0 .1 e) (past 4 (λ e. rest .0 .0 .0 .0 .1 e) (past 3 (λ e. rest .0 .0 .0 .0 .0 .1 e) (past 2 (λ e. rest .0 .0 .0 .0 .0 .0 .1 e) (past 1 (λ e. rest .0 .0 .0 .0 .0 .0 .0 .1 e) (past 0 (λ e. rest .0 .0 .0 .0 .0 .0 .0 .0 .1 e) (omega arith)))))))))) (omega arith) (simp (c .tag-at3 .ensures, c .before .is-convergent .ensures)))
+    let rest = c .before .before .match .rest in
+    test-convergent (tableOf (a .words .now)) (a .event) (a .i) (a .group) (past 8 (λ e. rest .1 e) (past 7 (λ e. rest .0 .1 e) (past 6 (λ e. rest .0 .0 .1 e) (past 5 (λ e. rest .0 .0 .0 .1 e) (past 4 (λ e. rest .0 .0 .0 .0 .1 e) (past 3 (λ e. rest .0 .0 .0 .0 .0 .1 e) (past 2 (λ e. rest .0 .0 .0 .0 .0 .0 .1 e) (past 1 (λ e. rest .0 .0 .0 .0 .0 .0 .0 .1 e) (past 0 (λ e. rest .0 .0 .0 .0 .0 .0 .0 .0 .1 e) (omega arith)))))))))) (omega arith) (c .variant-at .ensures))
     (λ c. let a = c .before .before .before .args in test-none (tableOf (a .words .now)) (a .event) (a .i) (c .if1 .left)))
