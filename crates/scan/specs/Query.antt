@@ -1,6 +1,6 @@
 -- The tests of rows that the checks count, each by the numbers that it compares with: a row passes by its tag and its columns a and b.
 use Prim.Native.Nat.{ℕ}
-use mathlib.Core.Bool.{Bool, _&&_, _||_}
+use mathlib.Core.Bool.{Bool, cond, _&&_, _||_}
 use lib.Dec.{eqb}
 use Rattle.table.specs.Table.{Table}
 use Rattle.scan.specs.declared.Query.{Query}
@@ -19,6 +19,27 @@ holds (Assigns event target) tag a b = actionTag tag && (eqb a event && eqb b ta
 holds (Witnesses event target) tag a b = eqb tag 60 && (eqb a event && eqb b target)
 holds Convergent tag a b = eqb tag 40 && eqb b 2
 holds (Tagged k) tag a b = eqb tag k
+
+-- the lowest and the highest tag of the rows that pass
+abbrev pub lowestTag : Query → ℕ
+lowestTag (CountedWith other) = cond (eqb other 52) 51 other
+lowestTag (Event machine) = 40
+lowestTag (SameTarget other event target) = 51
+lowestTag (Initialises machine) = 40
+lowestTag (Assigns event target) = 51
+lowestTag (Witnesses event target) = 60
+lowestTag Convergent = 40
+lowestTag (Tagged k) = k
+
+abbrev pub highestTag : Query → ℕ
+highestTag (CountedWith other) = cond (eqb other 51) 52 other
+highestTag (Event machine) = 40
+highestTag (SameTarget other event target) = 60
+highestTag (Initialises machine) = 40
+highestTag (Assigns event target) = 52
+highestTag (Witnesses event target) = 60
+highestTag Convergent = 40
+highestTag (Tagged k) = k
 
 -- the row j of a table passes
 abbrev pub passesOf : Table → Query → ℕ → Bool

@@ -7,7 +7,9 @@ use table::tag_at;
 ghost use mathlib.Core.Path.{_≡_};
 ghost use Rattle.lists.specs.Rows.{countBelow, someBelow, first};
 ghost use Rattle.table.specs.Table.{tableOf};
-ghost use Rattle.scan.specs.Query.{holds, passesOf};
+ghost use mathlib.Core.Bool.{cond};
+ghost use lib.Dec.{eqb};
+ghost use Rattle.scan.specs.Query.{holds, lowestTag, highestTag, passesOf};
 ghost use Rattle.scan.specs.Span.{pastLast, spanOf, Spans};
 
 // A test of a row, with the numbers that it compares the row's with.
@@ -57,14 +59,73 @@ fn passes(query: Query, tag: u64, a: u64, b: u64) -> bool
     }
 }
 
+// The lowest tag of a row that is counted together with those of a tag: 51 and 52 are.
+fn first_counted(tag: u64) -> u64
+    ensures { λ r. ⌜ r ≡ cond (eqb tag 52) 51 tag ⌝ }
+{
+    if tag == 52 { 51 } else { tag }
+}
+
+fn last_counted(tag: u64) -> u64
+    ensures { λ r. ⌜ r ≡ cond (eqb tag 51) 52 tag ⌝ }
+{
+    if tag == 51 { 52 } else { tag }
+}
+
+// The lowest tag of a row that passes.
+fn lowest_tag(query: Query) -> u64
+    ensures { λ r. ⌜ r ≡ lowestTag query ⌝ }
+{
+    match query {
+        Query::CountedWith(tag) => first_counted(tag),
+        Query::Event(machine) => 40,
+        Query::SameTarget { tag, event, target } => 51,
+        Query::Initialises(machine) => 40,
+        Query::Assigns { event, target } => 51,
+        Query::Witnesses { event, target } => 60,
+        Query::Convergent => 40,
+        Query::Tagged(k) => k,
+    }
+}
+
+// The highest.
+fn highest_tag(query: Query) -> u64
+    ensures { λ r. ⌜ r ≡ highestTag query ⌝ }
+{
+    match query {
+        Query::CountedWith(tag) => last_counted(tag),
+        Query::Event(machine) => 40,
+        Query::SameTarget { tag, event, target } => 60,
+        Query::Initialises(machine) => 40,
+        Query::Assigns { event, target } => 52,
+        Query::Witnesses { event, target } => 60,
+        Query::Convergent => 40,
+        Query::Tagged(k) => k,
+    }
+}
+
+// Whether row i passes, by its tag alone where that is not between the lowest and the highest, as of most rows.
+fn passes_at(words: &[u64], query: Query, low: u64, high: u64, i: usize) -> bool
+    requires { ⌜ (low ≡ lowestTag query) × (high ≡ highestTag query) ⌝ }
+    ensures { λ r. ⌜ r ≡ passesOf (tableOf (now (words .entry))) query i ⌝ }
+{
+    let tag = tag_at(words, i);
+    if !((low <= tag) & (tag <= high)) {
+        return false;
+    }
+    passes(query, tag, a_at(words, i), b_at(words, i))
+}
+
 // How many of the rows before row n pass.
 pub fn count_rows(words: &[u64], query: Query, n: usize) -> u64
     ensures { λ r. ⌜ r ≡ countBelow (passesOf (tableOf (now (words .entry))) query) n ⌝ }
 {
+    let low = lowest_tag(query);
+    let high = highest_tag(query);
     let mut count = 0;
     let mut j = 0;
     while j < n {
-        count += one_if(passes(query, tag_at(words, j), a_at(words, j), b_at(words, j)));
+        count += one_if(passes_at(words, query, low, high, j));
         j += 1;
     }
     count
