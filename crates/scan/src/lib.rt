@@ -138,21 +138,6 @@ pub fn some_row(words: &[u64], query: Query, n: usize) -> bool
     0 < count_rows(words, query, n)
 }
 
-// The first row that passes, or the number of rows.
-pub fn find_row(words: &[u64], query: Query) -> usize
-    ensures { λ r. ⌜ r ≡ first (passesOf (tableOf (now (words .entry))) query) (tableOf (now (words .entry)) .size) 0 ⌝ }
-{
-    let rows = size(words);
-    let mut i = 0;
-    while i < rows {
-        if passes(query, tag_at(words, i), a_at(words, i), b_at(words, i)) {
-            return i;
-        }
-        i += 1;
-    }
-    i
-}
-
 // Rows among which those that pass a test stand: none is before `from`, and none at `to` or behind it.
 pub struct Span {
     pub from: usize,
@@ -202,4 +187,15 @@ pub fn find_within(words: &[u64], query: Query, span: Span) -> usize
         i += 1;
     }
     size(words)
+}
+
+// The first row that passes, or the number of rows.
+pub fn find_row(words: &[u64], query: Query) -> usize
+    ensures { λ r. ⌜ r ≡ first (passesOf (tableOf (now (words .entry))) query) (tableOf (now (words .entry)) .size) 0 ⌝ }
+{
+    let all = Span {
+        from: 0,
+        to: size(words),
+    };
+    find_within(words, query, all)
 }
