@@ -8,7 +8,7 @@ use native.Mathlib.Numerals.{add-one}
 use borrow.Author.Tests.{lt-ltb, le-ltb}
 use lib.ListN.{length, length-append}
 use Rattle.lists.specs.Over.{over}
-use Rattle.lists.specs.Rows.{first, numbers}
+use Rattle.lists.specs.Below.{first, numbers}
 use Rattle.lists.proofs.First.{first-here, first-end}
 use Rattle.lists.proofs.Flat.{flat-next}
 use Rattle.row.specs.Row.{greatest, width, readAt, foundAt, lineAt}
@@ -19,7 +19,7 @@ use Rattle.row.specs.declared.Place.{Place}
 use Rattle.row.specs.declared.Read.{Read}
 use Rattle.row.specs.declared.Read.the-variants as read
 use Rattle.rules.specs.Decoded.{lineOf, notRow, lineWords}
-use Rattle.decode.specs.declared.Decoded.the-variants.{Rows, Malformed}
+use Rattle.decode.specs.declared.Decoded.the-variants.{Complete, Malformed}
 use Rattle.decode.specs.Decode.{four, firstBad, wordsTo, decodedOf}
 
 module _ (bytes : List ℕ) (i at : ℕ) (place : at ≡ 38 * i) (inside : 38 * i + 38 ≤ length bytes) where

@@ -10,7 +10,7 @@ ghost use Rattle.decode.specs.Decode.{four, firstBad, wordsTo, decodedOf
 
 // How many rows were decoded, or the first row that is not in the row form, counted from 0.
 pub enum Decoded {
-    Rows(usize),
+    Complete(usize),
     Malformed(usize),
 }
 
@@ -46,5 +46,5 @@ pub fn decode(bytes: &[u8], rows: usize, words: &mut [u64]) -> Decoded
         i += 1;
         at += 4;
     }
-    Decoded::Rows(rows)
+    Decoded::Complete(rows)
 }

@@ -8,13 +8,13 @@ use lib.Dec.{ltb, eqb}
 use lib.ListN.{getD, List·getD-eq-default}
 use borrow.Author.Tests.{ltb-true, ltb-false, eqb-true, eqb-false}
 use Rattle.lists.specs.Choice.{pick}
-use Rattle.lists.specs.Rows.{oneIf}
-use Rattle.table.specs.Table.{Table}
+use Rattle.lists.specs.Below.{oneIf}
+use Rattle.table.specs.Rows.{Rows}
 use Rattle.sequent.specs.Entry.{Entry}
 use Rattle.sequent.specs.Segments.{segments, segmentTest, segmentEntry, entryWalk, entriesTo}
 use Rattle.sequent.proofs.Seek.{entries-start, entries-row, entries-segment, entries-reach, entries-end, entry-at}
 use Rattle.entries.specs.declared.Cursor.{Cursor}
-use Rattle.entries.specs.Seek.{place, nextPlace, Stands, entriesBefore, Sought}
+use Rattle.entries.specs.Seek.{cursorAt, nextCursor, Stands, entriesBefore, SoughtEntry}
 
 -- a row has its entry passed where there is one left to pass, and is the one sought where there is none
 pub one-left : (b : Bool) (n : ℕ) → b && eqb n 0 ≡ false → oneIf b ≤ n
@@ -26,24 +26,24 @@ on-entry true n p = (refl, eqb-true n 0 p)
 on-entry false n p = absurd (true≢false (sym p))
 
 -- how many rows of segments lie ahead
-abbrev pub ahead : Table → Cursor → ℕ
+abbrev pub ahead : Rows → Cursor → ℕ
 ahead t c = (segments - c .segment) * t .size - c .row
 
 -- the first place of a table with rows, and a place with its own entry to pass
-pub start-stands : {t : Table} {from : Cursor} {left : ℕ} → from ≡ place 0 0 left → 0 < t .size → Stands t from
+pub start-stands : {t : Rows} {from : Cursor} {left : ℕ} → from ≡ cursorAt 0 0 left → 0 < t .size → Stands t from
 start-stands {t} p h = subst (Stands t) (sym p) (record { segment = omega arith; row = h; ended = λ q. refl })
 
-pub passing-stands : {t : Table} {from c : Cursor} → from ≡ place (c .segment) (c .row) 1 → Stands t c → Stands t from
+pub passing-stands : {t : Rows} {from c : Cursor} → from ≡ cursorAt (c .segment) (c .row) 1 → Stands t c → Stands t from
 passing-stands {t} p st = subst (Stands t) (sym p) (record { segment = st .segment; row = st .row; ended = st .ended })
 
-module _ (t : Table) (e g i : ℕ) where
+module _ (t : Rows) (e g i : ℕ) where
   pub record Step (c n : Cursor) : Type 0 where
     pub stands : Stands t n
     pub same : entriesBefore t e g i n + n .left ≡ entriesBefore t e g i c + c .left
     pub nearer : ahead t n < ahead t c
 
   pub step : (c : Cursor) (b : Bool) → Stands t c → c .segment < segments → b ≡ segmentTest t e g i (c .segment) (c .row) → oneIf b ≤ c .left
-      → Step c (nextPlace c b (t .size))
+      → Step c (nextCursor c b (t .size))
   step c b st hs p l = go (ltb (c .row + 1) (t .size)) refl
     where
       s : ℕ
@@ -58,12 +58,12 @@ module _ (t : Table) (e g i : ℕ) where
       whole : ahead t c ≡ k * t .size + t .size - c .row
       whole = let q : segments - s ≡ suc k = omega arith in ap (λ n. n * t .size - c .row) q ∙ ap (λ n. n - c .row) (suc-mul k (t .size))
 
-      go : (x : Bool) → ltb (c .row + 1) (t .size) ≡ x → Step c (pick x (place s (c .row + 1) (c .left - oneIf b)) (place (s + 1) 0 (c .left - oneIf b)))
+      go : (x : Bool) → ltb (c .row + 1) (t .size) ≡ x → Step c (pick x (cursorAt s (c .row + 1) (c .left - oneIf b)) (cursorAt (s + 1) 0 (c .left - oneIf b)))
       go true q = record {
         stands = record { segment = st .segment; row = ltb-true (c .row + 1) (t .size) q; ended = λ r. absurd (omega arith) };
         same = omega (arith, row);
         nearer =
-            let n : ahead t (place s (c .row + 1) (c .left - oneIf b)) ≡ k * t .size + t .size - (c .row + 1) =
+            let n : ahead t (cursorAt s (c .row + 1) (c .left - oneIf b)) ≡ k * t .size + t .size - (c .row + 1) =
             (let q : segments - s ≡ suc k = omega arith in ap (λ n. n * t .size - (c .row + 1)) q ∙ ap (λ n. n - (c .row + 1)) (suc-mul k (t .size))) in
             omega (arith, whole, n, st .row);
       }
@@ -77,11 +77,11 @@ module _ (t : Table) (e g i : ℕ) where
 
   -- as the loop goes: the row is not the one sought
   pub stepped : (c n : Cursor) (b : Bool) (rows : ℕ) → Stands t c → c .segment < segments → b ≡ segmentTest t e g i (c .segment) (c .row)
-      → b && eqb (c .left) 0 ≡ false → rows ≡ t .size → n ≡ nextPlace c b rows → Step c n
-  stepped c n b rows st hs p q r o = subst (Step c) (sym (o ∙ ap (nextPlace c b) r)) (step c b st hs p (one-left b (c .left) q))
+      → b && eqb (c .left) 0 ≡ false → rows ≡ t .size → n ≡ nextCursor c b rows → Step c n
+  stepped c n b rows st hs p q r o = subst (Step c) (sym (o ∙ ap (nextCursor c b) r)) (step c b st hs p (one-left b (c .left) q))
 
 -- what a walk from the start comes to, with k entries to pass
-module _ {t : Table} {e g i k : ℕ} {from r : Cursor} (f : from ≡ place 0 0 k) (so : Sought t e g i from r) where
+module _ {t : Rows} {e g i k : ℕ} {from r : Cursor} (f : from ≡ cursorAt 0 0 k) (so : SoughtEntry t e g i from r) where
   at-place : entriesBefore t e g i r + r .left ≡ k
   at-place = so .passed ∙ ap (λ c. entriesBefore t e g i c + c .left) f ∙ ap (λ n. n + k) (entries-start t e g i) ∙ omega arith
 
@@ -112,12 +112,12 @@ module _ {t : Table} {e g i k : ℕ} {from r : Cursor} (f : from ≡ place 0 0 k
   entry-none w d p = List·getD-eq-default (entryWalk t e g i w) d (omega (arith, at-end p, entries-end t e g i w))
 
 -- a walk from the start with none to pass: no entry stands before the place that it comes to
-pub none-before : {t : Table} {e g i : ℕ} {from r : Cursor} → from ≡ place 0 0 0 → Sought t e g i from r → entriesBefore t e g i r ≡ 0
+pub none-before : {t : Rows} {e g i : ℕ} {from r : Cursor} → from ≡ cursorAt 0 0 0 → SoughtEntry t e g i from r → entriesBefore t e g i r ≡ 0
 none-before f so = omega (arith, at-place f so)
 
 -- a walk on from an entry, past it: there is one entry more before the place that it comes to
-pub one-more : {t : Table} {e g i : ℕ} {c from n : Cursor} → Stands t c → c .segment < segments → segmentTest t e g i (c .segment) (c .row) ≡ true
-    → from ≡ place (c .segment) (c .row) 1 → Sought t e g i from n → entriesBefore t e g i n ≡ entriesBefore t e g i c + 1
+pub one-more : {t : Rows} {e g i : ℕ} {c from n : Cursor} → Stands t c → c .segment < segments → segmentTest t e g i (c .segment) (c .row) ≡ true
+    → from ≡ cursorAt (c .segment) (c .row) 1 → SoughtEntry t e g i from n → entriesBefore t e g i n ≡ entriesBefore t e g i c + 1
 one-more {t} {e} {g} {i} {c} {from} {n} st h p f so = go (ltb (n .segment) segments) refl
   where
     passed : entriesBefore t e g i n + n .left ≡ entriesBefore t e g i c + 1
@@ -131,5 +131,5 @@ one-more {t} {e} {g} {i} {c} {from} {n} st h p f so = go (ltb (n .segment) segme
         omega (arith, passed, all, entries-reach t e g i (c .segment) (c .row) h (st .row) p)
 
 -- the end
-pub all-before : {t : Table} (e g i : ℕ) {c : Cursor} → Stands t c → segments ≤ c .segment → entriesBefore t e g i c ≡ entriesTo t e g i segments 0
+pub all-before : {t : Rows} (e g i : ℕ) {c : Cursor} → Stands t c → segments ≤ c .segment → entriesBefore t e g i c ≡ entriesTo t e g i segments 0
 all-before {t} e g i {c} st h = let p : c .segment ≡ segments = omega (arith, st .segment) in ap₂ (entriesTo t e g i) p (st .ended p)

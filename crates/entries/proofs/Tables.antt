@@ -4,9 +4,9 @@ use mathlib.Core.Path.{_≡_, refl, sym, ap, _∙_}
 use mathlib.Core.Bool.{true, false, cond}
 use lib.ListN.{getD}
 use Rattle.lists.specs.All.{all-nil, all-cons}
-use Rattle.lists.specs.Rows.{numbers}
+use Rattle.lists.specs.Below.{numbers}
 use Rattle.lists.proofs.Range.{table-rest}
-use Rattle.table.specs.Table.{Table}
+use Rattle.table.specs.Rows.{Rows}
 use Rattle.sequent.specs.Entry.{written, defined}
 use Rattle.sequent.specs.Listed.{WD, WFIS}
 use Rattle.sequent.specs.Segments.{kinds, isWFIS, headerKind, items, headerItem, goals, goalOf, segmentTests, segmentTest, segmentEntries, segmentEntry}
@@ -28,7 +28,7 @@ kind-rest g n4 n6 n7 n8 n9 n10 =
     (all-cons (λ p. refl) (all-cons (λ p. refl) (all-cons (λ p. refl) (all-cons (λ p. refl) (all-cons (λ p. absurd (n4 p)) (all-cons (λ p. refl)
     (all-cons (λ p. absurd (n6 p)) (all-cons (λ p. absurd (n7 p)) (all-cons (λ p. absurd (n8 p)) (all-cons (λ p. absurd (n9 p)) (all-cons (λ p. absurd (n10 p)) all-nil)))))))))))
 
-module _ (t : Table) where
+module _ (t : Rows) where
   -- the item
   module _ (e g i w : ℕ) where
     pub item-wfis : isWFIS g w ≡ true → t .b i ≡ headerItem t e g i w

@@ -11,20 +11,20 @@ use lib.Seq.{take-suc, take-all}
 use borrow.Author.Tests.{ne-eqb}
 use borrow.Rule.Slice.PartMut.{putMid}
 use Rattle.lists.specs.Over.{over}
-use Rattle.lists.specs.Rows.{numbers, keep}
-use Rattle.lists.proofs.Rows.{in-numbers}
+use Rattle.lists.specs.Below.{numbers, keep}
+use Rattle.lists.proofs.Below.{in-numbers}
 use Rattle.lists.proofs.Over.{over-none, over-length, over-tail}
 use Rattle.lists.proofs.Flat.{flat-same, flat-next, map-flat}
 use Rattle.row.specs.declared.Row.{Row}
 use Rattle.row.specs.Row.{rowBytes, width}
-use Rattle.table.specs.Table.{Table}
+use Rattle.table.specs.Rows.{Rows}
 use Rattle.sequent.specs.Segments.{segments, headerKind, headerItem, slotSequent, segmentTest, segmentEntry, segment, hypothesisWalk, entriesTo}
 use Rattle.sequent.proofs.Segments.{goal-segment}
 use Rattle.sequent.proofs.Seek.{entries-reach, made-of, made-length, made-at}
-use Rattle.service.proofs.Printed.{rows-length, rows-join}
-use Rattle.service.specs.Printed.{row, entryRow, sequentRows, rowsBytes}
+use Rattle.reply.proofs.Printed.{rows-length, rows-join}
+use Rattle.reply.specs.Printed.{row, entryRow, sequentRows, rowsBytes}
 use Rattle.entries.specs.declared.Cursor.{Cursor}
-use Rattle.entries.specs.Seek.{place, Stands, entriesBefore, Sought}
+use Rattle.entries.specs.Seek.{cursorAt, Stands, entriesBefore, SoughtEntry}
 use Rattle.entries.specs.Written.{segmentRow, entryRows}
 use Rattle.entries.proofs.Seek.{none-before, one-more, all-before}
 
@@ -33,18 +33,18 @@ unfolding rowsBytes flatMap
 one-row r = append-nil (rowBytes width r)
 
 -- the bytes of the first n rows
-unfoldable pub bytesTo : Table → ℕ → ℕ → ℕ → ℕ → ℕ → List ℕ
+unfoldable pub bytesTo : Rows → ℕ → ℕ → ℕ → ℕ → ℕ → List ℕ
 bytesTo t e g i w n = rowsBytes (take n (entryRows t e g i w))
 
 -- the entries before a place are written, and an entry stands at the place where it is not the end
-pub record Progress (t : Table) (e g i w : ℕ) (start out : List ℕ) (c : Cursor) (at : ℕ) : Type 0 where
+pub record Progress (t : Rows) (e g i w : ℕ) (start out : List ℕ) (c : Cursor) (at : ℕ) : Type 0 where
   pub stands : Stands t c
   pub found : c .segment < segments → segmentTest t e g i (c .segment) (c .row) ≡ true
-  pub place : at ≡ 38 * entriesBefore t e g i c
+  pub cursorAt : at ≡ 38 * entriesBefore t e g i c
   pub size : length out ≡ length start
   pub bytes : out ≡ over (bytesTo t e g i w (entriesBefore t e g i c)) start
 
-module _ (t : Table) (e g i w : ℕ) (h : i < t .size) where
+module _ (t : Rows) (e g i w : ℕ) (h : i < t .size) where
   -- the rows of a segment's entries
   tagged-segment : (tag s : ℕ) → map (entryRow tag) (segment t e g i w s)
       ≡ map (λ j. entryRow tag (segmentEntry t e g i w s j)) (keep (segmentTest t e g i s) (numbers (t .size) 0))
@@ -95,18 +95,18 @@ module _ (t : Table) (e g i w : ℕ) (h : i < t .size) where
   bytes-none = refl
 
   -- the writer's loop starts at the first entry
-  pub progress-start : (start : List ℕ) {from c : Cursor} → from ≡ place 0 0 0 → Sought t e g i from c → Progress t e g i w start start c 0
+  pub progress-start : (start : List ℕ) {from c : Cursor} → from ≡ cursorAt 0 0 0 → SoughtEntry t e g i from c → Progress t e g i w start start c 0
   progress-start start f so =
       let none = none-before f so in
       record {
         stands = so .stands;
         found = λ l. so .found l .0;
-        place = omega (arith, none);
+        cursorAt = omega (arith, none);
         size = refl;
         bytes = over-none start ∙ ap (λ ws. over ws start) (sym (ap (bytesTo t e g i w) none ∙ bytes-none));
       }
 
-module _ {t : Table} {e g i w : ℕ} {start out : List ℕ} {c : Cursor} {at : ℕ} (h : i < t .size) (pr : Progress t e g i w start out c at) where
+module _ {t : Rows} {e g i w : ℕ} {start out : List ℕ} {c : Cursor} {at : ℕ} (h : i < t .size) (pr : Progress t e g i w start out c at) where
   -- and ends with all
   pub progress-end : segments ≤ c .segment → out ≡ over (rowsBytes (entryRows t e g i w)) start
   progress-end l = pr .bytes ∙ ap (λ ws. over ws start) (bytes-all t e g i w h (entriesBefore t e g i c) (all-before e g i (pr .stands) l))
@@ -120,7 +120,7 @@ module _ {t : Table} {e g i w : ℕ} {start out : List ℕ} {c : Cursor} {at : �
     room = omega (arith, reach, pr .place, pr .size)
 
     -- past the entry, when its row is written
-    module _ {from n : Cursor} (f : from ≡ place (c .segment) (c .row) 1) (so : Sought t e g i from n) where
+    module _ {from n : Cursor} (f : from ≡ cursorAt (c .segment) (c .row) 1) (so : SoughtEntry t e g i from n) where
       more : entriesBefore t e g i n ≡ entriesBefore t e g i c + 1
       more = one-more (pr .stands) l (pr .found l) f so
 
@@ -132,7 +132,7 @@ module _ {t : Table} {e g i w : ℕ} {start out : List ℕ} {c : Cursor} {at : �
       progress-next {r} {part} q o = record {
         stands = so .stands;
         found = λ k. so .found k .0;
-        place = omega (arith, more, pr .place);
+        cursorAt = omega (arith, more, pr .place);
         size = ap length put ∙ over-length (bytesTo t e g i w (entriesBefore t e g i n)) start (omega (arith, size, reach, more));
         bytes = put;
       }
@@ -153,6 +153,6 @@ module _ {t : Table} {e g i w : ℕ} {start out : List ℕ} {c : Cursor} {at : �
               ∙ ap (λ ws. over ws start) joined
 
 -- the rows of a slot's sequent: its header, then the rows of its entries
-pub sequent-rows : (t : Table) (e g i w : ℕ) → sequentRows (slotSequent t e g i w) ≡ row 80 (headerKind g w) e (headerItem t e g i w) ∷ entryRows t e g i w
+pub sequent-rows : (t : Rows) (e g i w : ℕ) → sequentRows (slotSequent t e g i w) ≡ row 80 (headerKind g w) e (headerItem t e g i w) ∷ entryRows t e g i w
 unfolding sequentRows entryRows
 sequent-rows t e g i w = refl

@@ -4,10 +4,10 @@ use mathlib.Core.Bool.{cond}
 use mathlib.Core.List.{List, [], _∷_, _++_, map}
 use lib.Dec.{eqb}
 use Rattle.row.specs.declared.Row.{Row}
-use Rattle.table.specs.Table.{Table}
+use Rattle.table.specs.Rows.{Rows}
 use Rattle.sequent.specs.declared.Entry.{Entry as Numbers}
 use Rattle.sequent.specs.Segments.{segmentEntry, hypothesisWalk, goalAt}
-use Rattle.service.specs.Printed.{row, entryRow}
+use Rattle.reply.specs.Printed.{row, entryRow}
 
 -- the tag of a segment's rows
 abbrev pub segmentTag : ℕ → ℕ
@@ -17,7 +17,7 @@ segmentTag s = cond (eqb s 7) 82 81
 abbrev pub numbersRow : ℕ → Numbers → Row
 numbersRow tag n = row tag (n .form) (n .first) (n .second)
 
-module _ (t : Table) (e g i w : ℕ) where
+module _ (t : Rows) (e g i w : ℕ) where
   -- the row of a segment's entry
   abbrev pub segmentRow : ℕ → ℕ → Row
   segmentRow s j = entryRow (segmentTag s) (segmentEntry t e g i w s j)

@@ -23,30 +23,30 @@ ghost use Prim.Native.Nat.{_*_, _<_, _≤_};
 ghost use lib.ListN.{length, getD};
 ghost use mathlib.Core.Bool.{_&&_};
 ghost use Rattle.lists.specs.Over.{over};
-ghost use Rattle.lists.specs.Rows.{oneIf};
-ghost use Rattle.table.specs.Table.{tableOf, tagged};
+ghost use Rattle.lists.specs.Below.{oneIf};
+ghost use Rattle.table.specs.Rows.{rowsOf, tagged};
 ghost use Rattle.table.specs.Counts.{countsOf};
 ghost use Rattle.sequent.specs.Entry.{written};
 ghost use Rattle.sequent.specs.Numbers.{numbers, numbersOf};
 ghost use Rattle.sequent.specs.Walk.{matchedBy, actionRow};
 ghost use Rattle.sequent.specs.Segments.{isWFIS, headerKind, beforeIn, headerItem, goalOf, goalAt, isInitial, hasAbstract, hasConcrete, hasMoves, hasWitnesses};
 ghost use Rattle.sequent.specs.Segments.{witnessIn, hasAbstractMoves, segments, segmentTest, segmentEntry, entryWalk, entriesTo};
-ghost use Rattle.service.specs.Printed.{rowsBytes};
-ghost use Rattle.entries.specs.Seek.{place, nextPlace, Stands, Sought};
+ghost use Rattle.reply.specs.Printed.{rowsBytes};
+ghost use Rattle.entries.specs.Seek.{cursorAt, nextCursor, Stands, SoughtEntry};
 ghost use Rattle.entries.specs.Written.{numbersRow, segmentTag, segmentRow, entryRows};
 
 // "class: 0 initialisation"
 fn is_initial(words: &[u64], table: Table, event: u64) -> bool
-    requires { ⌜ table ≡ countsOf (tableOf (now words)) ⌝ }
-    ensures { λ r. ⌜ r ≡ isInitial (tableOf (now (words .entry))) event ⌝ }
+    requires { ⌜ table ≡ countsOf (rowsOf (now words)) ⌝ }
+    ensures { λ r. ⌜ r ≡ isInitial (rowsOf (now (words .entry))) event ⌝ }
 {
     event_field(words, table, event, Table::CLASS) == 0
 }
 
 // The abstract event that an event's steps are matched by.
 fn matched_by(words: &[u64], table: Table, event: u64) -> u64
-    requires { ⌜ table ≡ countsOf (tableOf (now words)) ⌝ }
-    ensures { λ r. ⌜ r ≡ matchedBy (tableOf (now (words .entry))) event ⌝ }
+    requires { ⌜ table ≡ countsOf (rowsOf (now words)) ⌝ }
+    ensures { λ r. ⌜ r ≡ matchedBy (rowsOf (now (words .entry))) event ⌝ }
 {
     if is_initial(words, table, event) {
         return 1;
@@ -56,7 +56,7 @@ fn matched_by(words: &[u64], table: Table, event: u64) -> u64
 
 // The row of an event's action for a variable; the number of rows where it is unassigned.
 fn action_row(words: &[u64], event: u64, x: u64) -> usize
-    ensures { λ r. ⌜ r ≡ actionRow (tableOf (now (words .entry))) event x ⌝ }
+    ensures { λ r. ⌜ r ≡ actionRow (rowsOf (now (words .entry))) event x ⌝ }
 {
     find_row(words, Query::Assigns { event, target: x })
 }
@@ -70,31 +70,31 @@ fn before_in(only: u64, group: u64, row: usize, j: usize) -> bool
 
 // Whether row j is an axiom or invariant of a tag that a slot's sequents may assume.
 fn formula_test(words: &[u64], tag: u64, group: u64, row: usize, j: usize) -> bool
-    ensures { λ r. ⌜ r ≡ beforeIn 0 group row j && tagged (tableOf (now (words .entry))) tag j ⌝ }
+    ensures { λ r. ⌜ r ≡ beforeIn 0 group row j && tagged (rowsOf (now (words .entry))) tag j ⌝ }
 {
     before_in(0, group, row, j) & (tag_at(words, j) == tag)
 }
 
 // "except for initialisations, the abstract invariants"
 fn has_abstract(words: &[u64], table: Table, event: u64, group: u64) -> bool
-    requires { ⌜ table ≡ countsOf (tableOf (now words)) ⌝ }
-    ensures { λ r. ⌜ r ≡ hasAbstract (tableOf (now (words .entry))) event group ⌝ }
+    requires { ⌜ table ≡ countsOf (rowsOf (now words)) ⌝ }
+    ensures { λ r. ⌜ r ≡ hasAbstract (rowsOf (now (words .entry))) event group ⌝ }
 {
     (group < 2) | !is_initial(words, table, event)
 }
 
 // "and, for concrete events, the concrete ones"
 fn has_concrete(words: &[u64], table: Table, event: u64, group: u64) -> bool
-    requires { ⌜ table ≡ countsOf (tableOf (now words)) ⌝ }
-    ensures { λ r. ⌜ r ≡ hasConcrete (tableOf (now (words .entry))) event group ⌝ }
+    requires { ⌜ table ≡ countsOf (rowsOf (now words)) ⌝ }
+    ensures { λ r. ⌜ r ≡ hasConcrete (rowsOf (now (words .entry))) event group ⌝ }
 {
     (group < 2) | (!is_initial(words, table, event) & !is_abstract(words, table, event))
 }
 
 // SIM, INV, VAR, and "moves for a variable witness".
 fn has_moves(words: &[u64], table: Table, group: u64, row: usize) -> bool
-    requires { ⌜ table ≡ countsOf (tableOf (now words)) ⌝ }
-    ensures { λ r. ⌜ r ≡ hasMoves (tableOf (now (words .entry))) group row ⌝ }
+    requires { ⌜ table ≡ countsOf (rowsOf (now words)) ⌝ }
+    ensures { λ r. ⌜ r ≡ hasMoves (rowsOf (now (words .entry))) group row ⌝ }
 {
     let variable = is_variable(words, table, b_at(words, row));
     ((group == 7) | ((group == 8) | (group == 10))) | ((group == 5) & variable)
@@ -102,32 +102,32 @@ fn has_moves(words: &[u64], table: Table, group: u64, row: usize) -> bool
 
 // GRD, SIM, INV but of a convergent event.
 fn has_witnesses(words: &[u64], table: Table, event: u64, group: u64) -> bool
-    requires { ⌜ table ≡ countsOf (tableOf (now words)) ⌝ }
-    ensures { λ r. ⌜ r ≡ hasWitnesses (tableOf (now (words .entry))) event group ⌝ }
+    requires { ⌜ table ≡ countsOf (rowsOf (now words)) ⌝ }
+    ensures { λ r. ⌜ r ≡ hasWitnesses (rowsOf (now (words .entry))) event group ⌝ }
 {
     (group == 6) | ((group == 7) | ((group == 8) & !is_convergent(words, table, event)))
 }
 
 // GRD: "parameter witnesses".
 fn witness_in(words: &[u64], table: Table, group: u64, j: usize) -> bool
-    requires { ⌜ table ≡ countsOf (tableOf (now words)) ⌝ }
-    ensures { λ r. ⌜ r ≡ witnessIn (tableOf (now (words .entry))) group j ⌝ }
+    requires { ⌜ table ≡ countsOf (rowsOf (now words)) ⌝ }
+    ensures { λ r. ⌜ r ≡ witnessIn (rowsOf (now (words .entry))) group j ⌝ }
 {
     !(group == 6) | !is_variable(words, table, b_at(words, j))
 }
 
 // "for a convergent event form 4 of each abstract variable instead of witnesses"
 fn has_abstract_moves(words: &[u64], table: Table, event: u64, group: u64) -> bool
-    requires { ⌜ table ≡ countsOf (tableOf (now words)) ⌝ }
-    ensures { λ r. ⌜ r ≡ hasAbstractMoves (tableOf (now (words .entry))) event group ⌝ }
+    requires { ⌜ table ≡ countsOf (rowsOf (now words)) ⌝ }
+    ensures { λ r. ⌜ r ≡ hasAbstractMoves (rowsOf (now (words .entry))) event group ⌝ }
 {
     (group == 8) & is_convergent(words, table, event)
 }
 
 // Segments 1 and 2: the row's own test first, as most rows fail it.
 fn abstract_test(words: &[u64], table: Table, event: u64, group: u64, row: usize, j: usize) -> bool
-    requires { ⌜ table ≡ countsOf (tableOf (now words)) ⌝ }
-    ensures { λ r. ⌜ r ≡ segmentTest (tableOf (now (words .entry))) event group row 1 j ⌝ }
+    requires { ⌜ table ≡ countsOf (rowsOf (now words)) ⌝ }
+    ensures { λ r. ⌜ r ≡ segmentTest (rowsOf (now (words .entry))) event group row 1 j ⌝ }
 {
     if formula_test(words, 31, group, row, j) {
         return has_abstract(words, table, event, group);
@@ -136,8 +136,8 @@ fn abstract_test(words: &[u64], table: Table, event: u64, group: u64, row: usize
 }
 
 fn concrete_test(words: &[u64], table: Table, event: u64, group: u64, row: usize, j: usize) -> bool
-    requires { ⌜ table ≡ countsOf (tableOf (now words)) ⌝ }
-    ensures { λ r. ⌜ r ≡ segmentTest (tableOf (now (words .entry))) event group row 2 j ⌝ }
+    requires { ⌜ table ≡ countsOf (rowsOf (now words)) ⌝ }
+    ensures { λ r. ⌜ r ≡ segmentTest (rowsOf (now (words .entry))) event group row 2 j ⌝ }
 {
     if formula_test(words, 32, group, row, j) {
         return has_concrete(words, table, event, group);
@@ -147,15 +147,15 @@ fn concrete_test(words: &[u64], table: Table, event: u64, group: u64, row: usize
 
 // Segment 3.
 fn guard_test(words: &[u64], event: u64, group: u64, row: usize, j: usize) -> bool
-    ensures { λ r. ⌜ r ≡ segmentTest (tableOf (now (words .entry))) event group row 3 j ⌝ }
+    ensures { λ r. ⌜ r ≡ segmentTest (rowsOf (now (words .entry))) event group row 3 j ⌝ }
 {
     (2 <= group) & (before_in(2, group, row, j) & row_of_event(words, 50, event, j))
 }
 
 // Segment 4.
 fn moves_test(words: &[u64], table: Table, event: u64, group: u64, row: usize, j: usize) -> bool
-    requires { ⌜ table ≡ countsOf (tableOf (now words)) ⌝ }
-    ensures { λ r. ⌜ r ≡ segmentTest (tableOf (now (words .entry))) event group row 4 j ⌝ }
+    requires { ⌜ table ≡ countsOf (rowsOf (now words)) ⌝ }
+    ensures { λ r. ⌜ r ≡ segmentTest (rowsOf (now (words .entry))) event group row 4 j ⌝ }
 {
     if table.identifiers <= j as u64 {
         return false;
@@ -166,8 +166,8 @@ fn moves_test(words: &[u64], table: Table, event: u64, group: u64, row: usize, j
 
 // Segment 5.
 fn witness_test(words: &[u64], table: Table, event: u64, group: u64, row: usize, j: usize) -> bool
-    requires { ⌜ table ≡ countsOf (tableOf (now words)) ⌝ }
-    ensures { λ r. ⌜ r ≡ segmentTest (tableOf (now (words .entry))) event group row 5 j ⌝ }
+    requires { ⌜ table ≡ countsOf (rowsOf (now words)) ⌝ }
+    ensures { λ r. ⌜ r ≡ segmentTest (rowsOf (now (words .entry))) event group row 5 j ⌝ }
 {
     if row_of_event(words, 60, event, j) {
         return has_witnesses(words, table, event, group) & witness_in(words, table, group, j);
@@ -184,8 +184,8 @@ fn abstract_moves_test(
     row: usize,
     j: usize,
 ) -> bool
-    requires { ⌜ table ≡ countsOf (tableOf (now words)) ⌝ }
-    ensures { λ r. ⌜ r ≡ segmentTest (tableOf (now (words .entry))) event group row 6 j ⌝ }
+    requires { ⌜ table ≡ countsOf (rowsOf (now words)) ⌝ }
+    ensures { λ r. ⌜ r ≡ segmentTest (rowsOf (now (words .entry))) event group row 6 j ⌝ }
 {
     if identifier_at(words, table, 2, j) {
         return has_abstract_moves(words, table, event, group);
@@ -203,8 +203,8 @@ fn segment_test(
     segment: u64,
     j: usize,
 ) -> bool
-    requires { ⌜ table ≡ countsOf (tableOf (now words)) ⌝ }
-    ensures { λ r. ⌜ r ≡ segmentTest (tableOf (now (words .entry))) event group row segment j ⌝ }
+    requires { ⌜ table ≡ countsOf (rowsOf (now words)) ⌝ }
+    ensures { λ r. ⌜ r ≡ segmentTest (rowsOf (now (words .entry))) event group row segment j ⌝ }
 {
     match segment {
         0 => formula_test(words, 30, group, row, j),
@@ -246,8 +246,8 @@ pub fn header_kind(group: u64, which: u64) -> u64
 
 // The item of a slot's sequent: root, variable or identifier.
 pub fn header_item(words: &[u64], event: u64, group: u64, row: usize, which: u64) -> u64
-    requires { ⌜ row < tableOf (now words) .size ⌝ }
-    ensures { λ r. ⌜ r ≡ headerItem (tableOf (now (words .entry))) event group row which ⌝ }
+    requires { ⌜ row < rowsOf (now words) .size ⌝ }
+    ensures { λ r. ⌜ r ≡ headerItem (rowsOf (now (words .entry))) event group row which ⌝ }
 {
     if is_wfis(group, which) {
         return b_at(words, row);
@@ -287,8 +287,8 @@ fn of_event(form: u64, event: u64, x: u64) -> Entry
 
 // The goal of a kind, for an event and an item.
 fn goal_of(words: &[u64], table: Table, kind: u64, event: u64, item: u64) -> Entry
-    requires { ⌜ table ≡ countsOf (tableOf (now words)) ⌝ }
-    ensures { λ r. ⌜ r ≡ numbersOf (goalOf (tableOf (now (words .entry))) kind event item) ⌝ }
+    requires { ⌜ table ≡ countsOf (rowsOf (now words)) ⌝ }
+    ensures { λ r. ⌜ r ≡ numbersOf (goalOf (rowsOf (now (words .entry))) kind event item) ⌝ }
 {
     match kind {
         2 => of_root(2, item),
@@ -304,8 +304,8 @@ fn goal_of(words: &[u64], table: Table, kind: u64, event: u64, item: u64) -> Ent
 
 // The goal of a slot's sequent.
 fn goal_at(words: &[u64], table: Table, event: u64, group: u64, row: usize, which: u64) -> Entry
-    requires { ⌜ (table ≡ countsOf (tableOf (now words))) × (row < tableOf (now words) .size) ⌝ }
-    ensures { λ r. ⌜ r ≡ numbersOf (goalAt (tableOf (now (words .entry))) event group row which) ⌝ }
+    requires { ⌜ (table ≡ countsOf (rowsOf (now words))) × (row < rowsOf (now words) .size) ⌝ }
+    ensures { λ r. ⌜ r ≡ numbersOf (goalAt (rowsOf (now (words .entry))) event group row which) ⌝ }
 {
     let kind = header_kind(group, which);
     let item = header_item(words, event, group, row, which);
@@ -323,8 +323,8 @@ fn segment_entry(
     segment: u64,
     j: usize,
 ) -> Entry
-    requires { ⌜ (table ≡ countsOf (tableOf (now words))) × (row < tableOf (now words) .size) × (j < tableOf (now words) .size) ⌝ }
-    ensures { λ r. ⌜ r ≡ numbersOf (segmentEntry (tableOf (now (words .entry))) event group row which segment j) ⌝ }
+    requires { ⌜ (table ≡ countsOf (rowsOf (now words))) × (row < rowsOf (now words) .size) × (j < rowsOf (now words) .size) ⌝ }
+    ensures { λ r. ⌜ r ≡ numbersOf (segmentEntry (rowsOf (now (words .entry))) event group row which segment j) ⌝ }
 {
     match segment {
         3 => of_root(1, b_at(words, j)),
@@ -351,7 +351,7 @@ impl Cursor {
 
     // The place of the first row, with entries to pass.
     pub fn start(left: u64) -> Self
-        ensures { λ r. ⌜ r ≡ place 0 0 left ⌝ }
+        ensures { λ r. ⌜ r ≡ cursorAt 0 0 left ⌝ }
     {
         Self {
             segment: 0,
@@ -362,7 +362,7 @@ impl Cursor {
 
     // The same place, with its own entry to pass.
     pub fn passing(self) -> Self
-        ensures { λ r. ⌜ r ≡ place (self .segment) (self .row) 1 ⌝ }
+        ensures { λ r. ⌜ r ≡ cursorAt (self .segment) (self .row) 1 ⌝ }
     {
         Self {
             segment: self.segment,
@@ -374,7 +374,7 @@ impl Cursor {
     // The place after this one, of so many rows a segment.
     fn next(self, passes: bool, rows: usize) -> Self
         requires { ⌜ (oneIf passes ≤ self .left) × (self .row < rows) × (self .segment < segments) ⌝ }
-        ensures { λ r. ⌜ r ≡ nextPlace self passes rows ⌝ }
+        ensures { λ r. ⌜ r ≡ nextCursor self passes rows ⌝ }
     {
         let left = self.left - one_if(passes);
         let row = self.row + 1;
@@ -402,8 +402,8 @@ pub fn seek_entry(
     row: usize,
     from: Cursor,
 ) -> Cursor
-    requires { ⌜ (table ≡ countsOf (tableOf (now words))) × Stands (tableOf (now words)) from ⌝ }
-    ensures { λ r. ⌜ Sought (tableOf (now (words .entry))) event group row from r ⌝ }
+    requires { ⌜ (table ≡ countsOf (rowsOf (now words))) × Stands (rowsOf (now words)) from ⌝ }
+    ensures { λ r. ⌜ SoughtEntry (rowsOf (now (words .entry))) event group row from r ⌝ }
 {
     let rows = size(words);
     let mut cursor = from;
@@ -421,8 +421,8 @@ pub fn seek_entry(
 
 // How many entries a slot's sequents have, the goal among them: as many as a walk passes that has more to pass than there are.
 pub fn count_entries(words: &[u64], table: Table, event: u64, group: u64, row: usize) -> u64
-    requires { ⌜ (table ≡ countsOf (tableOf (now words))) × (row < tableOf (now words) .size) ⌝ }
-    ensures { λ r. ⌜ r ≡ entriesTo (tableOf (now (words .entry))) event group row segments 0 ⌝ }
+    requires { ⌜ (table ≡ countsOf (rowsOf (now words))) × (row < rowsOf (now words) .size) ⌝ }
+    ensures { λ r. ⌜ r ≡ entriesTo (rowsOf (now (words .entry))) event group row segments 0 ⌝ }
 {
     let most = words.len() as u64;
     let end = seek_entry(words, table, event, group, row, Cursor::start(most));
@@ -439,8 +439,8 @@ pub fn entry_at(
     which: u64,
     k: u64,
 ) -> Entry
-    requires { ⌜ (table ≡ countsOf (tableOf (now words))) × (row < tableOf (now words) .size) ⌝ }
-    ensures { λ r. ⌜ r ≡ numbersOf (getD (entryWalk (tableOf (now (words .entry))) event group row which) k (written 0)) ⌝ }
+    requires { ⌜ (table ≡ countsOf (rowsOf (now words))) × (row < rowsOf (now words) .size) ⌝ }
+    ensures { λ r. ⌜ r ≡ numbersOf (getD (entryWalk (rowsOf (now (words .entry))) event group row which) k (written 0)) ⌝ }
 {
     let found = seek_entry(words, table, event, group, row, Cursor::start(k));
     let segment = found.segment;
@@ -483,8 +483,8 @@ fn row_at(
     which: u64,
     cursor: Cursor,
 ) -> Row
-    requires { ⌜ (table ≡ countsOf (tableOf (now words))) × (row < tableOf (now words) .size) × (cursor .row < tableOf (now words) .size) ⌝ }
-    ensures { λ r. ⌜ r ≡ segmentRow (tableOf (now (words .entry))) event group row which (cursor .segment) (cursor .row) ⌝ }
+    requires { ⌜ (table ≡ countsOf (rowsOf (now words))) × (row < rowsOf (now words) .size) × (cursor .row < rowsOf (now words) .size) ⌝ }
+    ensures { λ r. ⌜ r ≡ segmentRow (rowsOf (now (words .entry))) event group row which (cursor .segment) (cursor .row) ⌝ }
 {
     let segment = cursor.segment;
     let at = cursor.row;
@@ -502,9 +502,9 @@ pub fn write_entries(
     which: u64,
     out: &mut [u8],
 )
-    requires { ⌜ (table ≡ countsOf (tableOf (now words))) × (row < tableOf (now words) .size) ⌝ }
-    requires { ⌜ 38 * entriesTo (tableOf (now words)) event group row segments 0 ≤ length (now out) ⌝ }
-    ensures { λ _. ⌜ now (out .exit) ≡ over (rowsBytes (entryRows (tableOf (now (words .entry))) event group row which)) (now (out .entry)) ⌝ }
+    requires { ⌜ (table ≡ countsOf (rowsOf (now words))) × (row < rowsOf (now words) .size) ⌝ }
+    requires { ⌜ 38 * entriesTo (rowsOf (now words)) event group row segments 0 ≤ length (now out) ⌝ }
+    ensures { λ _. ⌜ now (out .exit) ≡ over (rowsBytes (entryRows (rowsOf (now (words .entry))) event group row which)) (now (out .entry)) ⌝ }
 {
     let mut cursor = seek_entry(words, table, event, group, row, Cursor::start(0));
     let mut at = 0;

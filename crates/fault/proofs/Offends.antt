@@ -5,11 +5,11 @@ use mathlib.Core.Bool.{Bool, false}
 use borrow.Author.Tests.{ne-eqb}
 use lib.Dec.{eqb}
 use Rattle.lists.proofs.Choice.{not-chosen}
-use Rattle.table.specs.Table.{Table}
+use Rattle.table.specs.Rows.{Rows}
 use Rattle.rules.specs.Rules.{offends}
 
 -- the rule of the check k
-pub by-check : (t : Table) (check i k : ℕ) {r : Bool} → check ≡ k → r ≡ offends t k i → r ≡ offends t check i
+pub by-check : (t : Rows) (check i k : ℕ) {r : Bool} → check ≡ k → r ≡ offends t k i → r ≡ offends t check i
 by-check t check i k e h = h ∙ ap (λ c. offends t c i) (sym e)
 
 -- none of the checks
@@ -24,7 +24,7 @@ pub record Other (check : ℕ) : Type 0 where
   pub not10 : check ≡ 10 → ⊥
   pub not11 : check ≡ 11 → ⊥
 
-pub offends-none : (t : Table) (check i : ℕ) → Other check → offends t check i ≡ false
+pub offends-none : (t : Rows) (check i : ℕ) → Other check → offends t check i ≡ false
 unfolding offends
 offends-none t check i o =
     not-chosen (eqb check 3) _ _ (ne-eqb check 3 (o .not3)) ∙ not-chosen (eqb check 4) _ _ (ne-eqb check 4 (o .not4)) ∙ not-chosen (eqb check 5) _ _ (ne-eqb check 5 (o .not5))

@@ -12,15 +12,15 @@ use rule_tags::twice_offends;
 use table::Table;
 use table::size;
 ghost use mathlib.Core.Path.{_≡_};
-ghost use Rattle.table.specs.Table.{tableOf};
+ghost use Rattle.table.specs.Rows.{rowsOf};
 ghost use Rattle.table.specs.Counts.{countsOf};
 ghost use Rattle.rules.specs.Rules.{offends};
 ghost use Rattle.rules.specs.Verdict.{firstRow, firstCheck};
 
 // Whether the row at i offends against a check.
 fn row_offends(words: &[u64], table: Table, check: u64, i: usize) -> bool
-    requires { ⌜ table ≡ countsOf (tableOf (now words)) ⌝ }
-    ensures { λ r. ⌜ r ≡ offends (tableOf (now (words .entry))) check i ⌝ }
+    requires { ⌜ table ≡ countsOf (rowsOf (now words)) ⌝ }
+    ensures { λ r. ⌜ r ≡ offends (rowsOf (now (words .entry))) check i ⌝ }
 {
     match check {
         3 => tag_offends(words, i),
@@ -38,8 +38,8 @@ fn row_offends(words: &[u64], table: Table, check: u64, i: usize) -> bool
 
 // The first row that offends against a check, counted from 0, or the number of rows. The sort check walks the rows itself.
 pub fn first_row(words: &[u64], table: Table, check: u64) -> usize
-    requires { ⌜ table ≡ countsOf (tableOf (now words)) ⌝ }
-    ensures { λ r. ⌜ r ≡ firstRow (tableOf (now (words .entry))) check ⌝ }
+    requires { ⌜ table ≡ countsOf (rowsOf (now words)) ⌝ }
+    ensures { λ r. ⌜ r ≡ firstRow (rowsOf (now (words .entry))) check ⌝ }
 {
     if check == 8 {
         return first_unsorted(words, table);
@@ -57,8 +57,8 @@ pub fn first_row(words: &[u64], table: Table, check: u64) -> usize
 
 // The first check from 3 to 11 against which a row offends, or 12.
 pub fn first_check(words: &[u64], table: Table) -> u64
-    requires { ⌜ table ≡ countsOf (tableOf (now words)) ⌝ }
-    ensures { λ r. ⌜ r ≡ firstCheck (tableOf (now (words .entry))) ⌝ }
+    requires { ⌜ table ≡ countsOf (rowsOf (now words)) ⌝ }
+    ensures { λ r. ⌜ r ≡ firstCheck (rowsOf (now (words .entry))) ⌝ }
 {
     let rows = size(words);
     let mut check = 3;

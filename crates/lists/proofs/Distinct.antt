@@ -10,7 +10,7 @@ use native.Mathlib.Omega.{arith}
 use lib.ListN.{length, getD}
 use Rattle.lists.specs.All.{All, all-nil, In, here, there}
 use Rattle.lists.specs.Distinct.{Pairwise, pairwise-nil, pairwise-cons, Distinct}
-use Rattle.lists.specs.Rows.{numbers, keep}
+use Rattle.lists.specs.Below.{numbers, keep}
 use Rattle.lists.proofs.All.{all-left, all-right, all-join, all-at, all-in, all-map, all-unmap, in-nil, in-cons, in-flat, in-unflat}
 
 pub in-kept : {A : Type 0} (P : A → Bool) (xs : List A) {a : A} → In a (keep P xs) → In a xs

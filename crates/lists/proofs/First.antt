@@ -8,7 +8,7 @@ use native.Mathlib.Nat.{eq-or-lt-of-le}
 use native.Mathlib.Numerals.{add-one}
 use lib.Dec.{ltb}
 use borrow.Author.Tests.{ltb-true, ltb-false}
-use Rattle.lists.specs.Rows.{first}
+use Rattle.lists.specs.Below.{first}
 use Rattle.lists.proofs.Choice.{chosen, not-chosen}
 
 pub record Least (P : ℕ → Bool) (n i k : ℕ) : Type 0 where

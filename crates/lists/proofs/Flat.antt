@@ -12,8 +12,8 @@ use lib.ListN.{length, getD, length-append, length-map, List·getD-append}
 use lib.Seq.{getD-append-add}
 use borrow.Author.Tests.{lt-ltb, le-ltb, eq-eqb, ne-eqb}
 use Rattle.lists.specs.All.{In, here, there}
-use Rattle.lists.specs.Rows.{oneIf, countBelow, sumBelow, numbers, keep}
-use Rattle.lists.proofs.Rows.{in-numbers}
+use Rattle.lists.specs.Below.{oneIf, countBelow, sumBelow, numbers, keep}
+use Rattle.lists.proofs.Below.{in-numbers}
 
 -- a choice by two tests
 pub cond-and : {A : Type 0} (p q : Bool) (xs : List A) → cond (p && q) xs [] ≡ cond p (cond q xs []) []

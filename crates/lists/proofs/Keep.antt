@@ -2,7 +2,7 @@
 use mathlib.Core.Bool.{Bool, true, false, cond}
 use mathlib.Core.List.{List, _∷_}
 use Rattle.lists.specs.All.{All, all-nil, all-cons}
-use Rattle.lists.specs.Rows.{keep}
+use Rattle.lists.specs.Below.{keep}
 
 pub all-keep : {A : Type 0} {P : A → Type 0} (test : A → Bool) {xs : List A} → All P xs → All P (keep test xs)
 unfolding keep

@@ -6,4 +6,4 @@ pub mod Flat
 pub mod Keep
 pub mod Over
 pub mod Range
-pub mod Rows
+pub mod Below

@@ -10,9 +10,9 @@ use lib.Dec.{ltb}
 use lib.ListN.{length, getD, List·getD-eq-default}
 use borrow.Author.Tests.{ltb-true, ltb-false}
 use Rattle.lists.specs.All.{All}
-use Rattle.lists.specs.Rows.{numbers}
+use Rattle.lists.specs.Below.{numbers}
 use Rattle.lists.proofs.All.{all-at}
-use Rattle.lists.proofs.Rows.{numbers-in}
+use Rattle.lists.proofs.Below.{numbers-in}
 
 module _ {A : Type 0} where
   -- what f gives at the k numbers from lo on

@@ -2,4 +2,4 @@ pub mod All
 pub mod Choice
 pub mod Distinct
 pub mod Over
-pub mod Rows
+pub mod Below

@@ -9,11 +9,11 @@ use borrow.Author.Tests.{ltb-true, ltb-false}
 use Rattle.lists.specs.All.{In}
 use Rattle.lists.specs.Distinct.{Distinct}
 use Rattle.lists.specs.Choice.{pick}
-use Rattle.lists.specs.Rows.{first, numbers}
+use Rattle.lists.specs.Below.{first, numbers}
 use Rattle.lists.proofs.Distinct.{pairwise-keep, numbers-distinct}
 use Rattle.lists.proofs.First.{Least, first-least}
-use Rattle.lists.proofs.Rows.{numbers-in, in-numbers, in-keep}
-use Rattle.table.specs.Table.{Table, tagged, section, count, named, kindOf, operandNode, operatorOf, leftOf, rightOf, isAction}
+use Rattle.lists.proofs.Below.{numbers-in, in-numbers, in-keep}
+use Rattle.table.specs.Rows.{Rows, tagged, section, count, named, kindOf, operandNode, operatorOf, leftOf, rightOf, isAction}
 use Rattle.table.proofs.Sections.{section-row, section-distinct, named-bounds, bounds-named}
 use Rattle.formula.specs.Tree.{bottom, Tree, constant}
 use Rattle.formula.proofs.Truth.{and-split, test-true, true-test}
@@ -45,7 +45,7 @@ operand-falls n m h = go (earlier n m) (earlier-bounds n m)
     go true f = f tt .1
     go false f = h
 
-module _ (t : Table) where
+module _ (t : Rows) where
   -- events and identifiers are the numbers that name one
   pub event-named : (e : ℕ) → In e (numbers (count t 40) 1) → T (named t 40 e)
   event-named e i = let r = in-numbers (count t 40) 1 e i in bounds-named t 40 e (r .0) (omega (arith, r .1))

@@ -5,7 +5,7 @@ use mathlib.Core.Bool.{Bool, true, false, _||_}
 use native.Mathlib.Omega.{arith}
 use lib.Dec.{eqb}
 use borrow.Author.Tests.{eqb-true, ne-eqb}
-use Rattle.table.specs.Table.{Table, kindOf, isVariableNumber}
+use Rattle.table.specs.Rows.{Rows, kindOf, isVariableNumber}
 use Rattle.machine.specs.Machine.{Kind, isVariable, constantKind, abstractVariable, concreteVariable, abstractParameter, concreteParameter}
 use Rattle.machine.specs.Described.{kindNumbered, machineOf}
 
@@ -32,6 +32,6 @@ variable-kind n =
     go false false false true f g = refl
     go false false false false f g = refl
 
-pub variable-numbered : (t : Table) (x : ℕ) → isVariable (machineOf t .kind x) ≡ isVariableNumber t x
+pub variable-numbered : (t : Rows) (x : ℕ) → isVariable (machineOf t .kind x) ≡ isVariableNumber t x
 unfolding machineOf
 variable-numbered t x = variable-kind (kindOf t x)

@@ -3,8 +3,8 @@ use mathlib.Core.Bool.{Bool, true, false, cond, _&&_}
 use mathlib.Core.List.{List, map}
 use Prim.Native.Nat.{ℕ, zero, suc}
 use lib.Dec.{ltb, eqb}
-use Rattle.lists.specs.Rows.{first, numbers, keep}
-use Rattle.table.specs.Table.{Table, tagged, section, count, kindOf, typeOf, operatorOf, leftOf, rightOf, machineNumber, classOf, refinedBy, isAction}
+use Rattle.lists.specs.Below.{first, numbers, keep}
+use Rattle.table.specs.Rows.{Rows, tagged, section, count, kindOf, typeOf, operatorOf, leftOf, rightOf, machineNumber, classOf, refinedBy, isAction}
 use Rattle.formula.specs.Values.{ValueType, integer, boolean}
 use Rattle.formula.specs.Tree.{literal, bottom, Tree, constant, identifier, after, unary, binary, division, connective}
 use Rattle.machine.specs.Machine.{Kind, constantKind, abstractVariable, concreteVariable, abstractParameter, concreteParameter}
@@ -57,7 +57,7 @@ node unknown b l r = constant bottom
 abbrev pub earlier : ℕ → ℕ → Bool
 earlier n x = ltb 0 x && ltb x n
 
-module _ (t : Table) where
+module _ (t : Rows) where
   -- the tree of a node, to a depth, for which its number is enough; an operand that is no earlier node counts as ⊥
   unfoldable pub treeTo : ℕ → ℕ → Tree
   treeTo zero n = constant bottom

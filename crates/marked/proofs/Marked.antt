@@ -3,10 +3,10 @@ use mathlib.Core.Path.{_≡_, refl}
 use mathlib.Core.List.{flatMap}
 use mathlib.Core.Bool.{true}
 use Rattle.lists.specs.Over.{over}
-use Rattle.lists.specs.Rows.{countBelow, first, numbers, keep}
-use Rattle.number.specs.Number.{written, numberOf, scanFrom}
+use Rattle.lists.specs.Below.{countBelow, first, numbers, keep}
+use Rattle.number.specs.Number.{columnsOf, numberOf, scanFrom}
 use Rattle.row.specs.Row.{rowBytes}
-use Rattle.table.specs.Table.{section, count, start}
+use Rattle.table.specs.Rows.{section, count, start}
 use Rattle.formula.specs.Evaluate.{readTree}
 use Rattle.formula.specs.Mentions.{mentions}
 use Rattle.machine.specs.Operator.{operatorNumbered}
@@ -19,10 +19,10 @@ use Rattle.rules.specs.Sight.{mayMention, mayMentionAfter, seesOnly}
 use Rattle.rules.specs.Rules.{tagOffends, fullOffends, eventOffends, identifierOffends, rootAt, referenceOffends, rootSort, sortOffends, usesTo}
 use Rattle.rules.specs.Rules.{useOffends, sightOffends, twiceOffends, offends, missing}
 use Rattle.rules.specs.Verdict.{firstCheck, judge, verdict}
-use Rattle.service.specs.Printed.{sequentRows, rowsBytes}
-use Rattle.service.specs.Service.{writeRows, writeSequent, output}
+use Rattle.reply.specs.Printed.{sequentRows, rowsBytes}
+use Rattle.reply.specs.Replies.{writeRows, writeSequent, output}
 use Rattle.marked.specs.Cases.{cases, allAgree}
 
 marked : allAgree cases ≡ true
-unfolding cases flatMap over countBelow first numbers keep written numberOf scanFrom rowBytes section count start readTree mentions operatorNumbered typeNumbered kindNumbered roleNumbered treeTo treeOf actionOf belonging identifiersOf machineOf inOrder eventSequents sequents lineOf wordsOf columnsUsed mostRows shapeOf operandSort resultSort sortOf mayMention mayMentionAfter seesOnly tagOffends fullOffends eventOffends identifierOffends rootAt referenceOffends rootSort sortOffends usesTo useOffends sightOffends twiceOffends offends missing firstCheck judge verdict sequentRows rowsBytes writeRows writeSequent output
+unfolding cases flatMap over countBelow first numbers keep columnsOf numberOf scanFrom rowBytes section count start readTree mentions operatorNumbered typeNumbered kindNumbered roleNumbered treeTo treeOf actionOf belonging identifiersOf machineOf inOrder eventSequents sequents lineOf wordsOf columnsUsed mostRows shapeOf operandSort resultSort sortOf mayMention mayMentionAfter seesOnly tagOffends fullOffends eventOffends identifierOffends rootAt referenceOffends rootSort sortOffends usesTo useOffends sightOffends twiceOffends offends missing firstCheck judge verdict sequentRows rowsBytes writeRows writeSequent output
 marked = refl

@@ -15,10 +15,10 @@ use Rattle.rules.specs.declared.Verdict.{Verdict}
 use Rattle.rules.specs.declared.Verdict.the-variants as verdict
 use Rattle.rules.specs.Verdict.{verdict as verdictOf}
 use Rattle.run.specs.SafeRun.{withinBound}
-use Rattle.service.specs.declared.Reply.{Reply}
-use Rattle.service.specs.declared.Reply.the-variants as reply
-use Rattle.service.specs.Printed.{row, rowsBytes}
-use Rattle.service.specs.Service.{Outcome, writeSequent, output}
+use Rattle.reply.specs.declared.Reply.{Reply}
+use Rattle.reply.specs.declared.Reply.the-variants as reply
+use Rattle.reply.specs.Printed.{row, rowsBytes}
+use Rattle.reply.specs.Replies.{Outcome, writeSequent, output}
 
 -- An answer of any kind as a list of numbers.
 abbrev accepted : ℕ → List ℕ

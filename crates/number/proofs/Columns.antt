@@ -14,7 +14,7 @@ use Rattle.number.specs.declared.Text.{Text}
 use Rattle.number.specs.declared.Text.the-variants.{Spaces, Digits}
 use Rattle.number.specs.declared.Scan.{Scan}
 use Rattle.number.specs.declared.Scan.the-variants.{Prefix, Wrong}
-use Rattle.number.specs.Number.{mostOf, digitOf, lastOf, beforeOf, textOf, written, stepOf, scanFrom, valueOf, numberOf}
+use Rattle.number.specs.Number.{mostOf, digitOf, lastOf, beforeOf, textOf, columnsOf, stepOf, scanFrom, valueOf, numberOf}
 
 -- what follows the magnitude m by a digit
 module _ (greatest : ℕ) (negative : Bool) (m b : ℕ) (low : 48 ≤ b) (high : b ≤ 57) where
@@ -48,20 +48,20 @@ drop-set (x ∷ l) (suc j) a h = drop-set l j a (le-of-suc-le-suc h)
 
 -- one column more is stored before those from i on
 pub written-back : (text : Text) (out : List ℕ) (i : ℕ) → 0 < i → i ≤ length out
-    → written (i - 1) (beforeOf text) ++ drop (i - 1) (set out (i - 1) (lastOf text)) ≡ written i text ++ drop i out
-unfolding written
+    → columnsOf (i - 1) (beforeOf text) ++ drop (i - 1) (set out (i - 1) (lastOf text)) ≡ columnsOf i text ++ drop i out
+unfolding columnsOf
 written-back text out zero pos h = absurd (not-suc-le-zero pos)
 written-back text out (suc j) pos h = rw (sub-one, drop-set, append-snoc)
 
-pub written-length : (width : ℕ) (text : Text) → length (written width text) ≡ width
-unfolding written
+pub written-length : (width : ℕ) (text : Text) → length (columnsOf width text) ≡ width
+unfolding columnsOf
 written-length zero text = refl
 written-length (suc width) text = rw (length-append, written-length width (beforeOf text), add-one)
 
-pub written-start : (out : List ℕ) (rest : Text) (width w : ℕ) → rest ≡ textOf w → written width rest ++ drop width out ≡ over (written width (textOf w)) out
+pub written-start : (out : List ℕ) (rest : Text) (width w : ℕ) → rest ≡ textOf w → columnsOf width rest ++ drop width out ≡ over (columnsOf width (textOf w)) out
 unfolding over
 written-start out rest width w e = rw (e, written-length width (textOf w))
 
-pub written-done : (out whole : List ℕ) (rest : Text) (i : ℕ) → i ≤ 0 → written i rest ++ drop i out ≡ whole → out ≡ whole
-unfolding written
+pub written-done : (out whole : List ℕ) (rest : Text) (i : ℕ) → i ≤ 0 → columnsOf i rest ++ drop i out ≡ whole → out ≡ whole
+unfolding columnsOf
 written-done out whole rest i h e = let none : i ≡ 0 = omega arith in rw none at e

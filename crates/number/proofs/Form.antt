@@ -17,7 +17,7 @@ use Rattle.number.specs.declared.Scan.{Scan}
 use Rattle.number.specs.declared.Scan.the-variants.{Prefix, Wrong}
 use Rattle.number.specs.declared.Number.{Number}
 use Rattle.number.specs.declared.Number.the-variants.{Value, Malformed}
-use Rattle.number.specs.Number.{mostOf, digitOf, afterSpaces, afterMinus, afterDigits, afterText, lastOf, beforeDigits, beforeOf, textOf, wordOf, textValue, written, leftOf, Fits, inRange, InRange, InForm, stepOf, scanFrom, valueOf, numberOf}
+use Rattle.number.specs.Number.{mostOf, digitOf, afterSpaces, afterMinus, afterDigits, afterText, lastOf, beforeDigits, beforeOf, textOf, wordOf, textValue, columnsOf, restOf, Fits, inRange, InRange, InForm, stepOf, scanFrom, valueOf, numberOf}
 use Rattle.number.proofs.Columns.{digit-within, most-le, written-length}
 
 wrong-never : (u : Text) → Wrong ≡ Prefix u → ⊥
@@ -162,31 +162,31 @@ module _ (greatest : ℕ) where
   scan-last s [] b = refl
   scan-last s (x ∷ xs) b = scan-last (stepOf greatest s x) xs b
 
-  scan-written : (width : ℕ) (u : Text) → Proper u → leftOf width u ≡ Spaces → scanFrom greatest (Prefix Spaces) (written width u) ≡ Prefix u
-  unfolding written leftOf scanFrom
+  scan-written : (width : ℕ) (u : Text) → Proper u → restOf width u ≡ Spaces → scanFrom greatest (Prefix Spaces) (columnsOf width u) ≡ Prefix u
+  unfolding columnsOf restOf scanFrom
   scan-written zero u p f = ap Prefix (sym f)
   scan-written (suc width) u p f =
-      scan-last (Prefix Spaces) (written width (beforeOf u)) (lastOf u)
+      scan-last (Prefix Spaces) (columnsOf width (beforeOf u)) (lastOf u)
       ∙ ap (λ s. stepOf greatest s (lastOf u)) (scan-written width (beforeOf u) (proper-before u p) f)
       ∙ text-after u p
 
   -- writing what was read
   record Holds (width : ℕ) (xs : List ℕ) (t : Text) : Type 0 where
     count : length xs ≡ width
-    form : xs ≡ written width t
-    fits : leftOf width t ≡ Spaces
+    form : xs ≡ columnsOf width t
+    fits : restOf width t ≡ Spaces
     proper : Proper t
 
   holds-none : Holds 0 [] Spaces
-  unfolding written leftOf
+  unfolding columnsOf restOf
   holds-none = record { count = refl; form = refl; fits = refl; proper = proper-spaces }
 
   holds-more : (width : ℕ) (xs : List ℕ) (t : Text) (b : ℕ) (u : Text) → Holds width xs t → Ends t b u → Holds (suc width) (xs ++ (b ∷ [])) u
-  unfolding written leftOf
+  unfolding columnsOf restOf
   holds-more width xs t b u h e = record {
     count = length-append xs (b ∷ []) ∙ add-one (length xs) ∙ ap suc (h .count);
     form = rw (e .before, e .last, h .form);
-    fits = ap (leftOf width) (e .before) ∙ h .fits;
+    fits = ap (restOf width) (e .before) ∙ h .fits;
     proper = e .proper;
   }
 
@@ -271,7 +271,7 @@ module _ (greatest : ℕ) where
     number-form columns w e = scan-form columns w (scanFrom greatest (Prefix Spaces) columns) refl e
 
     -- reading inverts writing
-    pub written-reads : (width w : ℕ) → InRange greatest w → Fits width w → numberOf greatest (written width (textOf w)) ≡ Value w
+    pub written-reads : (width w : ℕ) → InRange greatest w → Fits width w → numberOf greatest (columnsOf width (textOf w)) ≡ Value w
     unfolding numberOf
     written-reads width w r f = rw (scan-written width (textOf w) (proper-word w r) f) (value-of-text w (r .word))
 
@@ -279,17 +279,17 @@ module _ (greatest : ℕ) where
     form-reads columns w f = ap (numberOf greatest) (f .form) ∙ written-reads (length columns) w (f .range) (f .fits)
 
 -- A width that holds every number in range: one column more than the digits of the largest magnitude.
-left-spaces : (width : ℕ) → leftOf width Spaces ≡ Spaces
-unfolding leftOf
+left-spaces : (width : ℕ) → restOf width Spaces ≡ Spaces
+unfolding restOf
 left-spaces zero = refl
 left-spaces (suc width) = left-spaces width
 
-left-minus : (width : ℕ) → leftOf (suc width) Minus ≡ Spaces
-unfolding leftOf
+left-minus : (width : ℕ) → restOf (suc width) Minus ≡ Spaces
+unfolding restOf
 left-minus width = left-spaces width
 
-left-digits : (k : ℕ) (negative : Bool) (m : ℕ) → m < 10 ^ k → (negative ≡ true → 0 < m) → leftOf (suc k) (Digits negative m) ≡ Spaces
-unfolding leftOf
+left-digits : (k : ℕ) (negative : Bool) (m : ℕ) → m < 10 ^ k → (negative ≡ true → 0 < m) → restOf (suc k) (Digits negative m) ≡ Spaces
+unfolding restOf
 left-digits zero true m h s = absurd (omega (arith, s refl))
 left-digits zero false m h s = simp (lt-leb 10 m (omega arith))
 left-digits (suc k) negative m h s = go negative (leb 10 m) refl (left-digits k negative (m / 10))
@@ -297,8 +297,8 @@ left-digits (suc k) negative m h s = go negative (leb 10 m) refl (left-digits k 
     tenth : m / 10 < 10 ^ k
     tenth = let e : 10 ^ suc k ≡ 10 ^ k * 10 = pow-suc 10 k in omega arith
 
-    go : (negative more : Bool) → leb 10 m ≡ more → (m / 10 < 10 ^ k → (negative ≡ true → 0 < m / 10) → leftOf (suc k) (Digits negative (m / 10)) ≡ Spaces)
-        → leftOf (suc k) (pick more (Digits negative (m / 10)) (pick negative Minus Spaces)) ≡ Spaces
+    go : (negative more : Bool) → leb 10 m ≡ more → (m / 10 < 10 ^ k → (negative ≡ true → 0 < m / 10) → restOf (suc k) (Digits negative (m / 10)) ≡ Spaces)
+        → restOf (suc k) (pick more (Digits negative (m / 10)) (pick negative Minus Spaces)) ≡ Spaces
     go negative true e left = left tenth (λ s. omega (arith, leb-true 10 m e))
     go true false e left = left-minus k
     go false false e left = left-spaces (suc k)
@@ -307,6 +307,6 @@ pub in-range-fits : (greatest k w : ℕ) → greatest + 1 < 10 ^ k → InRange g
 in-range-fits greatest k w h r = go (ltb w (2 ^ 63)) refl (r .range)
   where
     go : (x : Bool) → ltb w (2 ^ 63) ≡ x → inRange greatest (pick x (Digits false w) (Digits true (2 ^ 64 - w))) ≡ true
-        → leftOf (suc k) (pick x (Digits false w) (Digits true (2 ^ 64 - w))) ≡ Spaces
+        → restOf (suc k) (pick x (Digits false w) (Digits true (2 ^ 64 - w))) ≡ Spaces
     go true p l = left-digits k false w (omega (arith, leb-true w greatest l)) (λ e. absurd (let n : _≡_ {A = ℕ} 0 1 = cc in omega arith))
     go false p l = left-digits k true (2 ^ 64 - w) (omega (arith, leb-true (2 ^ 64 - w) (greatest + 1) l)) (λ e. omega (arith, r .word))

@@ -36,18 +36,18 @@ beforeOf Minus = Spaces
 beforeOf (Digits negative m) = beforeDigits negative m
 
 -- the last columns of a text, as many as the width says
-unfoldable pub written : ℕ → Text → List ℕ
-written zero text = []
-written (suc width) text = written width (beforeOf text) ++ (lastOf text ∷ [])
+unfoldable pub columnsOf : ℕ → Text → List ℕ
+columnsOf zero text = []
+columnsOf (suc width) text = columnsOf width (beforeOf text) ++ (lastOf text ∷ [])
 
 -- what is left of a text before those columns: only spaces where the text fits them
-unfoldable pub leftOf : ℕ → Text → Text
-leftOf zero text = text
-leftOf (suc width) text = leftOf width (beforeOf text)
+unfoldable pub restOf : ℕ → Text → Text
+restOf zero text = text
+restOf (suc width) text = restOf width (beforeOf text)
 
 -- the text of a number has no more columns than the width
 abbrev pub Fits : ℕ → ℕ → Type 0
-Fits width w = leftOf width (textOf w) ≡ Spaces
+Fits width w = restOf width (textOf w) ≡ Spaces
 
 -- the range: the largest magnitude by sign
 abbrev pub mostOf : ℕ → Bool → ℕ
@@ -111,4 +111,4 @@ numberOf greatest columns = valueOf (scanFrom greatest (Prefix Spaces) columns)
 pub record InForm (greatest : ℕ) (columns : List ℕ) (w : ℕ) : Type 0 where
   pub range : InRange greatest w
   pub fits : Fits (length columns) w
-  pub form : columns ≡ written (length columns) (textOf w)
+  pub form : columns ≡ columnsOf (length columns) (textOf w)

@@ -4,7 +4,7 @@ ghost use mathlib.Core.Path.{_≡_};
 ghost use lib.ListN.{length};
 ghost use Prim.Native.Nat.{_≤_, _<_, _^_};
 ghost use Rattle.lists.specs.Over.{over};
-ghost use Rattle.number.specs.Number.{mostOf, wordOf, textOf, lastOf, beforeOf, beforeDigits, written};
+ghost use Rattle.number.specs.Number.{mostOf, wordOf, textOf, lastOf, beforeOf, beforeDigits, columnsOf};
 ghost use Rattle.number.specs.Number.{digitOf, afterSpaces, afterMinus, afterDigits, afterText, stepOf, textValue, valueOf, numberOf};
 
 // What the columns up to some place hold: only spaces, spaces and a minus, or these and digits (whether a minus stands before them,
@@ -205,7 +205,7 @@ fn text_before(text: Text) -> Text
 // Writes the number right-justified into the first columns of out, as many as width says.
 pub fn write_number(out: &mut [u8], width: usize, word: u64)
     requires { ⌜ width ≤ length (now out) ⌝ }
-    ensures { λ _. ⌜ now (out .exit) ≡ over (written width (textOf word)) (now (out .entry)) ⌝ }
+    ensures { λ _. ⌜ now (out .exit) ≡ over (columnsOf width (textOf word)) (now (out .entry)) ⌝ }
 {
     let mut rest = text_of(word);
     let mut i = width;

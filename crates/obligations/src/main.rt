@@ -14,14 +14,14 @@ use walk::seek;
 ghost use mathlib.Core.Path.{_≡_};
 ghost use Prim.Native.Nat.{_+_, _*_, _≤_};
 ghost use lib.ListN.{length};
-ghost use Rattle.table.specs.Table.{tableOf};
+ghost use Rattle.table.specs.Rows.{rowsOf};
 ghost use Rattle.table.specs.Counts.{countsOf};
 ghost use Rattle.machine.specs.Described.{machineOf};
 ghost use Rattle.sequent.specs.Listed.{sequents};
 ghost use Rattle.rules.specs.declared.Verdict.the-variants.{Accepted};
 ghost use Rattle.rules.specs.Verdict.{judge as judgeOf};
-ghost use Rattle.service.specs.Printed.{sequentRows, rowsBytes};
-ghost use Rattle.service.specs.Service.{sequentAt};
+ghost use Rattle.reply.specs.Printed.{sequentRows, rowsBytes};
+ghost use Rattle.reply.specs.Replies.{sequentAt};
 ghost use Rattle.services.specs.Found.{Located};
 
 // Prints bytes, and answers whether they were taken.
@@ -47,15 +47,15 @@ fn print_refusal(number: u64, at: u64) {
 
 // Prints sequent k: the one place where sequents are printed, and only a sequent's own rows may be.
 fn print_sequent(words: &[u64], k: u64, rows: &[u8]) -> bool
-    requires { ⌜ now rows ≡ rowsBytes (sequentRows (sequentAt (sequents (machineOf (tableOf (now words)))) k)) ⌝ }
+    requires { ⌜ now rows ≡ rowsBytes (sequentRows (sequentAt (sequents (machineOf (rowsOf (now words)))) k)) ⌝ }
 {
     print(rows)
 }
 
 // Writes the sequent in a slot, sequent k, and prints it.
 fn print_slot(words: &[u64], table: Table, slot: Slot, k: u64, out: &mut [u8]) -> bool
-    requires { ⌜ (table ≡ countsOf (tableOf (now words))) × Located (tableOf (now words)) k slot ⌝ }
-    requires { ⌜ 38 * (1 + 4 * tableOf (now words) .size) ≤ length (now out) ⌝ }
+    requires { ⌜ (table ≡ countsOf (rowsOf (now words))) × Located (rowsOf (now words)) k slot ⌝ }
+    requires { ⌜ 38 * (1 + 4 * rowsOf (now words) .size) ≤ length (now out) ⌝ }
 {
     let entries = count_entries(words, table, slot.event, slot.group, slot.row);
     let end = Row::LENGTH * (1 + entries as usize);
@@ -65,8 +65,8 @@ fn print_slot(words: &[u64], table: Table, slot: Slot, k: u64, out: &mut [u8]) -
 
 // Prints the sequents from 1 to the count, by one walk.
 fn print_sequents(words: &[u64], table: Table, count: u64, out: &mut [u8])
-    requires { ⌜ (table ≡ countsOf (tableOf (now words))) × (judgeOf (tableOf (now words)) ≡ Accepted count) ⌝ }
-    requires { ⌜ 38 * (1 + 4 * tableOf (now words) .size) ≤ length (now out) ⌝ }
+    requires { ⌜ (table ≡ countsOf (rowsOf (now words))) × (judgeOf (rowsOf (now words)) ≡ Accepted count) ⌝ }
+    requires { ⌜ 38 * (1 + 4 * rowsOf (now words) .size) ≤ length (now out) ⌝ }
 {
     if count == 0 {
         return;

@@ -10,7 +10,7 @@ use borrow.Author.Tests.{eqb-true}
 use lib.Dec.{eqb}
 use lib.ListN.{length, take, drop, getD, length-append, length-take, length-drop}
 use lib.Seq.{take-at, drop-at, getD-at, take-add, take-suc, take-all}
-use Rattle.number.specs.Number.{numberOf, written, textOf, InRange, Fits, InForm}
+use Rattle.number.specs.Number.{numberOf, columnsOf, textOf, InRange, Fits, InForm}
 use Rattle.number.specs.declared.Number.{Number}
 use Rattle.number.specs.declared.Number.the-variants.{Value, Malformed}
 use Rattle.number.proofs.Columns.{written-length}
@@ -54,19 +54,19 @@ whole-joined (Value t) (Value a) (Value b) Malformed ended r e = absurd (malform
 
 module _ (g w : ℕ) (small : g < 2 ^ 63) where
   -- a written number that stands between two lists is read
-  reads-between : (bytes xs ys : List ℕ) (a n m v : ℕ) → bytes ≡ xs ++ (written m (textOf v) ++ ys) → length xs ≡ a → n ≡ m → InRange g v → Fits m v
+  reads-between : (bytes xs ys : List ℕ) (a n m v : ℕ) → bytes ≡ xs ++ (columnsOf m (textOf v) ++ ys) → length xs ≡ a → n ≡ m → InRange g v → Fits m v
       → numberOf g (take n (drop a bytes)) ≡ Value v
   reads-between bytes xs ys a n m v e la en r f =
-      rw (e, part-between xs (written m (textOf v)) ys a n la (written-length m (textOf v) ∙ sym en)) (written-reads g small m v r f)
+      rw (e, part-between xs (columnsOf m (textOf v)) ys a n la (written-length m (textOf v) ∙ sym en)) (written-reads g small m v r f)
 
   -- reading inverts writing
   pub written-row-reads : (r : Row) → Writable g w r → lineAt g w (rowBytes w r) ≡ line.Whole r
   unfolding rowBytes
   written-row-reads r h =
-      let t : List ℕ = written 4 (textOf (r .tag)) in
-      let a : List ℕ = written w (textOf (r .a)) in
-      let b : List ℕ = written w (textOf (r .b)) in
-      let c : List ℕ = written w (textOf (r .c)) in
+      let t : List ℕ = columnsOf 4 (textOf (r .tag)) in
+      let a : List ℕ = columnsOf w (textOf (r .a)) in
+      let b : List ℕ = columnsOf w (textOf (r .b)) in
+      let c : List ℕ = columnsOf w (textOf (r .c)) in
       let bytes : List ℕ = rowBytes w r in
       joined-whole _ _ _ _ _ r (record {
         tag = reads-between bytes [] (a ++ (b ++ (c ++ (10 ∷ [])))) 0 4 4 (r .tag) (simp append-assoc) refl refl (h .tagRange) (h .tagFits);
@@ -78,7 +78,7 @@ module _ (g w : ℕ) (small : g < 2 ^ 63) where
 
   -- the columns from a on hold the number v
   record Column (bytes : List ℕ) (a m v : ℕ) : Type 0 where
-    form : take m (drop a bytes) ≡ written m (textOf v)
+    form : take m (drop a bytes) ≡ columnsOf m (textOf v)
     range : InRange g v
     fits : Fits m v
 
@@ -89,7 +89,7 @@ module _ (g w : ℕ) (small : g < 2 ^ 63) where
       record { form = rw l at (f .form); range = f .range; fits = rw l at (f .fits) }
 
   -- the front of a row grows by a column
-  front-more : (bytes front : List ℕ) (a m e v : ℕ) → take a bytes ≡ front → Column bytes a m v → e ≡ a + m → take e bytes ≡ front ++ written m (textOf v)
+  front-more : (bytes front : List ℕ) (a m e v : ℕ) → take a bytes ≡ front → Column bytes a m v → e ≡ a + m → take e bytes ≡ front ++ columnsOf m (textOf v)
   front-more bytes front a m e v f k q = rw (q, take-add a m bytes, f, k .form)
 
   -- whatever reads as a row is exactly its written form

@@ -7,7 +7,7 @@ use mathlib.Core.Bool.{Bool, true, false}
 use lib.Dec.{ltb, eqb}
 use lib.ListN.{length, getD, take, drop}
 use Rattle.lists.specs.Choice.{pick}
-use Rattle.number.specs.Number.{numberOf, written, textOf, InRange, Fits}
+use Rattle.number.specs.Number.{numberOf, columnsOf, textOf, InRange, Fits}
 use Rattle.number.specs.declared.Number.{Number}
 use Rattle.number.specs.declared.Number.the-variants.{Value, Malformed}
 use Rattle.row.specs.declared.Row.{Row}
@@ -63,7 +63,7 @@ readAt g w bytes at =
 -- a row as it is written
 unfoldable pub rowBytes : ℕ → Row → List ℕ
 rowBytes w r =
-    (((written 4 (textOf (r .tag)) ++ written w (textOf (r .a))) ++ written w (textOf (r .b))) ++ written w (textOf (r .c))) ++ (10 ∷ [])
+    (((columnsOf 4 (textOf (r .tag)) ++ columnsOf w (textOf (r .a))) ++ columnsOf w (textOf (r .b))) ++ columnsOf w (textOf (r .c))) ++ (10 ∷ [])
 
 -- a row whose numbers are in range and fit their columns
 pub record Writable (g w : ℕ) (r : Row) : Type 0 where

@@ -7,8 +7,8 @@ use native.Mathlib.Nat.{add-zero}
 use native.Mathlib.Decide.{ℕ-discrete}
 use borrow.Author.Tests.{eq-eqb, ne-eqb, lt-ltb}
 use lib.Dec.{ltb, eqb}
-use Rattle.lists.specs.Rows.{oneIf, countBelow, someBelow}
-use Rattle.lists.proofs.Rows.{count-none, count-next}
+use Rattle.lists.specs.Below.{oneIf, countBelow, someBelow}
+use Rattle.lists.proofs.Below.{count-none, count-next}
 
 pub and-passed : (a b : Bool) → a ≡ true → (a && b) ≡ b
 and-passed a b e = rw e

@@ -12,8 +12,8 @@ ghost use mathlib.Core.Path.{_≡_};
 ghost use mathlib.Core.Bool.{not, _&&_};
 ghost use Prim.Native.Nat.{_+_, _<_, _^_};
 ghost use lib.Dec.{eqb};
-ghost use Rattle.lists.specs.Rows.{someBelow};
-ghost use Rattle.table.specs.Table.{tableOf};
+ghost use Rattle.lists.specs.Below.{someBelow};
+ghost use Rattle.table.specs.Rows.{rowsOf};
 ghost use Rattle.table.specs.Counts.{countsOf};
 ghost use Rattle.rules.specs.Rules.{actionWanted, witnessWanted, lacksFor, assigned, hasWitness, eventLacks, missing};
 
@@ -29,7 +29,7 @@ fn follows(x: u64, y: u64) -> bool
 
 // Whether the event at row i, whose number is event, needs an action for the identifier at row j, whose number is target, and has none.
 fn lacks_action(words: &[u64], i: usize, j: usize, event: u64, target: u64) -> bool
-    ensures { λ r. ⌜ r ≡ actionWanted (tableOf (now (words .entry))) i j && not (assigned (tableOf (now (words .entry))) event target) ⌝ }
+    ensures { λ r. ⌜ r ≡ actionWanted (rowsOf (now (words .entry))) i j && not (assigned (rowsOf (now (words .entry))) event target) ⌝ }
 {
     if (b_at(words, i) == 0) & follows(a_at(words, i), a_at(words, j)) {
         return !some_row(words, Query::Assigns { event, target }, size(words));
@@ -39,7 +39,7 @@ fn lacks_action(words: &[u64], i: usize, j: usize, event: u64, target: u64) -> b
 
 // The same of a witness.
 fn lacks_witness(words: &[u64], i: usize, j: usize, event: u64, target: u64) -> bool
-    ensures { λ r. ⌜ r ≡ witnessWanted (tableOf (now (words .entry))) i j && not (hasWitness (tableOf (now (words .entry))) event target) ⌝ }
+    ensures { λ r. ⌜ r ≡ witnessWanted (rowsOf (now (words .entry))) i j && not (hasWitness (rowsOf (now (words .entry))) event target) ⌝ }
 {
     let kind = a_at(words, j);
     let refining = (a_at(words, i) == 2) & (b_at(words, i) < 2);
@@ -51,8 +51,8 @@ fn lacks_witness(words: &[u64], i: usize, j: usize, event: u64, target: u64) -> 
 
 // Whether row j is an identifier for which the event at row i lacks an action or a witness.
 fn lacks_for(words: &[u64], table: Table, i: usize, j: usize) -> bool
-    requires { ⌜ (table ≡ countsOf (tableOf (now words))) × (i < 2 ^ 63) × (j < 2 ^ 63) ⌝ }
-    ensures { λ r. ⌜ r ≡ lacksFor (tableOf (now (words .entry))) i j ⌝ }
+    requires { ⌜ (table ≡ countsOf (rowsOf (now words))) × (i < 2 ^ 63) × (j < 2 ^ 63) ⌝ }
+    ensures { λ r. ⌜ r ≡ lacksFor (rowsOf (now (words .entry))) i j ⌝ }
 {
     if tag_at(words, j) != 10 {
         return false;
@@ -64,8 +64,8 @@ fn lacks_for(words: &[u64], table: Table, i: usize, j: usize) -> bool
 
 // Whether row i is an event that lacks an action or a witness for some identifier.
 fn event_lacks(words: &[u64], table: Table, i: usize) -> bool
-    requires { ⌜ (table ≡ countsOf (tableOf (now words))) × (i < 2 ^ 63) ⌝ }
-    ensures { λ r. ⌜ r ≡ eventLacks (tableOf (now (words .entry))) i ⌝ }
+    requires { ⌜ (table ≡ countsOf (rowsOf (now words))) × (i < 2 ^ 63) ⌝ }
+    ensures { λ r. ⌜ r ≡ eventLacks (rowsOf (now (words .entry))) i ⌝ }
 {
     if tag_at(words, i) != 40 {
         return false;
@@ -82,8 +82,8 @@ fn event_lacks(words: &[u64], table: Table, i: usize) -> bool
 
 // Whether some event does.
 fn some_event_lacks(words: &[u64], table: Table) -> bool
-    requires { ⌜ table ≡ countsOf (tableOf (now words)) ⌝ }
-    ensures { λ r. ⌜ r ≡ someBelow (eventLacks (tableOf (now (words .entry)))) (tableOf (now (words .entry)) .size) ⌝ }
+    requires { ⌜ table ≡ countsOf (rowsOf (now words)) ⌝ }
+    ensures { λ r. ⌜ r ≡ someBelow (eventLacks (rowsOf (now (words .entry)))) (rowsOf (now (words .entry)) .size) ⌝ }
 {
     let rows = size(words);
     let mut lacks = false;
@@ -97,8 +97,8 @@ fn some_event_lacks(words: &[u64], table: Table) -> bool
 
 // 12: an initialisation of either machine, an action or a witness, or a variant without convergent events or the reverse.
 pub fn missing(words: &[u64], table: Table) -> bool
-    requires { ⌜ table ≡ countsOf (tableOf (now words)) ⌝ }
-    ensures { λ r. ⌜ r ≡ missing (tableOf (now (words .entry))) ⌝ }
+    requires { ⌜ table ≡ countsOf (rowsOf (now words)) ⌝ }
+    ensures { λ r. ⌜ r ≡ missing (rowsOf (now (words .entry))) ⌝ }
 {
     let rows = size(words);
     let abstract_initialised = some_row(words, Query::Initialises(1), rows);

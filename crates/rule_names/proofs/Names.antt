@@ -6,10 +6,10 @@ use native.Mathlib.Omega.{arith}
 use borrow.Author.Tests.{eq-eqb, ne-eqb}
 use lib.Dec.{eqb}
 use Rattle.lists.proofs.Choice.{chosen, not-chosen}
-use Rattle.table.specs.Table.{Table}
+use Rattle.table.specs.Rows.{Rows}
 use Rattle.rules.specs.Rules.{abstractOrdinaryEvent, goodRefined, ownerEvent, goodOwner}
 
-module _ (t : Table) (i : ℕ) where
+module _ (t : Rows) (i : ℕ) where
   pub refined-ordinary : (eqb (t .a i) 2 && eqb (t .b i) 1) ≡ true → goodRefined t i ≡ abstractOrdinaryEvent t (t .c i)
   refined-ordinary e = chosen (eqb (t .a i) 2 && eqb (t .b i) 1) (abstractOrdinaryEvent t (t .c i)) (eqb (t .c i) 0) e
 

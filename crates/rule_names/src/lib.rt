@@ -9,14 +9,14 @@ use table::event_field;
 use table::named_event;
 use table::tag_at;
 ghost use mathlib.Core.Path.{_≡_};
-ghost use Rattle.table.specs.Table.{tableOf};
+ghost use Rattle.table.specs.Rows.{rowsOf};
 ghost use Rattle.table.specs.Counts.{countsOf};
 ghost use Rattle.rules.specs.Rules.{abstractOrdinaryEvent, goodRefined, outOfOrder, eventOffends, ownerEvent, goodOwner, identifierOffends};
 
 // Whether a number names an abstract ordinary event, which a concrete one may refine.
 fn abstract_ordinary_event(words: &[u64], table: Table, f: u64) -> bool
-    requires { ⌜ table ≡ countsOf (tableOf (now words)) ⌝ }
-    ensures { λ r. ⌜ r ≡ abstractOrdinaryEvent (tableOf (now (words .entry))) f ⌝ }
+    requires { ⌜ table ≡ countsOf (rowsOf (now words)) ⌝ }
+    ensures { λ r. ⌜ r ≡ abstractOrdinaryEvent (rowsOf (now (words .entry))) f ⌝ }
 {
     let machine = event_field(words, table, f, Table::MACHINE);
     let class = event_field(words, table, f, Table::CLASS);
@@ -25,8 +25,8 @@ fn abstract_ordinary_event(words: &[u64], table: Table, f: u64) -> bool
 
 // Whether the refined event of an event's row is right.
 fn good_refined(words: &[u64], table: Table, i: usize) -> bool
-    requires { ⌜ table ≡ countsOf (tableOf (now words)) ⌝ }
-    ensures { λ r. ⌜ r ≡ goodRefined (tableOf (now (words .entry))) i ⌝ }
+    requires { ⌜ table ≡ countsOf (rowsOf (now words)) ⌝ }
+    ensures { λ r. ⌜ r ≡ goodRefined (rowsOf (now (words .entry))) i ⌝ }
 {
     let refined = c_at(words, i);
     if (a_at(words, i) == 2) & (b_at(words, i) == 1) {
@@ -37,7 +37,7 @@ fn good_refined(words: &[u64], table: Table, i: usize) -> bool
 
 // Whether an event stands after one that it must stand before.
 fn out_of_order(words: &[u64], i: usize) -> bool
-    ensures { λ r. ⌜ r ≡ outOfOrder (tableOf (now (words .entry))) i ⌝ }
+    ensures { λ r. ⌜ r ≡ outOfOrder (rowsOf (now (words .entry))) i ⌝ }
 {
     let machine = a_at(words, i);
     let after_concrete = (machine == 1) & some_row(words, Query::Event(2), i);
@@ -46,8 +46,8 @@ fn out_of_order(words: &[u64], i: usize) -> bool
 
 // 5: bad machine, class or refined event, or out of order. Only an event's row is compared with the rows before it.
 pub fn event_offends(words: &[u64], table: Table, i: usize) -> bool
-    requires { ⌜ table ≡ countsOf (tableOf (now words)) ⌝ }
-    ensures { λ r. ⌜ r ≡ eventOffends (tableOf (now (words .entry))) i ⌝ }
+    requires { ⌜ table ≡ countsOf (rowsOf (now words)) ⌝ }
+    ensures { λ r. ⌜ r ≡ eventOffends (rowsOf (now (words .entry))) i ⌝ }
 {
     if tag_at(words, i) != 40 {
         return false;
@@ -62,8 +62,8 @@ pub fn event_offends(words: &[u64], table: Table, i: usize) -> bool
 
 // Whether a number names an event of a machine that may have parameters.
 fn owner_event(words: &[u64], table: Table, machine: u64, e: u64) -> bool
-    requires { ⌜ table ≡ countsOf (tableOf (now words)) ⌝ }
-    ensures { λ r. ⌜ r ≡ ownerEvent (tableOf (now (words .entry))) machine e ⌝ }
+    requires { ⌜ table ≡ countsOf (rowsOf (now words)) ⌝ }
+    ensures { λ r. ⌜ r ≡ ownerEvent (rowsOf (now (words .entry))) machine e ⌝ }
 {
     let owner = event_field(words, table, e, Table::MACHINE);
     let class = event_field(words, table, e, Table::CLASS);
@@ -72,8 +72,8 @@ fn owner_event(words: &[u64], table: Table, machine: u64, e: u64) -> bool
 
 // Whether the owner of an identifier's row is right.
 fn good_owner(words: &[u64], table: Table, i: usize) -> bool
-    requires { ⌜ table ≡ countsOf (tableOf (now words)) ⌝ }
-    ensures { λ r. ⌜ r ≡ goodOwner (tableOf (now (words .entry))) i ⌝ }
+    requires { ⌜ table ≡ countsOf (rowsOf (now words)) ⌝ }
+    ensures { λ r. ⌜ r ≡ goodOwner (rowsOf (now (words .entry))) i ⌝ }
 {
     let kind = a_at(words, i);
     let owner = c_at(words, i);
@@ -88,8 +88,8 @@ fn good_owner(words: &[u64], table: Table, i: usize) -> bool
 
 // 6: bad kind, type or owner.
 pub fn identifier_offends(words: &[u64], table: Table, i: usize) -> bool
-    requires { ⌜ table ≡ countsOf (tableOf (now words)) ⌝ }
-    ensures { λ r. ⌜ r ≡ identifierOffends (tableOf (now (words .entry))) i ⌝ }
+    requires { ⌜ table ≡ countsOf (rowsOf (now words)) ⌝ }
+    ensures { λ r. ⌜ r ≡ identifierOffends (rowsOf (now (words .entry))) i ⌝ }
 {
     let kind = a_at(words, i);
     let sort = b_at(words, i);

@@ -13,7 +13,7 @@ use table::tag_at;
 ghost use mathlib.Core.Path.{_≡_};
 ghost use Prim.Native.Nat.{_+_};
 ghost use lib.Dec.{eqb};
-ghost use Rattle.table.specs.Table.{tableOf};
+ghost use Rattle.table.specs.Rows.{rowsOf};
 ghost use Rattle.table.specs.Counts.{countsOf};
 ghost use Rattle.rules.specs.Sorts.{find, operators, operandCount, namesIdentifier};
 ghost use Rattle.rules.specs.Rules.{earlierNode, namedVariable, goodColumns, guardEvent, actionTarget, witnessTarget, rootAt, namesRoot, goodTarget, referenceOffends};
@@ -105,8 +105,8 @@ pub fn names_identifier(shape: Shape) -> bool
 
 // Whether the row at i may have the node n as an operand: "an earlier node".
 pub fn earlier_node(words: &[u64], table: Table, i: usize, n: u64) -> bool
-    requires { ⌜ table ≡ countsOf (tableOf (now words)) ⌝ }
-    ensures { λ r. ⌜ r ≡ earlierNode (tableOf (now (words .entry))) i n ⌝ }
+    requires { ⌜ table ≡ countsOf (rowsOf (now words)) ⌝ }
+    ensures { λ r. ⌜ r ≡ earlierNode (rowsOf (now (words .entry))) i n ⌝ }
 {
     let row = i as u64;
     let start = table.nodes_start;
@@ -117,8 +117,8 @@ pub fn earlier_node(words: &[u64], table: Table, i: usize, n: u64) -> bool
 }
 
 pub fn named_variable(words: &[u64], table: Table, x: u64) -> bool
-    requires { ⌜ table ≡ countsOf (tableOf (now words)) ⌝ }
-    ensures { λ r. ⌜ r ≡ namedVariable (tableOf (now (words .entry))) x ⌝ }
+    requires { ⌜ table ≡ countsOf (rowsOf (now words)) ⌝ }
+    ensures { λ r. ⌜ r ≡ namedVariable (rowsOf (now (words .entry))) x ⌝ }
 {
     let named = named_identifier(words, table, x);
     let kind = identifier_field(words, table, x, Table::KIND);
@@ -127,8 +127,8 @@ pub fn named_variable(words: &[u64], table: Table, x: u64) -> bool
 
 // Whether the columns of the node at row i fit the shape of its operator.
 fn good_columns(words: &[u64], table: Table, shape: Shape, i: usize) -> bool
-    requires { ⌜ table ≡ countsOf (tableOf (now words)) ⌝ }
-    ensures { λ r. ⌜ r ≡ goodColumns (tableOf (now (words .entry))) (meantShape shape) i ⌝ }
+    requires { ⌜ table ≡ countsOf (rowsOf (now words)) ⌝ }
+    ensures { λ r. ⌜ r ≡ goodColumns (rowsOf (now (words .entry))) (meantShape shape) i ⌝ }
 {
     let b = b_at(words, i);
     let c = c_at(words, i);
@@ -145,8 +145,8 @@ fn good_columns(words: &[u64], table: Table, shape: Shape, i: usize) -> bool
 
 // "guards: class not 0"
 fn guard_event(words: &[u64], table: Table, e: u64) -> bool
-    requires { ⌜ table ≡ countsOf (tableOf (now words)) ⌝ }
-    ensures { λ r. ⌜ r ≡ guardEvent (tableOf (now (words .entry))) e ⌝ }
+    requires { ⌜ table ≡ countsOf (rowsOf (now words)) ⌝ }
+    ensures { λ r. ⌜ r ≡ guardEvent (rowsOf (now (words .entry))) e ⌝ }
 {
     let named = named_event(words, table, e);
     let class = event_field(words, table, e, Table::CLASS);
@@ -165,8 +165,8 @@ pub fn variable_kind(kind: u64, machine: u64) -> bool
 
 // Actions: "event, variable of its machine".
 fn action_target(words: &[u64], table: Table, e: u64, x: u64) -> bool
-    requires { ⌜ table ≡ countsOf (tableOf (now words)) ⌝ }
-    ensures { λ r. ⌜ r ≡ actionTarget (tableOf (now (words .entry))) e x ⌝ }
+    requires { ⌜ table ≡ countsOf (rowsOf (now words)) ⌝ }
+    ensures { λ r. ⌜ r ≡ actionTarget (rowsOf (now (words .entry))) e x ⌝ }
 {
     let event = named_event(words, table, e);
     let identifier = named_identifier(words, table, x);
@@ -178,8 +178,8 @@ fn action_target(words: &[u64], table: Table, e: u64, x: u64) -> bool
 
 // "witnesses: class 0 or 1, with an abstract variable or a parameter of the refined event"
 fn witness_target(words: &[u64], table: Table, e: u64, x: u64) -> bool
-    requires { ⌜ table ≡ countsOf (tableOf (now words)) ⌝ }
-    ensures { λ r. ⌜ r ≡ witnessTarget (tableOf (now (words .entry))) e x ⌝ }
+    requires { ⌜ table ≡ countsOf (rowsOf (now words)) ⌝ }
+    ensures { λ r. ⌜ r ≡ witnessTarget (rowsOf (now (words .entry))) e x ⌝ }
 {
     let event = named_event(words, table, e);
     let machine = event_field(words, table, e, Table::MACHINE);
@@ -194,7 +194,7 @@ fn witness_target(words: &[u64], table: Table, e: u64, x: u64) -> bool
 
 // The root that row i names; 0 where it names none.
 pub fn root_at(words: &[u64], i: usize) -> u64
-    ensures { λ r. ⌜ r ≡ rootAt (tableOf (now (words .entry))) i ⌝ }
+    ensures { λ r. ⌜ r ≡ rootAt (rowsOf (now (words .entry))) i ⌝ }
 {
     let tag = tag_at(words, i);
     if (tag == 30) | ((tag == 31) | ((tag == 32) | (tag == 70))) {
@@ -210,7 +210,7 @@ pub fn root_at(words: &[u64], i: usize) -> u64
 }
 
 pub fn names_root(words: &[u64], i: usize) -> bool
-    ensures { λ r. ⌜ r ≡ namesRoot (tableOf (now (words .entry))) i ⌝ }
+    ensures { λ r. ⌜ r ≡ namesRoot (rowsOf (now (words .entry))) i ⌝ }
 {
     let tag = tag_at(words, i);
     (20 < tag) & !(tag == 40)
@@ -218,8 +218,8 @@ pub fn names_root(words: &[u64], i: usize) -> bool
 
 // Whether the event and the identifier that row i names fit its tag.
 fn good_target(words: &[u64], table: Table, i: usize) -> bool
-    requires { ⌜ table ≡ countsOf (tableOf (now words)) ⌝ }
-    ensures { λ r. ⌜ r ≡ goodTarget (tableOf (now (words .entry))) i ⌝ }
+    requires { ⌜ table ≡ countsOf (rowsOf (now words)) ⌝ }
+    ensures { λ r. ⌜ r ≡ goodTarget (rowsOf (now (words .entry))) i ⌝ }
 {
     let tag = tag_at(words, i);
     let a = a_at(words, i);
@@ -238,8 +238,8 @@ fn good_target(words: &[u64], table: Table, i: usize) -> bool
 
 // Whether row i offends against check 7.
 pub fn reference_offends(words: &[u64], table: Table, i: usize) -> bool
-    requires { ⌜ table ≡ countsOf (tableOf (now words)) ⌝ }
-    ensures { λ r. ⌜ r ≡ referenceOffends (tableOf (now (words .entry))) i ⌝ }
+    requires { ⌜ table ≡ countsOf (rowsOf (now words)) ⌝ }
+    ensures { λ r. ⌜ r ≡ referenceOffends (rowsOf (now (words .entry))) i ⌝ }
 {
     let tag = tag_at(words, i);
     let found = find_operator(a_at(words, i));

@@ -5,7 +5,7 @@ use mathlib.Core.Bool.{Bool, true, _&&_}
 use native.Mathlib.Omega.{arith}
 use Rattle.formula.specs.Tree.{Tree}
 use Rattle.formula.specs.Mentions.{mentions}
-use Rattle.table.specs.Table.{Table, operandNode, operatorOf, leftOf, rightOf}
+use Rattle.table.specs.Rows.{Rows, operandNode, operatorOf, leftOf, rightOf}
 use Rattle.machine.specs.Operator as meaning
 use Rattle.machine.specs.Operator.{Operator, literalOf, identifierOf, afterOf, constantOf, unaryOf, binaryOf, divisionOf, connectiveOf, operatorNumbered}
 use Rattle.machine.specs.Described.{node, treeTo, treeOf}
@@ -41,7 +41,7 @@ module _ (P Q : ℕ → Bool) where
   mentions-node (connectiveOf o) b l r = refl
   mentions-node meaning.unknown b l r = refl
 
-module _ (t : Table) (i : ℕ) where
+module _ (t : Rows) (i : ℕ) where
   pub mention-when : (x tag : ℕ) (r : Bool) → tag ≡ t .tag i → r ≡ seen t tag i x → r ≡ mayMention t i x
   unfolding mayMention
   mention-when x tag r e h = subst (λ k. r ≡ seen t k i x) e h

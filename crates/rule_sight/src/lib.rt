@@ -13,15 +13,15 @@ use table::node_field;
 use table::operand;
 use table::tag_at;
 ghost use mathlib.Core.Path.{_≡_};
-ghost use Rattle.table.specs.Table.{tableOf};
+ghost use Rattle.table.specs.Rows.{rowsOf};
 ghost use Rattle.table.specs.Counts.{countsOf};
 ghost use Rattle.rules.specs.Sight.{eventSees, mayMention, mayMentionAfter, seesOnly};
 ghost use Rattle.rules.specs.Rules.{sightOffends};
 
 // "guard and action, constants, the event's own parameters and its machine's variables"; an initialisation mentions no present variable value.
 fn event_sees(words: &[u64], table: Table, e: u64, x: u64) -> bool
-    requires { ⌜ table ≡ countsOf (tableOf (now words)) ⌝ }
-    ensures { λ r. ⌜ r ≡ eventSees (tableOf (now (words .entry))) e x ⌝ }
+    requires { ⌜ table ≡ countsOf (rowsOf (now words)) ⌝ }
+    ensures { λ r. ⌜ r ≡ eventSees (rowsOf (now (words .entry))) e x ⌝ }
 {
     let kind = identifier_field(words, table, x, Table::KIND);
     let owner = identifier_field(words, table, x, Table::OWNER);
@@ -33,8 +33,8 @@ fn event_sees(words: &[u64], table: Table, e: u64, x: u64) -> bool
 
 // Whether the formula of row i may mention the identifier x.
 fn may_mention(words: &[u64], table: Table, i: usize, x: u64) -> bool
-    requires { ⌜ table ≡ countsOf (tableOf (now words)) ⌝ }
-    ensures { λ r. ⌜ r ≡ mayMention (tableOf (now (words .entry))) i x ⌝ }
+    requires { ⌜ table ≡ countsOf (rowsOf (now words)) ⌝ }
+    ensures { λ r. ⌜ r ≡ mayMention (rowsOf (now (words .entry))) i x ⌝ }
 {
     let kind = identifier_field(words, table, x, Table::KIND);
     let event = event_sees(words, table, a_at(words, i), x);
@@ -61,8 +61,8 @@ fn may_mention(words: &[u64], table: Table, i: usize, x: u64) -> bool
 // Whether the formula of row i may mention the after value of x: "52 also the after value it sets", a variable witness "concrete after values, and its own
 // after value".
 fn may_mention_after(words: &[u64], table: Table, i: usize, x: u64) -> bool
-    requires { ⌜ table ≡ countsOf (tableOf (now words)) ⌝ }
-    ensures { λ r. ⌜ r ≡ mayMentionAfter (tableOf (now (words .entry))) i x ⌝ }
+    requires { ⌜ table ≡ countsOf (rowsOf (now words)) ⌝ }
+    ensures { λ r. ⌜ r ≡ mayMentionAfter (rowsOf (now (words .entry))) i x ⌝ }
 {
     let b = b_at(words, i);
     let kind = identifier_field(words, table, x, Table::KIND);
@@ -79,8 +79,8 @@ fn may_mention_after(words: &[u64], table: Table, i: usize, x: u64) -> bool
 
 // Whether the tree of the node n mentions only what the formula of row i may.
 fn sees_only(words: &[u64], table: Table, i: usize, n: u64) -> bool
-    requires { ⌜ table ≡ countsOf (tableOf (now words)) ⌝ }
-    ensures { λ r. ⌜ r ≡ seesOnly (tableOf (now (words .entry))) i n ⌝ }
+    requires { ⌜ table ≡ countsOf (rowsOf (now words)) ⌝ }
+    ensures { λ r. ⌜ r ≡ seesOnly (rowsOf (now (words .entry))) i n ⌝ }
 {
     if n == 0 {
         return true;
@@ -103,8 +103,8 @@ fn sees_only(words: &[u64], table: Table, i: usize, n: u64) -> bool
 
 // Whether row i offends against check 10.
 pub fn sight_offends(words: &[u64], table: Table, i: usize) -> bool
-    requires { ⌜ table ≡ countsOf (tableOf (now words)) ⌝ }
-    ensures { λ r. ⌜ r ≡ sightOffends (tableOf (now (words .entry))) i ⌝ }
+    requires { ⌜ table ≡ countsOf (rowsOf (now words)) ⌝ }
+    ensures { λ r. ⌜ r ≡ sightOffends (rowsOf (now (words .entry))) i ⌝ }
 {
     let names = names_root(words, i);
     let sees = sees_only(words, table, i, root_at(words, i));

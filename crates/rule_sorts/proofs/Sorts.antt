@@ -9,14 +9,14 @@ use native.Mathlib.Decide.{decLt}
 use lib.Dec.{eqb, ltb}
 use lib.ListN.{length, List·getD-eq-default}
 use borrow.Author.Tests.{ne-eqb, eqb-false}
-use Rattle.lists.specs.Rows.{oneIf}
-use Rattle.table.specs.Table.{Table, tableOf, tagged, isAction, typeOf, operatorOf, leftOf}
+use Rattle.lists.specs.Below.{oneIf}
+use Rattle.table.specs.Rows.{Rows, rowsOf, tagged, isAction, typeOf, operatorOf, leftOf}
 use Rattle.rules.specs.Sorts.{shapeOf, resultSort, operandSort, operandCount, namesIdentifier, sortOf, fitting}
 use Rattle.rules.specs.Rules.{goodOperands, rootAt, namesRoot, rootSort, usesAt, usesTo}
 use Rattle.rules.proofs.Sorts.{rootSortOf}
 use Rattle.rule_sorts.specs.Uses.{mayUse}
 
-module _ (t : Table) where
+module _ (t : Rows) where
   pub sort-when : (n r : ℕ) (b : Bool) → b ≡ namesIdentifier (shapeOf (operatorOf t n))
       → r ≡ elim b [ true ↦ typeOf t (leftOf t n) | false ↦ resultSort (operatorOf t n) ] → r ≡ sortOf t n
   unfolding sortOf
@@ -87,7 +87,7 @@ module _ (t : Table) where
   uses-next n i = rw add-one
 
 -- a row with a tag other than 0 is one of the words
-pub tag-inside : (ws : List ℕ) (i tag : ℕ) → tag ≡ tableOf ws .tag i → (tag ≡ 0 → ⊥) → 4 * i < length ws
+pub tag-inside : (ws : List ℕ) (i tag : ℕ) → tag ≡ rowsOf ws .tag i → (tag ≡ 0 → ⊥) → 4 * i < length ws
 tag-inside ws i tag e f = go (decLt (4 * i) (length ws))
   where
     go : Dec (4 * i < length ws) → 4 * i < length ws

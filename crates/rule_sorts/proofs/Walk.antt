@@ -6,7 +6,7 @@ use native.Mathlib.Omega.{arith}
 use native.Mathlib.Nat.{sub-zero}
 use native.Mathlib.Numerals.{add-one}
 use Rattle.lists.specs.Choice.{pick}
-use Rattle.lists.specs.Rows.{first}
+use Rattle.lists.specs.Below.{first}
 use Rattle.lists.proofs.First.{first-here, first-next, first-end}
 use Rattle.rule_sorts.specs.Walk.{firstBefore}
 

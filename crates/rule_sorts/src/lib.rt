@@ -17,7 +17,7 @@ use table::size;
 use table::tag_at;
 ghost use mathlib.Core.Path.{_≡_};
 ghost use Prim.Native.Nat.{_≤_, _<_};
-ghost use Rattle.table.specs.Table.{tableOf};
+ghost use Rattle.table.specs.Rows.{rowsOf};
 ghost use Rattle.table.specs.Counts.{countsOf};
 ghost use Rattle.rules.specs.Sorts.{sortOf, fitting};
 ghost use Rattle.rules.specs.Verdict.{firstRow};
@@ -28,8 +28,8 @@ ghost use Rattle.rules.specs.Rules.{goodOperands, rootSort, sortOffends, usesAt
 
 // The sort of a node, from its operator, whatever its operands are.
 pub fn sort_of(words: &[u64], table: Table, n: u64) -> u64
-    requires { ⌜ table ≡ countsOf (tableOf (now words)) ⌝ }
-    ensures { λ r. ⌜ r ≡ sortOf (tableOf (now (words .entry))) n ⌝ }
+    requires { ⌜ table ≡ countsOf (rowsOf (now words)) ⌝ }
+    ensures { λ r. ⌜ r ≡ sortOf (rowsOf (now (words .entry))) n ⌝ }
 {
     let left = node_field(words, table, n, Table::LEFT);
     let found = find_operator(node_field(words, table, n, Table::OPERATOR));
@@ -42,8 +42,8 @@ pub fn sort_of(words: &[u64], table: Table, n: u64) -> u64
 
 // Whether an operand has the wanted sort, 0 for either type.
 fn operand_fits(words: &[u64], table: Table, wanted: u64, n: u64) -> bool
-    requires { ⌜ table ≡ countsOf (tableOf (now words)) ⌝ }
-    ensures { λ r. ⌜ r ≡ fitting (tableOf (now (words .entry))) wanted n ⌝ }
+    requires { ⌜ table ≡ countsOf (rowsOf (now words)) ⌝ }
+    ensures { λ r. ⌜ r ≡ fitting (rowsOf (now (words .entry))) wanted n ⌝ }
 {
     let sort = sort_of(words, table, n);
     if wanted == 0 {
@@ -54,8 +54,8 @@ fn operand_fits(words: &[u64], table: Table, wanted: u64, n: u64) -> bool
 
 // Whether the operands of the node at row i, so many, have the sorts that its operator wants.
 fn good_operands(words: &[u64], table: Table, count: u64, i: usize) -> bool
-    requires { ⌜ table ≡ countsOf (tableOf (now words)) ⌝ }
-    ensures { λ r. ⌜ r ≡ goodOperands (tableOf (now (words .entry))) count i ⌝ }
+    requires { ⌜ table ≡ countsOf (rowsOf (now words)) ⌝ }
+    ensures { λ r. ⌜ r ≡ goodOperands (rowsOf (now (words .entry))) count i ⌝ }
 {
     let number = a_at(words, i);
     let b = b_at(words, i);
@@ -76,8 +76,8 @@ fn good_operands(words: &[u64], table: Table, count: u64, i: usize) -> bool
 
 // "Roots are predicates, but 51 takes the variable's type and 70 an integer."
 fn root_sort(words: &[u64], table: Table, i: usize) -> u64
-    requires { ⌜ table ≡ countsOf (tableOf (now words)) ⌝ }
-    ensures { λ r. ⌜ r ≡ rootSort (tableOf (now (words .entry))) i ⌝ }
+    requires { ⌜ table ≡ countsOf (rowsOf (now words)) ⌝ }
+    ensures { λ r. ⌜ r ≡ rootSort (rowsOf (now (words .entry))) i ⌝ }
 {
     let tag = tag_at(words, i);
     if tag == 51 {
@@ -91,8 +91,8 @@ fn root_sort(words: &[u64], table: Table, i: usize) -> u64
 
 // Whether row i offends against check 8.
 pub fn sort_offends(words: &[u64], table: Table, i: usize) -> bool
-    requires { ⌜ table ≡ countsOf (tableOf (now words)) ⌝ }
-    ensures { λ r. ⌜ r ≡ sortOffends (tableOf (now (words .entry))) i ⌝ }
+    requires { ⌜ table ≡ countsOf (rowsOf (now words)) ⌝ }
+    ensures { λ r. ⌜ r ≡ sortOffends (rowsOf (now (words .entry))) i ⌝ }
 {
     let tag = tag_at(words, i);
     let found = find_operator(a_at(words, i));
@@ -106,7 +106,7 @@ pub fn sort_offends(words: &[u64], table: Table, i: usize) -> bool
 
 // Whether row i is of a predicate: a node of an operator from 20 on, or a row whose root is a predicate.
 fn of_predicate(words: &[u64], i: usize) -> bool
-    ensures { λ r. ⌜ r ≡ ofPredicate (tableOf (now (words .entry))) i ⌝ }
+    ensures { λ r. ⌜ r ≡ ofPredicate (rowsOf (now (words .entry))) i ⌝ }
 {
     let tag = tag_at(words, i);
     if tag == 20 {
@@ -125,8 +125,8 @@ fn fault_or(offends: bool, row: usize, found: usize) -> usize
 // The first row before row i that offends against check 8, or `found`. Judges the row before i if it is of an expression, and hands it to
 // `first_predicate` if it is of a predicate; so the node number falls, and no operand is followed.
 fn first_expression(words: &[u64], table: Table, i: usize, found: usize) -> usize
-    requires { ⌜ table ≡ countsOf (tableOf (now words)) ⌝ }
-    ensures { λ r. ⌜ r ≡ firstBefore (sortOffends (tableOf (now (words .entry)))) i found ⌝ }
+    requires { ⌜ table ≡ countsOf (rowsOf (now words)) ⌝ }
+    ensures { λ r. ⌜ r ≡ firstBefore (sortOffends (rowsOf (now (words .entry)))) i found ⌝ }
 {
     if i == 0 {
         return found;
@@ -145,8 +145,8 @@ fn first_expression(words: &[u64], table: Table, i: usize, found: usize) -> usiz
 
 // The same, judging the row before i as a predicate's.
 fn first_predicate(words: &[u64], table: Table, i: usize, found: usize) -> usize
-    requires { ⌜ table ≡ countsOf (tableOf (now words)) ⌝ }
-    ensures { λ r. ⌜ r ≡ firstBefore (sortOffends (tableOf (now (words .entry)))) i found ⌝ }
+    requires { ⌜ table ≡ countsOf (rowsOf (now words)) ⌝ }
+    ensures { λ r. ⌜ r ≡ firstBefore (sortOffends (rowsOf (now (words .entry)))) i found ⌝ }
 {
     if i == 0 {
         return found;
@@ -162,8 +162,8 @@ fn first_predicate(words: &[u64], table: Table, i: usize, found: usize) -> usize
 
 // The first row that offends against check 8, or the number of rows.
 pub fn first_unsorted(words: &[u64], table: Table) -> usize
-    requires { ⌜ table ≡ countsOf (tableOf (now words)) ⌝ }
-    ensures { λ r. ⌜ r ≡ firstRow (tableOf (now (words .entry))) 8 ⌝ }
+    requires { ⌜ table ≡ countsOf (rowsOf (now words)) ⌝ }
+    ensures { λ r. ⌜ r ≡ firstRow (rowsOf (now (words .entry))) 8 ⌝ }
 {
     let rows = size(words);
     first_expression(words, table, rows, rows)
@@ -171,8 +171,8 @@ pub fn first_unsorted(words: &[u64], table: Table) -> usize
 
 // Whether row i may use the node n: a column holds n, or n is 0. Most rows are passed over by this.
 fn may_use(words: &[u64], n: u64, i: usize) -> bool
-    requires { ⌜ i < tableOf (now words) .size ⌝ }
-    ensures { λ r. ⌜ r ≡ mayUse (tableOf (now (words .entry))) n i ⌝ }
+    requires { ⌜ i < rowsOf (now words) .size ⌝ }
+    ensures { λ r. ⌜ r ≡ mayUse (rowsOf (now (words .entry))) n i ⌝ }
 {
     let a = words[4 * i + 1];
     let b = words[4 * i + 2];
@@ -182,8 +182,8 @@ fn may_use(words: &[u64], n: u64, i: usize) -> bool
 
 // How often the row at i uses the node n, as an operand or a root.
 fn uses_at(words: &[u64], n: u64, i: usize) -> u64
-    requires { ⌜ i < tableOf (now words) .size ⌝ }
-    ensures { λ r. ⌜ r ≡ usesAt (tableOf (now (words .entry))) n i ⌝ }
+    requires { ⌜ i < rowsOf (now words) .size ⌝ }
+    ensures { λ r. ⌜ r ≡ usesAt (rowsOf (now (words .entry))) n i ⌝ }
     ensures { λ r. ⌜ r ≤ 2 ⌝ }
 {
     if !may_use(words, n, i) {
@@ -205,7 +205,7 @@ fn uses_at(words: &[u64], n: u64, i: usize) -> u64
 
 // How often all rows use the node n.
 fn uses(words: &[u64], n: u64) -> u64
-    ensures { λ r. ⌜ r ≡ usesTo (tableOf (now (words .entry))) n (tableOf (now (words .entry)) .size) ⌝ }
+    ensures { λ r. ⌜ r ≡ usesTo (rowsOf (now (words .entry))) n (rowsOf (now (words .entry)) .size) ⌝ }
 {
     let rows = size(words);
     let mut count = 0;
@@ -219,8 +219,8 @@ fn uses(words: &[u64], n: u64) -> u64
 
 // Whether row i offends against check 9.
 pub fn use_offends(words: &[u64], table: Table, i: usize) -> bool
-    requires { ⌜ table ≡ countsOf (tableOf (now words)) ⌝ }
-    ensures { λ r. ⌜ r ≡ useOffends (tableOf (now (words .entry))) i ⌝ }
+    requires { ⌜ table ≡ countsOf (rowsOf (now words)) ⌝ }
+    ensures { λ r. ⌜ r ≡ useOffends (rowsOf (now (words .entry))) i ⌝ }
 {
     let tag = tag_at(words, i);
     if tag == 20 {

@@ -4,7 +4,7 @@ use mathlib.Core.Path.{_≡_, refl, ap, sym}
 use mathlib.Core.List.{List, [], _∷_}
 use borrow.Author.Tests.{ne-eqb}
 use Rattle.lists.proofs.Range.{values, range-same}
-use Rattle.rules.specs.Tags.{Tag, tags, find, columnsUsed, mostRows}
+use Rattle.rules.specs.Tags.{Tag, tags, tagNumbered, columnsUsed, mostRows}
 
 abbrev pub Limited : ℕ → ℕ → ℕ → Type 0
 Limited columns most x = (columns ≡ columnsUsed x) × (most ≡ mostRows x)
@@ -17,9 +17,9 @@ abbrev pub NoneOf : ℕ → List Tag → Type 0
 NoneOf x [] = Unit {0}
 NoneOf x (t ∷ ts) = (t .tag ≡ x → ⊥) × NoneOf x ts
 
-find-none : (ts : List Tag) (x : ℕ) → NoneOf x ts → find ts x ≡ find [] x
+find-none : (ts : List Tag) (x : ℕ) → NoneOf x ts → tagNumbered ts x ≡ tagNumbered [] x
 find-none [] x h = refl
-find-none (t ∷ ts) x h = rw (ne-eqb (t .tag) x (h .0), find) (find-none ts x (h .1))
+find-none (t ∷ ts) x h = rw (ne-eqb (t .tag) x (h .0), tagNumbered) (find-none ts x (h .1))
 
 pub limits-unknown : (x : ℕ) → NoneOf x tags → Limited 0 0 x
 unfolding columnsUsed mostRows

@@ -11,7 +11,7 @@ ghost use mathlib.Core.Path.{_≡_};
 ghost use mathlib.Core.Bool.{_&&_};
 ghost use Prim.Native.Nat.{_-_, _≤_};
 ghost use lib.Dec.{ltb};
-ghost use Rattle.table.specs.Table.{tableOf};
+ghost use Rattle.table.specs.Rows.{rowsOf};
 ghost use Rattle.rules.specs.Tags.{columnsUsed, mostRows};
 ghost use Rattle.rules.specs.Rules.{tagOffends, fullOffends, twiceOffends};
 
@@ -77,7 +77,7 @@ fn tag_limits(tag: u64) -> Limits
 
 // Whether a row's tag is lower than that of the row before it.
 fn falls(words: &[u64], i: usize) -> bool
-    ensures { λ r. ⌜ r ≡ ltb 0 i && ltb (tableOf (now (words .entry)) .tag i) (tableOf (now (words .entry)) .tag (i - 1)) ⌝ }
+    ensures { λ r. ⌜ r ≡ ltb 0 i && ltb (rowsOf (now (words .entry)) .tag i) (rowsOf (now (words .entry)) .tag (i - 1)) ⌝ }
 {
     if i == 0 {
         return false;
@@ -87,7 +87,7 @@ fn falls(words: &[u64], i: usize) -> bool
 
 // 3: an unknown tag, a falling one, or a number in a column that the tag does not use.
 pub fn tag_offends(words: &[u64], i: usize) -> bool
-    ensures { λ r. ⌜ r ≡ tagOffends (tableOf (now (words .entry))) i ⌝ }
+    ensures { λ r. ⌜ r ≡ tagOffends (rowsOf (now (words .entry))) i ⌝ }
 {
     let used = tag_limits(tag_at(words, i)).columns;
     let beyond = ((used < 2) & (b_at(words, i) != 0)) | ((used < 3) & (c_at(words, i) != 0));
@@ -96,7 +96,7 @@ pub fn tag_offends(words: &[u64], i: usize) -> bool
 
 // 4: as many rows before it as its tag may have.
 pub fn full_offends(words: &[u64], i: usize) -> bool
-    ensures { λ r. ⌜ r ≡ fullOffends (tableOf (now (words .entry))) i ⌝ }
+    ensures { λ r. ⌜ r ≡ fullOffends (rowsOf (now (words .entry))) i ⌝ }
 {
     let tag = tag_at(words, i);
     tag_limits(tag).most <= count_rows(words, Query::CountedWith(tag), i)
@@ -104,7 +104,7 @@ pub fn full_offends(words: &[u64], i: usize) -> bool
 
 // 11: an action or a witness whose event and target an earlier one has. No other row is compared with the rows before it.
 pub fn twice_offends(words: &[u64], i: usize) -> bool
-    ensures { λ r. ⌜ r ≡ twiceOffends (tableOf (now (words .entry))) i ⌝ }
+    ensures { λ r. ⌜ r ≡ twiceOffends (rowsOf (now (words .entry))) i ⌝ }
 {
     let tag = tag_at(words, i);
     if !(((tag == 51) | (tag == 52)) | (tag == 60)) {

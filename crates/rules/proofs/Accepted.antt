@@ -10,9 +10,9 @@ use native.Mathlib.Numerals.{add-one}
 use borrow.Author.Tests.{ltb-true, ltb-false, lt-ltb}
 use lib.Dec.{ltb}
 use lib.ListN.{length}
-use Rattle.lists.specs.Rows.{first}
+use Rattle.lists.specs.Below.{first}
 use Rattle.lists.proofs.First.{Least, first-least, least-at-most}
-use Rattle.table.specs.Table.{Table}
+use Rattle.table.specs.Rows.{Rows}
 use Rattle.machine.specs.Described.{machineOf}
 use Rattle.sequent.specs.Listed.{sequents}
 use Rattle.rules.specs.declared.Verdict.{Verdict}
@@ -61,7 +61,7 @@ module _ (bytes : List ℕ) where
         only c r (lack e) = inl (omega arith)
 
     module _ (rows : (i : ℕ) → i < rowCount bytes → notRow (lineOf bytes i) ≡ false) where
-      abbrev t : Table
+      abbrev t : Rows
       t = decoded bytes
 
       first-row : (check k : ℕ) → Least (λ c. ltb (firstRow t c) (t .size)) 9 3 check → check < 12 → Least (offends t check) (t .size) 0 k → k < t .size
@@ -105,7 +105,7 @@ module _ (bytes : List ℕ) where
   unfolding firstCheck
   judged f rows e = go (ltb check 12) refl (missing t′) refl
     where
-      t′ : Table
+      t′ : Rows
       t′ = decoded bytes
 
       check : ℕ

@@ -7,10 +7,10 @@ use native.Mathlib.Omega.{arith}
 use borrow.Author.Tests.{lt-ltb, le-ltb}
 use lib.Dec.{ltb}
 use lib.ListN.{length}
-use Rattle.lists.specs.Rows.{first}
+use Rattle.lists.specs.Below.{first}
 use Rattle.lists.proofs.Choice.{chosen, not-chosen}
 use Rattle.lists.proofs.First.{first-least}
-use Rattle.table.specs.Table.{Table}
+use Rattle.table.specs.Rows.{Rows}
 use Rattle.machine.specs.Described.{machineOf}
 use Rattle.sequent.specs.Listed.{sequents}
 use Rattle.rules.specs.declared.Verdict.the-variants.{Accepted, Refused}
@@ -18,7 +18,7 @@ use Rattle.rules.specs.Decoded.{framed, rowCount, lineOf, notRow, decode
 use Rattle.rules.specs.Rules.{offends, missing}
 use Rattle.rules.specs.Verdict.{firstRow, firstCheck, judge, verdict}
 
-module _ (t : Table) where
+module _ (t : Rows) where
   pub judge-row : firstCheck t < 12 → judge t ≡ Refused (firstCheck t) (firstRow t (firstCheck t) + 1)
   unfolding judge
   judge-row h = chosen (ltb (firstCheck t) 12) _ _ (lt-ltb (firstCheck t) 12 h)

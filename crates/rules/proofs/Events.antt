@@ -6,10 +6,10 @@ use mathlib.Core.Bool.{false, not, _&&_}
 use mathlib.Core.Logic.{_⊎_, inl, inr}
 use native.Mathlib.Omega.{arith}
 use lib.Dec.{T, ltb, eqb, eqb→eq, ltb→lt}
-use Rattle.lists.specs.Rows.{someBelow}
-use Rattle.lists.proofs.Rows.{some-found, some-shown}
+use Rattle.lists.specs.Below.{someBelow}
+use Rattle.lists.proofs.Below.{some-found, some-shown}
 use Rattle.formula.proofs.Truth.{eq→eqb, and-split, and-join, or-cases, or-neither, and-not-right, false-refutes, rule-met, test-false, choice-true}
-use Rattle.table.specs.Table.{Table, tagged, start, named, rowOf, numberIn, machineNumber, classOf, refinedBy}
+use Rattle.table.specs.Rows.{Rows, tagged, start, named, rowOf, numberIn, machineNumber, classOf, refinedBy}
 use Rattle.table.proofs.Sections.{bounds-named, named-row, row-named, row-of-number, tagged-place, place-tagged}
 use Rattle.machine.specs.Machine.{Role}
 use Rattle.machine.specs.Described.{roleNumbered}
@@ -20,16 +20,16 @@ use Rattle.rules.proofs.Obeys.{Obeys}
 use Rattle.rules.proofs.Tags.{tagged-test, tags-rising}
 
 -- the parts of the check, of a row
-record GoodEvent (t : Table) (i : ℕ) : Type 0 where
+record GoodEvent (t : Rows) (i : ℕ) : Type 0 where
   numbers : EventNumbers (t .a i) (t .b i)
   refined : T (goodRefined t i)
   ordered : outOfOrder t i ≡ false
 
 -- an initialisation's row
-abbrev InitialRow : Table → ℕ → ℕ → Type 0
+abbrev InitialRow : Rows → ℕ → ℕ → Type 0
 InitialRow t machine i = (i < t .size) × (t .tag i ≡ 40) × (t .a i ≡ machine) × (t .b i ≡ 0)
 
-module _ (t : Table) (ok : Obeys t) where
+module _ (t : Rows) (ok : Obeys t) where
   event-row : (i : ℕ) → i < t .size → t .tag i ≡ 40 → GoodEvent t i
   unfolding eventOffends
   event-row i h e =

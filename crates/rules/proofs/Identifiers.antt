@@ -5,7 +5,7 @@ use mathlib.Core.Bool.{Bool, true, false, not, _&&_, _||_}
 use native.Mathlib.Omega.{arith}
 use lib.Dec.{T, leb, eqb, eqb→eq}
 use Rattle.formula.proofs.Truth.{and-split, or-cases, rule-met}
-use Rattle.table.specs.Table.{Table, tagged, named, rowOf, kindOf, typeOf, ownerOf, machineNumber, classOf}
+use Rattle.table.specs.Rows.{Rows, tagged, named, rowOf, kindOf, typeOf, ownerOf, machineNumber, classOf}
 use Rattle.table.proofs.Sections.{named-row}
 use Rattle.rules.specs.Sight.{hasKind, ownParameter}
 use Rattle.rules.specs.Rules.{ownerEvent, goodOwner, identifierOffends}
@@ -16,7 +16,7 @@ use Rattle.rules.proofs.Tags.{tagged-test, tags-rising}
 abbrev pub isType : ℕ → Bool
 isType s = eqb s 1 || eqb s 2
 
-module _ (t : Table) (ok : Obeys t) where
+module _ (t : Rows) (ok : Obeys t) where
   identifier-row : (x : ℕ) → T (named t 10 x) → T (isType (typeOf t x)) × T (goodOwner t (rowOf t 10 x))
   unfolding identifierOffends
   identifier-row x h =

@@ -4,10 +4,10 @@ use Prim.Native.Nat.{ℕ, _+_, _<_}
 use mathlib.Core.Path.{_≡_, subst₂}
 use mathlib.Core.Bool.{Bool, true, false, not, _&&_, _||_, Bool·beq}
 use lib.Dec.{T, eqb, eqb→eq, not-T}
-use Rattle.lists.specs.Rows.{someBelow}
-use Rattle.lists.proofs.Rows.{some-found, some-shown}
+use Rattle.lists.specs.Below.{someBelow}
+use Rattle.lists.proofs.Below.{some-found, some-shown}
 use Rattle.formula.proofs.Truth.{eq→eqb, and-join, or-left, or-neither, not-false-test, false-refutes}
-use Rattle.table.specs.Table.{Table, tagged, named, rowOf, numberIn, kindOf, machineNumber, classOf}
+use Rattle.table.specs.Rows.{Rows, tagged, named, rowOf, numberIn, kindOf, machineNumber, classOf}
 use Rattle.table.proofs.Sections.{named-row, number-of-row}
 use Rattle.rules.specs.Rules.{initialises, assigned, lacksAction, lacksWitness, eventLacks, convergentEvent, missing}
 use Rattle.rules.proofs.Obeys.{Obeys}
@@ -19,13 +19,13 @@ same-truth true false h p = h
 same-truth false b h p = absurd p
 
 -- the parts of the check
-pub record NothingMissing (t : Table) : Type 0 where
+pub record NothingMissing (t : Rows) : Type 0 where
   pub abstractInitialised : T (someBelow (initialises t 1) (t .size))
   pub concreteInitialised : T (someBelow (initialises t 2) (t .size))
   pub nothingLacking : someBelow (eventLacks t) (t .size) ≡ false
   pub variantWithConvergent : T (Bool·beq (someBelow (convergentEvent t) (t .size)) (someBelow (tagged t 70) (t .size)))
 
-module _ (t : Table) (ok : Obeys t) where
+module _ (t : Rows) (ok : Obeys t) where
   abbrev some : (ℕ → Bool) → Bool
   some P = someBelow P (t .size)
 

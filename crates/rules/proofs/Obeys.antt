@@ -2,10 +2,10 @@
 use Prim.Native.Nat.{ℕ, _<_}
 use mathlib.Core.Path.{_≡_}
 use mathlib.Core.Bool.{false}
-use Rattle.table.specs.Table.{Table}
+use Rattle.table.specs.Rows.{Rows}
 use Rattle.rules.specs.Rules.{tagOffends, fullOffends, eventOffends, identifierOffends, referenceOffends, sortOffends, useOffends, sightOffends, twiceOffends, missing}
 
-pub record Obeys (t : Table) : Type 0 where
+pub record Obeys (t : Rows) : Type 0 where
   pub tags : (i : ℕ) → i < t .size → tagOffends t i ≡ false
   pub full : (i : ℕ) → i < t .size → fullOffends t i ≡ false
   pub events : (i : ℕ) → i < t .size → eventOffends t i ≡ false

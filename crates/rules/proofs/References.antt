@@ -7,7 +7,7 @@ use lib.Dec.{T, ltb, leb, eqb, leb→le, ltb→lt}
 use Rattle.formula.specs.Tree.{bottom, Tree, constant}
 use Rattle.formula.specs.Mentions.{mentions}
 use Rattle.formula.proofs.Truth.{and-split, and-join, or-neither, rule-met}
-use Rattle.table.specs.Table.{Table, tagged, count, named, rowOf, numberIn, operatorOf, leftOf, rightOf}
+use Rattle.table.specs.Rows.{Rows, tagged, count, named, rowOf, numberIn, operatorOf, leftOf, rightOf}
 use Rattle.table.proofs.Sections.{named-bounds, bounds-named, named-row, number-of-row}
 use Rattle.machine.specs.Operator as meaning
 use Rattle.machine.specs.Operator.{Operator, literalOf, identifierOf, afterOf, constantOf, unaryOf, binaryOf, divisionOf, connectiveOf, operatorNumbered}
@@ -29,7 +29,7 @@ formulaTag k = eqb k 30 || (eqb k 31 || (eqb k 32 || eqb k 70))
 abbrev actionTag : ℕ → Bool
 actionTag k = eqb k 51 || eqb k 52
 
-module _ (t : Table) where
+module _ (t : Rows) where
   -- the root that a row of a tag names: in column a of axioms, invariants and the variant, b of guards, c of actions and witnesses
   abbrev pub rootOf : ℕ → ℕ → ℕ
   rootOf k i =

@@ -10,7 +10,7 @@ use Rattle.lists.specs.All.{In}
 use Rattle.lists.specs.Distinct.{Distinct}
 use Rattle.lists.proofs.All.{in-nil, in-unmap, in-either, in-unflat}
 use Rattle.lists.proofs.Distinct.{pairwise-join, pairwise-imp, pairwise-flat, distinct-map, numbers-from, numbers-distinct}
-use Rattle.table.specs.Table.{Table, section, count}
+use Rattle.table.specs.Rows.{Rows, section, count}
 use Rattle.table.proofs.Sections.{section-row, section-distinct}
 use Rattle.machine.specs.Machine.{Witness}
 use Rattle.machine.specs.Described.{actionOf, belonging, machineOf}
@@ -25,7 +25,7 @@ use Rattle.rules.proofs.Twice.{witness-once}
 use Rattle.rules.proofs.Uses.{root-once}
 
 -- the row i has a tag from lo to below hi and names the root r
-record RootRow (t : Table) (lo hi r i : ℕ) : Type 0 where
+record RootRow (t : Rows) (lo hi r i : ℕ) : Type 0 where
   inside : i < t .size
   low : lo ≤ t .tag i
   high : t .tag i < hi
@@ -33,11 +33,11 @@ record RootRow (t : Table) (lo hi r i : ℕ) : Type 0 where
   root : rootAt t i ≡ r
 
 -- distinct roots, each named by a row with a tag from lo to below hi
-record Roots (t : Table) (lo hi : ℕ) (rs : List ℕ) : Type 0 where
+record Roots (t : Rows) (lo hi : ℕ) (rs : List ℕ) : Type 0 where
   apart : Distinct rs
   rows : (r : ℕ) → In r rs → (i : ℕ) × RootRow t lo hi r i
 
-module _ (t : Table) (ok : Obeys t) where
+module _ (t : Rows) (ok : Obeys t) where
   rootRow : {lo hi r : ℕ} (k i : ℕ) → T (rootTag k) → (lo ≤ k) × (k < hi) → i < t .size → t .tag i ≡ k → r ≡ rootOf t k i → RootRow t lo hi r i
   rootRow k i tag bounds h e p = record {
     inside = h;
@@ -105,7 +105,7 @@ module _ (t : Table) (ok : Obeys t) where
       apart-by-variable : {x y r q : ℕ} → ¬ (x ≡ y) → ActionRow x r → ActionRow y q → r ≡ q → ⊥
       apart-by-variable different (i, h, p) (j, k, s) same = different (sym p ∙ ap (t .b) (same-row h k same) ∙ s)
 
-pub obeys-separate : (t : Table) → Obeys t → Separate (machineOf t)
+pub obeys-separate : (t : Rows) → Obeys t → Separate (machineOf t)
 unfolding machineOf
 obeys-separate t ok = record {
   formulaRoots = formula-roots .apart;

@@ -6,14 +6,14 @@ use lib.Dec.{T, eqb}
 use Rattle.formula.specs.Mentions.{mentions}
 use Rattle.formula.proofs.Mentions.{mentions-and}
 use Rattle.formula.proofs.Truth.{rule-met}
-use Rattle.table.specs.Table.{Table, named}
+use Rattle.table.specs.Rows.{Rows, named}
 use Rattle.machine.specs.Described.{treeOf}
 use Rattle.rules.specs.Sight.{hasKind, eventSees, mayMention, mayMentionAfter, seesOnly}
 use Rattle.rules.specs.Rules.{namedVariable, namesRoot, rootAt, sightOffends}
 use Rattle.rules.proofs.Obeys.{Obeys}
 use Rattle.rules.proofs.References.{rootTag, rootOf, names-root, root-row, tree-named}
 
-module _ (t : Table) where
+module _ (t : Rows) where
   -- what the formula of a row of a tag may mention
   abbrev pub seen : ℕ → ℕ → ℕ → Bool
   seen k i x =

@@ -9,7 +9,7 @@ use Rattle.formula.specs.Values.{ValueType}
 use Rattle.formula.specs.Tree.{Tree}
 use Rattle.formula.specs.Sort.{treeType}
 use Rattle.formula.proofs.Truth.{or-cases, or-neither, rule-met}
-use Rattle.table.specs.Table.{Table, tagged, typeOf, operatorOf, leftOf}
+use Rattle.table.specs.Rows.{Rows, tagged, typeOf, operatorOf, leftOf}
 use Rattle.machine.specs.Operator as meaning
 use Rattle.machine.specs.Operator.{Operator, literalOf, identifierOf, afterOf, constantOf, unaryOf, binaryOf, divisionOf, connectiveOf, operatorNumbered}
 use Rattle.machine.specs.Described.{typeNumbered, node, treeTo, treeOf}
@@ -28,7 +28,7 @@ sort-numbered s h = or-cases (eqb s 1) (eqb s 2) h (λ e. same 1 (eqb→eq s 1 e
     same : (n : ℕ) → s ≡ n → sortType n ≡ typeNumbered n → sortType s ≡ typeNumbered s
     same n e q = subst (λ x. sortType x ≡ typeNumbered x) (sym e) q
 
-module _ (t : Table) where
+module _ (t : Rows) where
   abbrev types : ℕ → ValueType
   types x = typeNumbered (typeOf t x)
 

@@ -6,13 +6,13 @@ use native.Mathlib.Omega.{arith}
 use lib.Dec.{T, ltb, eqb, lt→ltb}
 use borrow.Author.Tests.{ltb-false}
 use Rattle.formula.proofs.Truth.{eq→eqb, or-neither, and-not-right}
-use Rattle.table.specs.Table.{Table, tagged}
+use Rattle.table.specs.Rows.{Rows, tagged}
 use Rattle.table.proofs.Sections.{Rising, neighbours-rising}
 use Rattle.rules.specs.Tags.{columnsUsed}
 use Rattle.rules.specs.Rules.{tagOffends}
 use Rattle.rules.proofs.Obeys.{Obeys}
 
-module _ (t : Table) where
+module _ (t : Rows) where
   pub tagged-test : (k i : ℕ) → t .tag i ≡ k → T (tagged t k i)
   tagged-test k i e = eq→eqb (t .tag i) k e
 

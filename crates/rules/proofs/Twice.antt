@@ -5,15 +5,15 @@ use mathlib.Core.Bool.{_&&_, _||_}
 use native.Mathlib.Omega.{arith}
 use native.Mathlib.Decide.{decLt}
 use lib.Dec.{eqb}
-use Rattle.lists.proofs.Rows.{some-shown}
-use Rattle.lists.specs.Rows.{someBelow}
+use Rattle.lists.proofs.Below.{some-shown}
+use Rattle.lists.specs.Below.{someBelow}
 use Rattle.formula.proofs.Truth.{eq→eqb, and-join, or-right, false-refutes}
-use Rattle.table.specs.Table.{Table, tagged, isAction}
+use Rattle.table.specs.Rows.{Rows, tagged, isAction}
 use Rattle.rules.specs.Rules.{sameTarget, twiceOffends}
 use Rattle.rules.proofs.Obeys.{Obeys}
 use Rattle.rules.proofs.Tags.{tagged-test}
 
-module _ (t : Table) (ok : Obeys t) where
+module _ (t : Rows) (ok : Obeys t) where
   none-before : (i j : ℕ) → i < t .size → t .tag i ≡ 60 → t .tag j ≡ 60 → t .a j ≡ t .a i → t .b j ≡ t .b i → j < i → ⊥
   unfolding twiceOffends
   none-before i j h p q a b l =

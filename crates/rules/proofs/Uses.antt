@@ -7,16 +7,16 @@ use native.Mathlib.Omega.{arith}
 use native.Mathlib.Nat.{eq-or-lt-of-le}
 use lib.Dec.{T, ltb, eqb, eqb-refl, eqb→eq, ltb→lt}
 use borrow.Author.Tests.{ne-eqb}
-use Rattle.lists.proofs.Rows.{one-where}
+use Rattle.lists.proofs.Below.{one-where}
 use Rattle.formula.proofs.Truth.{and-split, and-join, rule-met}
-use Rattle.table.specs.Table.{Table, tagged, named, rowOf, numberIn}
+use Rattle.table.specs.Rows.{Rows, tagged, named, rowOf, numberIn}
 use Rattle.table.proofs.Sections.{named-row, number-of-row}
 use Rattle.rules.specs.Rules.{rootAt, namesRoot, usesAt, usesTo, useOffends}
 use Rattle.rules.proofs.Obeys.{Obeys}
 use Rattle.rules.proofs.References.{root-row}
 use Rattle.rules.proofs.Tags.{tagged-test, tags-rising}
 
-module _ (t : Table) where
+module _ (t : Rows) where
   -- the uses at one row, and at two, are among the uses at all
   uses-one : (n m i : ℕ) → i < m → usesAt t n i ≤ usesTo t n m
   unfolding usesTo

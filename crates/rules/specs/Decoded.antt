@@ -4,11 +4,11 @@ use mathlib.Core.Bool.{Bool, true, false, _&&_}
 use mathlib.Core.List.{List, [], _∷_, flatMap}
 use lib.Dec.{leb, eqb}
 use lib.ListN.{length}
-use Rattle.lists.specs.Rows.{numbers}
+use Rattle.lists.specs.Below.{numbers}
 use Rattle.row.specs.Row.{greatest, width, rowLength, part, lineAt}
 use Rattle.row.specs.declared.Line.{Line}
 use Rattle.row.specs.declared.Line.the-variants as line
-use Rattle.table.specs.Table.{Table, tableOf}
+use Rattle.table.specs.Rows.{Rows, rowsOf}
 
 -- 01, refusal 1, frame: "over 65,536 bytes or not whole rows"
 abbrev pub framed : List ℕ → Bool
@@ -33,5 +33,5 @@ lineWords line.Malformed = []
 unfoldable pub wordsOf : List ℕ → List ℕ
 wordsOf bytes = flatMap (λ i. lineWords (lineOf bytes i)) (numbers (rowCount bytes) 0)
 
-abbrev pub decoded : List ℕ → Table
-decoded bytes = tableOf (wordsOf bytes)
+abbrev pub decoded : List ℕ → Rows
+decoded bytes = rowsOf (wordsOf bytes)

@@ -2,13 +2,13 @@
 use Prim.Native.Nat.{ℕ, zero, suc, _+_, _-_}
 use mathlib.Core.Bool.{Bool, true, false, not, _&&_, _||_, Bool·beq}
 use lib.Dec.{ltb, leb, eqb}
-use Rattle.lists.specs.Rows.{oneIf, countBelow, someBelow}
-use Rattle.table.specs.Table.{Table, tagged, count, named, rowOf, numberIn, isAction, kindOf, typeOf, ownerOf, machineNumber, classOf, refinedBy}
+use Rattle.lists.specs.Below.{oneIf, countBelow, someBelow}
+use Rattle.table.specs.Rows.{Rows, tagged, count, named, rowOf, numberIn, isAction, kindOf, typeOf, ownerOf, machineNumber, classOf, refinedBy}
 use Rattle.rules.specs.Tags.{columnsUsed, mostRows}
 use Rattle.rules.specs.Sorts.{Shape, value, anIdentifier, aVariable, none, one, two, unknown, shapeOf, operandSort, operandCount, sortOf, fitting}
 use Rattle.rules.specs.Sight.{hasKind, seesOnly}
 
-module _ (t : Table) where
+module _ (t : Rows) where
   -- 3 tag: "unknown, falling, or unused column not 0"
   unfoldable pub tagOffends : ℕ → Bool
   tagOffends i =

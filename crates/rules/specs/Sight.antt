@@ -3,10 +3,10 @@ use Prim.Native.Nat.{ℕ, _+_}
 use mathlib.Core.Bool.{Bool, true, false, not, _&&_, _||_}
 use lib.Dec.{eqb}
 use Rattle.formula.specs.Mentions.{mentions}
-use Rattle.table.specs.Table.{Table, tagged, isAction, kindOf, ownerOf, machineNumber, classOf}
+use Rattle.table.specs.Rows.{Rows, tagged, isAction, kindOf, ownerOf, machineNumber, classOf}
 use Rattle.machine.specs.Described.{treeOf}
 
-module _ (t : Table) where
+module _ (t : Rows) where
   abbrev pub hasKind : ℕ → ℕ → Bool
   hasKind k x = eqb (kindOf t x) k
 

@@ -3,7 +3,7 @@ use Prim.Native.Nat.{ℕ}
 use mathlib.Core.Bool.{Bool, true, false, _&&_, _||_}
 use mathlib.Core.List.{List, [], _∷_}
 use lib.Dec.{eqb, leb}
-use Rattle.table.specs.Table.{Table, operatorOf, leftOf, typeOf}
+use Rattle.table.specs.Rows.{Rows, operatorOf, leftOf, typeOf}
 
 -- How an operator uses its columns b and c: a literal's value, an identifier, a variable, none, one operand, two operands.
 pub data Shape : Type 0 where
@@ -61,7 +61,7 @@ operandCount one = 1
 operandCount two = 2
 operandCount unknown = 0
 
-module _ (t : Table) where
+module _ (t : Rows) where
   -- the sort of a node, from its operator, whatever its operands are
   unfoldable pub sortOf : ℕ → ℕ
   sortOf n = elim (namesIdentifier (shapeOf (operatorOf t n))) [ true ↦ typeOf t (leftOf t n) | false ↦ resultSort (operatorOf t n) ]

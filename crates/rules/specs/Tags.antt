@@ -19,12 +19,12 @@ tags =
     is 10 3 64 ∷ is 20 3 512 ∷ is 30 1 16 ∷ is 31 1 16 ∷ is 32 1 16 ∷ is 40 3 32 ∷ is 50 2 64 ∷ is 51 3 128 ∷ is 52 3 128 ∷ is 60 3 128 ∷ is 70 1 1 ∷ []
 
 -- an unknown tag uses no column and has no row
-abbrev pub find : List Tag → ℕ → Tag
-find [] n = is n 0 0
-find (t ∷ ts) n = elim (eqb (t .tag) n) [ true ↦ t | false ↦ find ts n ]
+abbrev pub tagNumbered : List Tag → ℕ → Tag
+tagNumbered [] n = is n 0 0
+tagNumbered (t ∷ ts) n = elim (eqb (t .tag) n) [ true ↦ t | false ↦ tagNumbered ts n ]
 
 unfoldable pub columnsUsed : ℕ → ℕ
-columnsUsed n = find tags n .columns
+columnsUsed n = tagNumbered tags n .columns
 
 unfoldable pub mostRows : ℕ → ℕ
-mostRows n = find tags n .most
+mostRows n = tagNumbered tags n .most

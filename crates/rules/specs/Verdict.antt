@@ -6,8 +6,8 @@ use mathlib.Core.List.{List}
 use mathlib.Core.Logic.{_⊎_}
 use lib.Dec.{ltb}
 use lib.ListN.{length}
-use Rattle.lists.specs.Rows.{first}
-use Rattle.table.specs.Table.{Table}
+use Rattle.lists.specs.Below.{first}
+use Rattle.table.specs.Rows.{Rows}
 use Rattle.machine.specs.Machine.{Machine}
 use Rattle.machine.specs.Described.{machineOf}
 use Rattle.sequent.specs.Listed.{sequents}
@@ -17,14 +17,14 @@ use Rattle.rules.specs.Decoded.{framed, rowCount, lineOf, notRow, decode
 use Rattle.rules.specs.Rules.{offends, missing}
 
 -- the first row that offends against a check, or the table's size
-abbrev pub firstRow : Table → ℕ → ℕ
+abbrev pub firstRow : Rows → ℕ → ℕ
 firstRow t check = first (offends t check) (t .size) 0
 
 -- the first check from 3 to 11 against which a row offends, or 12
-unfoldable pub firstCheck : Table → ℕ
+unfoldable pub firstCheck : Rows → ℕ
 firstCheck t = first (λ check. ltb (firstRow t check) (t .size)) 9 3
 
-unfoldable pub judge : Table → Verdict
+unfoldable pub judge : Rows → Verdict
 judge t =
     let check = firstCheck t in
     elim (ltb check 12) [

@@ -9,7 +9,7 @@ use lib.Dec.{T, eqb, eqb→eq}
 use borrow.Author.Tests.{eqb-false}
 use Rattle.lists.specs.All.{In, here, there}
 use Rattle.lists.proofs.All.{all-in, all-map, in-nil, in-cons, in-map, in-unmap, in-none}
-use Rattle.table.specs.Table.{Table, named, section, kindOf, typeOf, machineNumber, classOf, refinedBy}
+use Rattle.table.specs.Rows.{Rows, named, section, kindOf, typeOf, machineNumber, classOf, refinedBy}
 use Rattle.table.proofs.Sections.{section-row, row-section, named-bounds}
 use Rattle.formula.specs.Values.{integer}
 use Rattle.formula.specs.Sort.{treeType}
@@ -45,7 +45,7 @@ witness-root (v ∷ vs) w i once = go (eqb (v .target) (w .target)) refl (in-con
     go false q (inl e) rest = absurd (eqb-false (v .target) (w .target) q (ap (λ u. u .target) (sym e)))
     go false q (inr j) rest = rest j
 
-module _ (t : Table) where
+module _ (t : Rows) where
   -- the parts of the machine that `machineOf` gives, by name
   abbrev witnessAt : ℕ → Witness
   witnessAt i = record { target = t .b i; root = t .c i }
@@ -63,7 +63,7 @@ module _ (t : Table) where
   abbrev EventSays : ℕ → Role → Type 0
   EventSays e ro = RoleSays (machineNumber t e) (classOf t e) (refinedBy t e) ro
 
-module _ (t : Table) (ok : Obeys t) where
+module _ (t : Rows) (ok : Obeys t) where
   -- the variant is an integer
   variant-type : (i : ℕ) → i < t .size → t .tag i ≡ 70 → treeType (λ x. typeNumbered (typeOf t x)) (treeOf t (t .a i)) ≡ integer
   unfolding typeNumbered
@@ -128,7 +128,7 @@ module _ (t : Table) (ok : Obeys t) where
   unfolding roleNumbered
   initialisation-there = let r = concrete-initialisation t ok in (r .0, 1, r .1, role-is t (r .0) 2 0 (r .2) (r .3))
 
-pub accepted-well-formed : (t : Table) → Obeys t → WellFormed (machineOf t)
+pub accepted-well-formed : (t : Rows) → Obeys t → WellFormed (machineOf t)
 unfolding machineOf kindNumbered
 accepted-well-formed t ok = record {
   axiomsSee = (let S = kinds true false false false false in formulas-see t ok 30 S tt (λ i. refl) (λ i x s. kind-seen t S 1 x tt s) (λ i x s. s));

@@ -9,8 +9,8 @@ use native.Mathlib.Omega.{arith}
 use lib.Dec.{T, ltb, eqb, eqb→eq, not-T}
 use Rattle.lists.specs.All.{All, In}
 use Rattle.lists.proofs.All.{all-in, all-map}
-use Rattle.lists.proofs.Rows.{some-found}
-use Rattle.table.specs.Table.{Table, named, section, kindOf, typeOf, ownerOf, machineNumber, classOf, refinedBy}
+use Rattle.lists.proofs.Below.{some-found}
+use Rattle.table.specs.Rows.{Rows, named, section, kindOf, typeOf, ownerOf, machineNumber, classOf, refinedBy}
 use Rattle.table.proofs.Sections.{section-row, named-bounds}
 use Rattle.formula.specs.Mentions.{mentions}
 use Rattle.formula.specs.Sort.{treeType}
@@ -57,7 +57,7 @@ constant-seen (concreteInitialisation f) = tt
 constant-seen (refining f) = tt
 constant-seen convergent = tt
 
-module _ (t : Table) where
+module _ (t : Rows) where
   abbrev kindIn : ℕ → Kind
   kindIn x = kindNumbered (kindOf t x)
 

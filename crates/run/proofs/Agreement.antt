@@ -13,7 +13,7 @@ use Rattle.formula.specs.Mentions.{mentions}
 use Rattle.formula.proofs.Mentions.{Agree, evaluate-agree, read-agree}
 use Rattle.machine.specs.Machine.{Kind, Action, unassigned, becomesEqual, becomesSuchThat, Machine}
 use Rattle.sequent.specs.Entry.{actionTree}
-use Rattle.run.specs.Run.{Defined, AllRead, NoneUndefined, ActionDefined}
+use Rattle.run.specs.Run.{Defined, AllReadTrue, NoneUndefined, ActionDefined}
 use Rattle.run.proofs.WellFormed.{never, ActionSees}
 use Rattle.run.proofs.Reading.{AllTrue}
 
@@ -31,7 +31,7 @@ module _ (m : Machine) {P Q : ℕ → Bool} (ρ σ : Env (m .type)) (h : Agree P
   pub defined-agree : (r : ℕ) → T (mentions P Q (m .tree r)) → Defined m ρ r → Defined m σ r
   defined-agree r s d = (d .0, sym (read-agree ρ σ h (m .tree r) s) ∙ d .1)
 
-  pub all-read-agree : {rs : List ℕ} → AllSeen rs → AllRead m ρ rs → AllRead m σ rs
+  pub all-read-agree : {rs : List ℕ} → AllSeen rs → AllReadTrue m ρ rs → AllReadTrue m σ rs
   all-read-agree all-nil ts = all-nil
   all-read-agree (all-cons {x = r} s ss) ts = all-cons (sym (read-agree ρ σ h (m .tree r) s) ∙ all-head ts) (all-read-agree ss (all-tail ts))
 

@@ -17,7 +17,7 @@ use Rattle.machine.specs.Machine.{Action, unassigned, becomesEqual, becomesSuch
 use Rattle.sequent.specs.Entry.{Entry, written, actionTree}
 use Rattle.sequent.specs.Sequent.{Meets, Valid}
 use Rattle.sequent.specs.Listed.{inOrder, actionWD}
-use Rattle.run.specs.Run.{Defined, AllRead, NoneUndefined, Allows, ActionDefined}
+use Rattle.run.specs.Run.{Defined, AllReadTrue, NoneUndefined, Allows, ActionDefined}
 
 wrap-injective : (t : ValueType) (u v : Value t) → wrap t u ≡ wrap t v → u ≡ v
 wrap-injective t u v e = sym (as-value-wrap t u) ∙ ap (asValue t) e ∙ as-value-wrap t v
@@ -27,7 +27,7 @@ module _ (m : Machine) (ρ : Env (m .type)) where
   abbrev pub AllTrue : List ℕ → Type 0
   AllTrue rs = All (λ r. True ρ (m .tree r)) rs
 
-  pub all-read-true : {rs : List ℕ} → AllRead m ρ rs → AllTrue rs
+  pub all-read-true : {rs : List ℕ} → AllReadTrue m ρ rs → AllTrue rs
   all-read-true h = all-imp (λ r. reads-true ρ (m .tree r)) h
 
   pub well-defined-defined : (r : ℕ) → True ρ (wellDefined (m .tree r)) → Defined m ρ r
@@ -49,7 +49,7 @@ module _ (m : Machine) (ρ : Env (m .type)) where
     λ t. in-order-defined e (hs ++ (written r ∷ [])) rs (all-tail v) (all-join h (all-cons (reads-true ρ (m .tree r) t) all-nil)),
   )
 
-  pub in-order-read : (e : ℕ) (hs : List Entry) (rs : List ℕ) → All (Valid m) (inOrder e hs rs) → All (Meets m ρ) hs → AllTrue rs → AllRead m ρ rs
+  pub in-order-read : (e : ℕ) (hs : List Entry) (rs : List ℕ) → All (Valid m) (inOrder e hs rs) → All (Meets m ρ) hs → AllTrue rs → AllReadTrue m ρ rs
   unfolding inOrder Valid
   in-order-read e hs [] v h ts = all-nil
   in-order-read e hs (r ∷ rs) v h ts =

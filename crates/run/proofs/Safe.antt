@@ -10,7 +10,7 @@ use Rattle.machine.specs.Machine.{Machine, abstractInitialisation, concreteInit
 use Rattle.sequent.specs.Entry.{written}
 use Rattle.sequent.specs.Sequent.{Valid}
 use Rattle.sequent.specs.Listed.{sequents}
-use Rattle.run.specs.Run.{State, blank, view, AllRead, Taken, Follows, Match}
+use Rattle.run.specs.Run.{State, blank, view, AllReadTrue, Taken, Follows, Match}
 use Rattle.run.specs.SafeRun.{EventSafe, stretch, Bounded, Along, RunsSafe, Safe}
 use Rattle.run.proofs.WellFormed.{WellFormed}
 use Rattle.run.proofs.Reading.{all-read-true}
@@ -31,7 +31,7 @@ module _ (m : Machine) (wf : WellFormed m) (vs : All (Valid m) (sequents m)) whe
       (n .match ∷ r .0, (pair-safe m wf vs c a k h, b, n .matches, r .1), b)
 
   from-initialisation : (e f : ℕ) → In e (m .events) → m .role e ≡ concreteInitialisation f → (c : State m)
-      → AllRead m (pairOf m c (blank m) (blank m)) (m .axioms) → RunsSafe m c e f
+      → AllReadTrue m (pairOf m c (blank m) (blank m)) (m .axioms) → RunsSafe m c e f
   from-initialisation e f i role c x =
       let z : State m = blank m in
       let (j, abstract, free, _, _) = wf .initialises e f i role in
@@ -43,7 +43,7 @@ module _ (m : Machine) (wf : WellFormed m) (vs : All (Valid m) (sequents m)) whe
         concreteStart = concrete;
         abstractStart = event-safe m abstractInitialisation f (event-sees m wf f j abstract) (events-valid m vs f j abstract) c z z z
             (λ n. all-map written (axioms-world m wf c axioms z z z z n n));
-        outcome = concrete .successor (subst (AllRead m (view m (concreteInitialisation f) c z z z)) (sym free) all-nil);
+        outcome = concrete .successor (subst (AllReadTrue m (view m (concreteInitialisation f) c z z z)) (sym free) all-nil);
         runs = λ k s ss fo.
             let (a, h, t) = initialisation-matched m wf vs e f i role c k axioms s in
             let (ts, l, _) = steps-matched c ss a k h fo in

@@ -54,22 +54,22 @@ module _ (m : Machine) where
   abbrev pub Defined : Env (m .type) → ℕ → Type 0
   Defined ρ r = (v : AnyValue) × (readTree ρ (m .tree r) ≡ some v)
 
-  abbrev pub Reads : Env (m .type) → ℕ → Type 0
-  Reads ρ r = readTree ρ (m .tree r) ≡ some (truth true)
+  abbrev pub ReadsTrue : Env (m .type) → ℕ → Type 0
+  ReadsTrue ρ r = readTree ρ (m .tree r) ≡ some (truth true)
 
-  abbrev pub AllRead : Env (m .type) → List ℕ → Type 0
-  AllRead ρ rs = All (Reads ρ) rs
+  abbrev pub AllReadTrue : Env (m .type) → List ℕ → Type 0
+  AllReadTrue ρ rs = All (ReadsTrue ρ) rs
 
   -- "read in table order, each only where those of its sort before it are true": no undefined term is reached
   abbrev pub NoneUndefined : Env (m .type) → List ℕ → Type 0
   NoneUndefined ρ [] = Unit {0}
-  NoneUndefined ρ (r ∷ rs) = Defined ρ r × (Reads ρ r → NoneUndefined ρ rs)
+  NoneUndefined ρ (r ∷ rs) = Defined ρ r × (ReadsTrue ρ r → NoneUndefined ρ rs)
 
   -- "Assigned variables get an after value allowed by their action, the others keep theirs."
   abbrev pub Allows : Env (m .type) → ℕ → Action → Type 0
   Allows ρ x unassigned = ρ .after x ≡ ρ .present x
   Allows ρ x (becomesEqual r) = readTree ρ (m .tree r) ≡ some (wrap (m .type x) (ρ .after x))
-  Allows ρ x (becomesSuchThat r) = Reads ρ r
+  Allows ρ x (becomesSuchThat r) = ReadsTrue ρ r
 
   abbrev pub ActionDefined : Env (m .type) → Action → Type 0
   ActionDefined ρ unassigned = Unit {0}
@@ -78,7 +78,7 @@ module _ (m : Machine) where
 
   -- "Parameter values that make every guard true enable the event"
   abbrev pub Enabled : Role → ℕ → State → State → State → Type 0
-  Enabled ro e c s p = AllRead (view ro c s p blank) (m .guards e)
+  Enabled ro e c s p = AllReadTrue (view ro c s p blank) (m .guards e)
 
   -- "A step needs parameter values that make every guard true", and each variable's action allows its after value
   pub record Step (ro : Role) (e : ℕ) (c s p s′ : State) : Type 0 where

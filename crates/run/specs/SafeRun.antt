@@ -11,7 +11,7 @@ use Rattle.formula.specs.Values.{number, atMostℤ}
 use Rattle.formula.specs.Evaluate.{readTree}
 use Rattle.machine.specs.Machine.{Role, abstractInitialisation, abstractOrdinary, concreteInitialisation, refining, convergent, Machine}
 use Rattle.sequent.specs.Listed.{variables}
-use Rattle.run.specs.Run.{State, blank, world, view, Defined, AllRead, NoneUndefined, ActionDefined, Enabled, Step, Taken, Follows, Match, Matches}
+use Rattle.run.specs.Run.{State, blank, world, view, Defined, AllReadTrue, NoneUndefined, ActionDefined, Enabled, Step, Taken, Follows, Match, Matches}
 
 -- "every unbroken stretch of one or more convergent steps has at most as many steps as the variant's value before it plus one"
 abbrev pub withinBound : ℕ → ℤ → Bool
@@ -42,7 +42,7 @@ module _ (m : Machine) where
 
   -- a matched pair of states: "every invariant of both machines is true", the variant is defined, and every event is safe there
   pub record PairSafe (c a k : State m) : Type 0 where
-    pub invariants : AllRead m (world m c a k (blank m) (blank m) (blank m) (blank m)) (m .abstractInvariants ++ m .concreteInvariants)
+    pub invariants : AllReadTrue m (world m c a k (blank m) (blank m) (blank m) (blank m)) (m .abstractInvariants ++ m .concreteInvariants)
     pub variant : All (Defined m (world m c (blank m) k (blank m) (blank m) (blank m) (blank m))) (m .variants)
     pub events : (e : ℕ) → In e (m .events) → T (notInitial (m .role e)) → (p : State m) → EventSafe (m .role e) e c (ownState (m .role e) a k) p
 
@@ -85,4 +85,4 @@ module _ (m : Machine) where
     pub initialisation : (e : ℕ) × (f : ℕ) × In e (m .events) × (m .role e ≡ concreteInitialisation f)
     pub safe : (e f : ℕ) → In e (m .events) → m .role e ≡ concreteInitialisation f
         → (In f (m .events) × (m .role f ≡ abstractInitialisation))
-        × ((c : State m) → AllRead m (world m c (blank m) (blank m) (blank m) (blank m) (blank m) (blank m)) (m .axioms) → RunsSafe c e f)
+        × ((c : State m) → AllReadTrue m (world m c (blank m) (blank m) (blank m) (blank m) (blank m) (blank m)) (m .axioms) → RunsSafe c e f)

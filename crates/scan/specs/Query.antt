@@ -2,7 +2,7 @@
 use Prim.Native.Nat.{ℕ}
 use mathlib.Core.Bool.{Bool, cond, _&&_, _||_}
 use lib.Dec.{eqb}
-use Rattle.table.specs.Table.{Table}
+use Rattle.table.specs.Rows.{Rows}
 use Rattle.scan.specs.declared.Query.{Query}
 use Rattle.scan.specs.declared.Query.the-variants.{CountedWith, Event, SameTarget, Initialises, Assigns, Witnesses, Convergent, Tagged}
 
@@ -42,5 +42,5 @@ highestTag Convergent = 40
 highestTag (Tagged k) = k
 
 -- the row j of a table passes
-abbrev pub passesOf : Table → Query → ℕ → Bool
+abbrev pub passesOf : Rows → Query → ℕ → Bool
 passesOf t query j = holds query (t .tag j) (t .a j) (t .b j)

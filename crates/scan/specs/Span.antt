@@ -2,7 +2,7 @@
 use Prim.Native.Nat.{ℕ, zero, suc, _≤_, _<_}
 use mathlib.Core.Path.{_≡_}
 use mathlib.Core.Bool.{Bool, true, false}
-use Rattle.lists.specs.Rows.{first}
+use Rattle.lists.specs.Below.{first}
 use Rattle.scan.specs.declared.Span.{Span}
 
 -- one more than the last number below n that passes, or 0

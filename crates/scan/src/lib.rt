@@ -5,8 +5,8 @@ use table::one_if;
 use table::size;
 use table::tag_at;
 ghost use mathlib.Core.Path.{_≡_};
-ghost use Rattle.lists.specs.Rows.{countBelow, someBelow, first};
-ghost use Rattle.table.specs.Table.{tableOf};
+ghost use Rattle.lists.specs.Below.{countBelow, someBelow, first};
+ghost use Rattle.table.specs.Rows.{rowsOf};
 ghost use mathlib.Core.Bool.{cond};
 ghost use lib.Dec.{eqb};
 ghost use Rattle.scan.specs.Query.{holds, lowestTag, highestTag, passesOf};
@@ -107,7 +107,7 @@ fn highest_tag(query: Query) -> u64
 // Whether row i passes, by its tag alone where that is not between the lowest and the highest, as of most rows.
 fn passes_at(words: &[u64], query: Query, low: u64, high: u64, i: usize) -> bool
     requires { ⌜ (low ≡ lowestTag query) × (high ≡ highestTag query) ⌝ }
-    ensures { λ r. ⌜ r ≡ passesOf (tableOf (now (words .entry))) query i ⌝ }
+    ensures { λ r. ⌜ r ≡ passesOf (rowsOf (now (words .entry))) query i ⌝ }
 {
     let tag = tag_at(words, i);
     if !((low <= tag) & (tag <= high)) {
@@ -118,7 +118,7 @@ fn passes_at(words: &[u64], query: Query, low: u64, high: u64, i: usize) -> bool
 
 // How many of the rows before row n pass.
 pub fn count_rows(words: &[u64], query: Query, n: usize) -> u64
-    ensures { λ r. ⌜ r ≡ countBelow (passesOf (tableOf (now (words .entry))) query) n ⌝ }
+    ensures { λ r. ⌜ r ≡ countBelow (passesOf (rowsOf (now (words .entry))) query) n ⌝ }
 {
     let low = lowest_tag(query);
     let high = highest_tag(query);
@@ -133,7 +133,7 @@ pub fn count_rows(words: &[u64], query: Query, n: usize) -> u64
 
 // Whether one of them passes.
 pub fn some_row(words: &[u64], query: Query, n: usize) -> bool
-    ensures { λ r. ⌜ r ≡ someBelow (passesOf (tableOf (now (words .entry))) query) n ⌝ }
+    ensures { λ r. ⌜ r ≡ someBelow (passesOf (rowsOf (now (words .entry))) query) n ⌝ }
 {
     0 < count_rows(words, query, n)
 }
@@ -146,7 +146,7 @@ pub struct Span {
 
 // One more than the last row that passes, or 0.
 fn past_last(words: &[u64], query: Query) -> usize
-    ensures { λ r. ⌜ r ≡ pastLast (passesOf (tableOf (now (words .entry))) query) (tableOf (now (words .entry)) .size) ⌝ }
+    ensures { λ r. ⌜ r ≡ pastLast (passesOf (rowsOf (now (words .entry))) query) (rowsOf (now (words .entry)) .size) ⌝ }
 {
     let mut i = size(words);
     while 0 < i {
@@ -166,7 +166,7 @@ fn past_last(words: &[u64], query: Query) -> usize
 
 // From the first row that passes to the last.
 pub fn span_of(words: &[u64], query: Query) -> Span
-    ensures { λ r. ⌜ r ≡ spanOf (passesOf (tableOf (now (words .entry))) query) (tableOf (now (words .entry)) .size) ⌝ }
+    ensures { λ r. ⌜ r ≡ spanOf (passesOf (rowsOf (now (words .entry))) query) (rowsOf (now (words .entry)) .size) ⌝ }
 {
     Span {
         from: find_row(words, query),
@@ -176,8 +176,8 @@ pub fn span_of(words: &[u64], query: Query) -> Span
 
 // The first row that passes, or the number of rows, where all that pass are known to stand in a span.
 pub fn find_within(words: &[u64], query: Query, span: Span) -> usize
-    requires { ⌜ Spans (passesOf (tableOf (now words)) query) (tableOf (now words) .size) span ⌝ }
-    ensures { λ r. ⌜ r ≡ first (passesOf (tableOf (now (words .entry))) query) (tableOf (now (words .entry)) .size) 0 ⌝ }
+    requires { ⌜ Spans (passesOf (rowsOf (now words)) query) (rowsOf (now words) .size) span ⌝ }
+    ensures { λ r. ⌜ r ≡ first (passesOf (rowsOf (now (words .entry))) query) (rowsOf (now (words .entry)) .size) 0 ⌝ }
 {
     let mut i = span.from;
     while i < span.to {
@@ -191,7 +191,7 @@ pub fn find_within(words: &[u64], query: Query, span: Span) -> usize
 
 // The first row that passes, or the number of rows.
 pub fn find_row(words: &[u64], query: Query) -> usize
-    ensures { λ r. ⌜ r ≡ first (passesOf (tableOf (now (words .entry))) query) (tableOf (now (words .entry)) .size) 0 ⌝ }
+    ensures { λ r. ⌜ r ≡ first (passesOf (rowsOf (now (words .entry))) query) (rowsOf (now (words .entry)) .size) 0 ⌝ }
 {
     let all = Span {
         from: 0,

@@ -8,9 +8,9 @@ use native.Mathlib.Omega.{arith}
 use native.Mathlib.Numerals.{add-one}
 use lib.Dec.{eqb}
 use lib.ListN.{getD}
-use Rattle.lists.specs.Rows.{sumBelow}
+use Rattle.lists.specs.Below.{sumBelow}
 use Rattle.lists.proofs.Flat.{sum-reaches, sum-at-most, flat-at}
-use Rattle.table.specs.Table.{Table, count}
+use Rattle.table.specs.Rows.{Rows, count}
 use Rattle.table.proofs.Sections.{Rising}
 use Rattle.machine.specs.Described.{machineOf}
 use Rattle.sequent.specs.Sequent.{Sequent}
@@ -18,7 +18,7 @@ use Rattle.sequent.specs.Listed.{sequents}
 use Rattle.sequent.specs.Walk.{groups, makes, made, slot, slotCount, groupSlots, eventSlots, walk, groupCount, eventCount, walkCount, walkTo}
 use Rattle.sequent.proofs.Walk.{slot-count, group-length, event-length, walked}
 
-module _ (t : Table) where
+module _ (t : Rows) where
   -- the steps of the walk: from the start, to the next row, past the last row to the next group, past the last group to the next event, to the end
   pub walk-start : walkTo t 0 0 0 ≡ 0
   unfolding walkTo sumBelow

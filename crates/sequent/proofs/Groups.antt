@@ -9,11 +9,11 @@ use native.Mathlib.Numerals.{add-one}
 use lib.Dec.{ltb, leb, eqb}
 use lib.ListN.{getD}
 use borrow.Author.Tests.{eqb-true, ne-eqb}
-use Rattle.lists.specs.Rows.{numbers, keep}
-use Rattle.lists.proofs.Rows.{count-at-most}
+use Rattle.lists.specs.Below.{numbers, keep}
+use Rattle.lists.proofs.Below.{count-at-most}
 use Rattle.lists.proofs.Flat.{cond-and, flat-none, flat-keep, flat-one, flat-map, flat-ext, flat-when, flat-single, flat-kept, map-kept, flat-below}
 use Rattle.lists.proofs.Flat.{keep-keep, keep-next, numbers-suc}
-use Rattle.table.specs.Table.{Table, tagged, section, count, kindOf, machineNumber, classOf, refinedBy}
+use Rattle.table.specs.Rows.{Rows, tagged, section, count, kindOf, machineNumber, classOf, refinedBy}
 use Rattle.machine.specs.Machine.{Action, unassigned, becomesEqual, becomesSuchThat}
 use Rattle.machine.specs.Machine.{Role, abstractInitialisation, abstractOrdinary, concreteInitialisation, refining, convergent}
 use Rattle.machine.specs.Described.{roleNumbered, actionOf, belonging, identifiersOf, machineOf}
@@ -83,7 +83,7 @@ module _ (e : ℕ) (hs : List Entry) (P : ℕ → Bool) (root : ℕ → ℕ) whe
   unfolding numbers keep
   in-order-rows n = ap (λ gs. inOrder e gs (map root (keep P (numbers n 0)))) (sym (append-nil hs)) ∙ in-order-from n 0
 
-module _ (t : Table) where
+module _ (t : Rows) where
   abbrev rows : List ℕ
   rows = numbers (t .size) 0
 

@@ -10,10 +10,10 @@ use native.Mathlib.Decide.{ℕ-discrete}
 use lib.Dec.{leb, eqb}
 use lib.ListN.{length, getD, length-map}
 use borrow.Author.Tests.{eq-eqb, ne-eqb}
-use Rattle.lists.specs.Rows.{oneIf, countBelow, sumBelow, numbers, keep}
-use Rattle.lists.proofs.Rows.{count-at-most, count-passes, count-less}
+use Rattle.lists.specs.Below.{oneIf, countBelow, sumBelow, numbers, keep}
+use Rattle.lists.proofs.Below.{count-at-most, count-passes, count-less}
 use Rattle.lists.proofs.Flat.{keep-length, flat-length, sum-same, sum-reaches, flat-at, kept-at}
-use Rattle.table.specs.Table.{Table, tagged}
+use Rattle.table.specs.Rows.{Rows, tagged}
 use Rattle.sequent.specs.Entry.{Entry}
 use Rattle.sequent.specs.Segments.{segments, beforeIn, hasAbstract, hasConcrete, hasWitnesses, witnessIn, segmentTest, segmentEntry, entryWalk, segmentCount, entriesTo}
 
@@ -33,7 +33,7 @@ one-tag x = go (ℕ-discrete x 30) (ℕ-discrete x 31) (ℕ-discrete x 32) (ℕ-
     go (no a) (no b) (no c) (yes e) = rw (ne-eqb x 30 a, ne-eqb x 31 b, ne-eqb x 32 c, eq-eqb x 50 e, ne-eqb x 60 (omega arith)) (omega arith)
     go (no a) (no b) (no c) (no d) = rw (ne-eqb x 30 a, ne-eqb x 31 b, ne-eqb x 32 c, ne-eqb x 50 d) (omega (arith, last (eqb x 60)))
 
-tags-at-most : (t : Table) (n : ℕ)
+tags-at-most : (t : Rows) (n : ℕ)
     → countBelow (tagged t 30) n + countBelow (tagged t 31) n + countBelow (tagged t 32) n + countBelow (tagged t 50) n + countBelow (tagged t 60) n ≤ n
 unfolding countBelow
 tags-at-most t zero = omega arith
@@ -59,7 +59,7 @@ among-four true false false s = omega arith
 among-four false q true s = omega arith
 among-four false q false s = omega arith
 
-module _ (t : Table) (e g i : ℕ) where
+module _ (t : Rows) (e g i : ℕ) where
   -- the steps of the walk: from the start, to the next row, past the last row to the next segment
   pub entries-start : entriesTo t e g i 0 0 ≡ 0
   unfolding entriesTo sumBelow countBelow

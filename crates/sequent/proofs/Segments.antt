@@ -10,11 +10,11 @@ use lib.Dec.{ltb, leb, eqb}
 use lib.ListN.{getD}
 use borrow.Author.Tests.{eqb-true}
 use Rattle.lists.specs.All.{All, all-nil, all-cons}
-use Rattle.lists.specs.Rows.{numbers, keep}
+use Rattle.lists.specs.Below.{numbers, keep}
 use Rattle.lists.proofs.All.{all-at}
-use Rattle.lists.proofs.Rows.{numbers-in}
+use Rattle.lists.proofs.Below.{numbers-in}
 use Rattle.lists.proofs.Flat.{keep-keep, keep-below, keep-only, keep-map, map-when, flat-next}
-use Rattle.table.specs.Table.{Table, tagged, section, isVariableNumber}
+use Rattle.table.specs.Rows.{Rows, tagged, section, isVariableNumber}
 use Rattle.table.proofs.Sections.{Rising}
 use Rattle.machine.specs.Machine.{Witness}
 use Rattle.machine.specs.Described.{machineOf}
@@ -28,7 +28,7 @@ use Rattle.sequent.specs.Segments.{hasAbstractMoves, segmentTest, segmen
 use Rattle.sequent.proofs.Walk.{formulas-below}
 use Rattle.sequent.proofs.Groups.{by-role, variables-own, guards-rows, witnesses-rows, map-identifiers}
 
-module _ (t : Table) where
+module _ (t : Rows) where
   abbrev rows : List ℕ
   rows = numbers (t .size) 0
 

@@ -10,11 +10,11 @@ use lib.Dec.{T, ltb, eqb, eqb→eq}
 use lib.ListN.{length, length-append, length-map, List·getD-eq-default}
 use borrow.Author.Tests.{ltb-true, ltb-false, eqb-true, ne-eqb, le-ltb, lt-leb}
 use Rattle.lists.specs.All.{All, all-nil, all-cons, In}
-use Rattle.lists.specs.Rows.{oneIf, countBelow, numbers, keep}
+use Rattle.lists.specs.Below.{oneIf, countBelow, numbers, keep}
 use Rattle.lists.proofs.All.{all-at}
-use Rattle.lists.proofs.Rows.{count-sum, numbers-in, in-numbers}
+use Rattle.lists.proofs.Below.{count-sum, numbers-in, in-numbers}
 use Rattle.lists.proofs.Flat.{flat-none, flat-join, flat-same, keep-either, keep-length, flat-length, sum-same}
-use Rattle.table.specs.Table.{Table, tagged, section, count}
+use Rattle.table.specs.Rows.{Rows, tagged, section, count}
 use Rattle.table.proofs.Sections.{Rising}
 use Rattle.machine.specs.Described.{machineOf}
 use Rattle.sequent.specs.Entry.{Entry, written}
@@ -27,7 +27,7 @@ use Rattle.sequent.proofs.Groups.{group-none, formula-group, variant-gr
 use Rattle.sequent.proofs.Groups.{sim-group, inv-group, variant-groups}
 
 -- a slot makes as many sequents as it counts: where there is a group, one or two, and none beyond the last group
-pub slot-count : (t : Table) (e g i : ℕ) → length (slot t e g i) ≡ slotCount t e g i
+pub slot-count : (t : Rows) (e g i : ℕ) → length (slot t e g i) ≡ slotCount t e g i
 unfolding slot slotCount makes made numbers
 slot-count t e g i = by-group (ltb g groups) refl
   where
@@ -68,7 +68,7 @@ above x p = go (eqb x 31) refl p
 both : {xs xs′ ys ys′ : List Sequent} → xs ≡ xs′ → ys ≡ ys′ → xs ++ ys ≡ xs′ ++ ys′
 both p q = ap₂ (λ (xs : List Sequent) (ys : List Sequent). xs ++ ys) p q
 
-module _ (t : Table) where
+module _ (t : Rows) where
   -- the groups of no event, and of an event
   no-groups : (e : ℕ) (gs : List ℕ) → ((g : ℕ) → In g gs → hasGroup e g ≡ false) → flatMap (groupSlots t e) gs ≡ []
   no-groups e gs h = flat-same (groupSlots t e) (λ g. []) gs (λ g i. group-none t e g (h g i)) ∙ flat-none gs

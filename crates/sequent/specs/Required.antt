@@ -7,7 +7,7 @@ use mathlib.Core.Logic.{_⊎_}
 use Prim.Native.Nat.{ℕ}
 use Rattle.lists.specs.All.{In}
 use Rattle.lists.specs.Choice.{pick}
-use Rattle.lists.specs.Rows.{keep}
+use Rattle.lists.specs.Below.{keep}
 use Rattle.machine.specs.Machine.{becomesEqual, becomesSuchThat, Witness, Machine}
 use Rattle.machine.specs.Machine.{Role, abstractInitialisation, abstractOrdinary, concreteInitialisation, refining, convergent}
 use Rattle.sequent.specs.Entry.{Entry, written, primed, defined, moves, feasible, witnessed, natural, decreases, variable}

@@ -5,8 +5,8 @@ use mathlib.Core.Bool.{Bool, false, not, cond, _&&_, _||_}
 use mathlib.Core.List.{List, [], _∷_, map, flatMap}
 use lib.Dec.{ltb, leb, eqb}
 use lib.ListN.{getD}
-use Rattle.lists.specs.Rows.{countBelow, sumBelow, numbers, keep}
-use Rattle.table.specs.Table.{Table, tagged, classOf, isVariableNumber}
+use Rattle.lists.specs.Below.{countBelow, sumBelow, numbers, keep}
+use Rattle.table.specs.Rows.{Rows, tagged, classOf, isVariableNumber}
 use Rattle.sequent.specs.Entry.{Entry, written, primed, defined, moves, feasible, witnessed, natural, decreases}
 use Rattle.sequent.specs.Sequent.{Sequent}
 use Rattle.sequent.specs.Listed.{sequent, WD, INV, FIS, GRD, SIM, WFIS, NAT, VAR}
@@ -32,7 +32,7 @@ headerKind g w = cond (isWFIS g w) WFIS (getD kinds g WD)
 abbrev pub beforeIn : ℕ → ℕ → ℕ → ℕ → Bool
 beforeIn group g i j = not (eqb g group) || ltb j i
 
-module _ (t : Table) where
+module _ (t : Rows) where
   -- column "item": root, variable or identifier, group by group
   abbrev pub items : List (ℕ → ℕ → ℕ)
   items =

@@ -5,8 +5,8 @@ use mathlib.Core.Bool.{Bool, false, not, cond, _&&_, _||_}
 use mathlib.Core.List.{List, [], _∷_, _++_, map, flatMap}
 use lib.Dec.{ltb, leb, eqb}
 use lib.ListN.{getD}
-use Rattle.lists.specs.Rows.{sumBelow, first, numbers, keep}
-use Rattle.table.specs.Table.{Table, tagged, count, kindOf, machineNumber, classOf, refinedBy}
+use Rattle.lists.specs.Below.{sumBelow, first, numbers, keep}
+use Rattle.table.specs.Rows.{Rows, tagged, count, kindOf, machineNumber, classOf, refinedBy}
 use Rattle.machine.specs.Machine.{Role}
 use Rattle.machine.specs.Described.{sets, machineOf}
 use Rattle.sequent.specs.Entry.{Entry, written, primed, defined, moves, feasible, natural, decreases}
@@ -29,7 +29,7 @@ before P root i = map (λ j. written (root j)) (keep P (numbers i 0))
 abbrev pub one : ℕ → ℕ → ℕ → List Entry → Entry → List Sequent
 one k e x hs goal = sequent k e x hs goal ∷ []
 
-module _ (t : Table) where
+module _ (t : Rows) where
   -- "30, 31, 32 axiom, abstract invariant, concrete invariant"
   abbrev pub isFormula : ℕ → Bool
   isFormula i = tagged t 30 i || (tagged t 31 i || tagged t 32 i)

@@ -6,7 +6,7 @@ use mathlib.Core.List.{List, [], _∷_, _++_}
 use mathlib.Core.Logic.{_⊎_, inl, inr}
 use native.Mathlib.Omega.{arith}
 use lib.ListN.{length, getD}
-use Rattle.table.specs.Table.{Table, count}
+use Rattle.table.specs.Rows.{Rows, count}
 use Rattle.table.proofs.Sections.{Rising}
 use Rattle.machine.specs.Described.{machineOf}
 use Rattle.sequent.specs.Entry.{written}
@@ -17,14 +17,14 @@ use Rattle.sequent.proofs.Walk.{walk-count}
 use Rattle.sequent.proofs.Find.{found-left, counted-made}
 use Rattle.sequent.proofs.Segments.{slot-segmented}
 use Rattle.walk.specs.declared.Slot.{Slot}
-use Rattle.walk.specs.Slots.{slotAt, Within, AtEnd, place, Sought}
-use Rattle.walk.proofs.Counts.{none-counted, start-place, passed-end}
+use Rattle.walk.specs.Slots.{slotAt, Within, AtEnd, position, SoughtSlot}
+use Rattle.walk.proofs.Counts.{none-counted, start-position, passed-end}
 use Rattle.services.specs.Found.{slotSequentOf, Located}
 
 abbrev noSequent : Sequent
 noSequent = sequent 0 0 0 [] (written 0)
 
-module _ (t : Table) where
+module _ (t : Rows) where
   some-rows : (k : ℕ) → 1 ≤ k → k ≤ length (sequents (machineOf t)) → 0 < t .size
   some-rows k low high = by-size (t .size) refl
     where
@@ -37,7 +37,7 @@ module _ (t : Table) where
   start-within k left low high = record { event = omega arith; group = omega arith; row = some-rows k low high }
 
   -- a search for a place, counted from 0, ends in the slot that holds the sequent there
-  pub sought-located : Rising t → (p : ℕ) (r : Slot) → p < length (sequents (machineOf t)) → Sought t p r → Located t (p + 1) r
+  pub sought-located : Rising t → (p : ℕ) (r : Slot) → p < length (sequents (machineOf t)) → SoughtSlot t p r → Located t (p + 1) r
   sought-located rising p r high (e, inl (w, l)) = record {
     row = w .row;
     holds =
@@ -48,7 +48,7 @@ module _ (t : Table) where
   }
   sought-located rising p r high (e, inr x) = absurd (omega (arith, passed-end t p r e x, walk-count t))
 
-  pub located : Rising t → (k : ℕ) (r : Slot) → 1 ≤ k → k ≤ length (sequents (machineOf t)) → Sought t (place t (slotAt 0 0 0 (k - 1))) r → Located t k r
+  pub located : Rising t → (k : ℕ) (r : Slot) → 1 ≤ k → k ≤ length (sequents (machineOf t)) → SoughtSlot t (position t (slotAt 0 0 0 (k - 1))) r → Located t k r
   located rising k r low high h =
       let q : k - 1 + 1 ≡ k = omega arith in
-      subst (λ n. Located t n r) q (sought-located rising (k - 1) r (omega arith) (subst (λ n. Sought t n r) (start-place t (k - 1)) h))
+      subst (λ n. Located t n r) q (sought-located rising (k - 1) r (omega arith) (subst (λ n. SoughtSlot t n r) (start-position t (k - 1)) h))

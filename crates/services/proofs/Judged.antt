@@ -7,7 +7,7 @@ use lib.Dec.{ltb}
 use lib.ListN.{length}
 use borrow.Author.Tests.{ltb-true, ltb-false}
 use Rattle.lists.proofs.First.{first-least}
-use Rattle.table.specs.Table.{Table}
+use Rattle.table.specs.Rows.{Rows}
 use Rattle.table.proofs.Sections.{Rising}
 use Rattle.machine.specs.Described.{machineOf}
 use Rattle.sequent.specs.Listed.{sequents}
@@ -17,7 +17,7 @@ use Rattle.rules.specs.Verdict.{firstRow, firstCheck, judge}
 use Rattle.rules.proofs.Tags.{rows-rising}
 use Rattle.rules.proofs.Cases.{judge-row, judge-missing, judge-accepted}
 
-module _ (t : Table) (n : ℕ) (accepted : judge t ≡ Accepted n) where
+module _ (t : Rows) (n : ℕ) (accepted : judge t ≡ Accepted n) where
   not-refused : (c r : ℕ) → judge t ≡ Refused c r → ⊥
   not-refused c r e = let q : Refused c r ≡ Accepted n = sym e ∙ accepted in let z : _≡_ {A = ℕ} 0 1 = cc in omega arith
 

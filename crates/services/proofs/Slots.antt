@@ -11,7 +11,7 @@ use Rattle.lists.specs.Over.{over}
 use Rattle.lists.proofs.Choice.{chosen, not-chosen}
 use Rattle.row.specs.declared.Row.{Row}
 use Rattle.row.specs.Row.{rowBytes, width}
-use Rattle.table.specs.Table.{Table}
+use Rattle.table.specs.Rows.{Rows}
 use Rattle.machine.specs.Described.{machineOf}
 use Rattle.sequent.specs.declared.Entry.{Entry as Numbers}
 use Rattle.sequent.specs.Entry.{written, formula}
@@ -20,17 +20,17 @@ use Rattle.sequent.specs.Segments.{segments, headerKind, headerItem, entryWalk,
 use Rattle.sequent.proofs.Numbers.{entry-of-numbers}
 use Rattle.sequent.proofs.Segments.{entry-walk}
 use Rattle.sequent.proofs.Seek.{entries-end}
-use Rattle.service.specs.declared.Reply.the-variants as reply
-use Rattle.service.specs.Printed.{row, entryRow, sequentRows, rowsBytes}
-use Rattle.service.specs.Spelled.{spell}
-use Rattle.service.specs.Service.{Outcome, refused, writeRows, among, entries, spellAt}
+use Rattle.reply.specs.declared.Reply.the-variants as reply
+use Rattle.reply.specs.Printed.{row, entryRow, sequentRows, rowsBytes}
+use Rattle.reply.specs.Spelled.{spell}
+use Rattle.reply.specs.Replies.{Outcome, refused, writeRows, among, entries, spellAt}
 use Rattle.entries.specs.Written.{entryRows}
-use Rattle.service.proofs.Printed.{rows-length}
+use Rattle.reply.proofs.Printed.{rows-length}
 use Rattle.spell.specs.Spell.{entryRows as spelledRows}
 use Rattle.walk.specs.declared.Slot.{Slot}
 use Rattle.services.specs.Found.{slotSequentOf}
 
-module _ (t : Table) (s : Slot) where
+module _ (t : Rows) (s : Slot) where
   abbrev pub headerRow : Row
   headerRow = row 80 (headerKind (s .group) (s .left)) (s .event) (headerItem t (s .event) (s .group) (s .row) (s .left))
 

@@ -2,7 +2,7 @@
 use Prim.Native.Nat.{ℕ, _<_}
 use mathlib.Core.Path.{_≡_}
 use mathlib.Core.List.{List}
-use Rattle.table.specs.Table.{Table}
+use Rattle.table.specs.Rows.{Rows}
 use Rattle.machine.specs.Machine.{Machine}
 use Rattle.machine.specs.Described.{machineOf}
 use Rattle.sequent.specs.Sequent.{Sequent}
@@ -10,20 +10,20 @@ use Rattle.sequent.specs.Listed.{sequents}
 use Rattle.sequent.specs.Segments.{slotSequent}
 use Rattle.rules.specs.declared.Verdict.{Verdict}
 use Rattle.walk.specs.declared.Slot.{Slot}
-use Rattle.service.specs.declared.Reply.{Reply}
-use Rattle.service.specs.Printed.{sequentRows}
-use Rattle.service.specs.Service.{Outcome, writeRows, sequentAt, withSequent, spellAt}
+use Rattle.reply.specs.declared.Reply.{Reply}
+use Rattle.reply.specs.Printed.{sequentRows}
+use Rattle.reply.specs.Replies.{Outcome, writeRows, sequentAt, withSequent, spellAt}
 use Rattle.services.specs.declared.Request.{Request}
 use Rattle.services.specs.declared.Request.the-variants as request
 
 abbrev pub outcome : Reply → List ℕ → Outcome
 outcome r out = record { reply = r; buffer = out }
 
-abbrev pub slotSequentOf : Table → Slot → Sequent
+abbrev pub slotSequentOf : Rows → Slot → Sequent
 slotSequentOf t s = slotSequent t (s .event) (s .group) (s .row) (s .left)
 
 -- a slot that holds sequent k
-pub record Located (t : Table) (k : ℕ) (s : Slot) : Type 0 where
+pub record Located (t : Rows) (k : ℕ) (s : Slot) : Type 0 where
   pub row : s .row < t .size
   pub holds : sequentAt (sequents (machineOf t)) k ≡ slotSequentOf t s
 

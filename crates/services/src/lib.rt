@@ -6,7 +6,7 @@ use entries::header_kind;
 use entries::write_entries;
 use row::Row;
 use rules::Verdict;
-use service::Reply;
+use reply::Reply;
 use spell::spell;
 use table::Table;
 use table::among;
@@ -19,7 +19,7 @@ ghost use mathlib.Core.Path.{_≡_};
 ghost use Prim.Native.Nat.{_+_, _*_, _<_, _≤_};
 ghost use lib.ListN.{length};
 ghost use Rattle.lists.specs.Over.{over};
-ghost use Rattle.table.specs.Table.{tableOf};
+ghost use Rattle.table.specs.Rows.{rowsOf};
 ghost use Rattle.table.specs.Counts.{countsOf};
 ghost use Rattle.table.proofs.Sections.{Rising};
 ghost use Rattle.machine.specs.Described.{machineOf};
@@ -27,24 +27,24 @@ ghost use Rattle.sequent.specs.Listed.{sequents};
 ghost use Rattle.sequent.specs.Segments.{segments, entriesTo};
 ghost use Rattle.rules.specs.declared.Verdict.the-variants.{Accepted};
 ghost use Rattle.rules.specs.Verdict.{judge as judgeOf, verdict as verdictOf, machine};
-ghost use Rattle.service.specs.Printed.{sequentRows, rowsBytes};
-ghost use Rattle.service.specs.Service.{writeRows, spellAt, writeSequent, spellEntry};
+ghost use Rattle.reply.specs.Printed.{sequentRows, rowsBytes};
+ghost use Rattle.reply.specs.Replies.{writeRows, spellAt, writeSequent, spellEntry};
 ghost use Rattle.services.specs.Found.{slotSequentOf, outcome, Located, serveAt, serveBy};
 
 // The slot of sequent k, and which of its sequents it is.
-pub fn find(words: &[u64], table: Table, k: u64) -> Slot
-    requires { ⌜ (table ≡ countsOf (tableOf (now words))) × (1 ≤ k) × (k ≤ length (sequents (machineOf (tableOf (now words))))) ⌝ }
-    requires { ⌜ Rising (tableOf (now words)) ⌝ }
-    ensures { λ r. ⌜ Located (tableOf (now (words .entry))) k r ⌝ }
+pub fn find_sequent(words: &[u64], table: Table, k: u64) -> Slot
+    requires { ⌜ (table ≡ countsOf (rowsOf (now words))) × (1 ≤ k) × (k ≤ length (sequents (machineOf (rowsOf (now words))))) ⌝ }
+    requires { ⌜ Rising (rowsOf (now words)) ⌝ }
+    ensures { λ r. ⌜ Located (rowsOf (now (words .entry))) k r ⌝ }
 {
     seek(words, table, Slot::start(k - 1))
 }
 
 // Writes a slot's sequent: row 80, then its entries into what is left of the buffer.
 pub fn write_slot(words: &[u64], table: Table, slot: Slot, out: &mut [u8])
-    requires { ⌜ (table ≡ countsOf (tableOf (now words))) × (slot .row < tableOf (now words) .size) ⌝ }
-    requires { ⌜ 38 * (1 + entriesTo (tableOf (now words)) (slot .event) (slot .group) (slot .row) segments 0) ≤ length (now out) ⌝ }
-    ensures { λ _. ⌜ now (out .exit) ≡ over (rowsBytes (sequentRows (slotSequentOf (tableOf (now (words .entry))) slot))) (now (out .entry)) ⌝ }
+    requires { ⌜ (table ≡ countsOf (rowsOf (now words))) × (slot .row < rowsOf (now words) .size) ⌝ }
+    requires { ⌜ 38 * (1 + entriesTo (rowsOf (now words)) (slot .event) (slot .group) (slot .row) segments 0) ≤ length (now out) ⌝ }
+    ensures { λ _. ⌜ now (out .exit) ≡ over (rowsBytes (sequentRows (slotSequentOf (rowsOf (now (words .entry))) slot))) (now (out .entry)) ⌝ }
 {
     let event = slot.event;
     let group = slot.group;
@@ -71,8 +71,8 @@ pub fn write_slot(words: &[u64], table: Table, slot: Slot, out: &mut [u8])
 
 // Writes a slot's sequent where the buffer has room for it.
 fn write_found(words: &[u64], table: Table, slot: Slot, out: &mut [u8]) -> Reply
-    requires { ⌜ (table ≡ countsOf (tableOf (now words))) × (slot .row < tableOf (now words) .size) ⌝ }
-    ensures { λ r. ⌜ outcome r (now (out .exit)) ≡ writeRows (sequentRows (slotSequentOf (tableOf (now (words .entry))) slot)) (now (out .entry)) ⌝ }
+    requires { ⌜ (table ≡ countsOf (rowsOf (now words))) × (slot .row < rowsOf (now words) .size) ⌝ }
+    ensures { λ r. ⌜ outcome r (now (out .exit)) ≡ writeRows (sequentRows (slotSequentOf (rowsOf (now (words .entry))) slot)) (now (out .entry)) ⌝ }
 {
     let entries = count_entries(words, table, slot.event, slot.group, slot.row);
     if ((out.len() / Row::LENGTH) as u64) <= entries {
@@ -84,8 +84,8 @@ fn write_found(words: &[u64], table: Table, slot: Slot, out: &mut [u8]) -> Reply
 
 // Spells an entry where the buffer has room for it. The first call counts its rows: a buffer of one byte has room for none.
 fn spell_found(words: &[u64], table: Table, slot: Slot, j: u64, out: &mut [u8]) -> Reply
-    requires { ⌜ (table ≡ countsOf (tableOf (now words))) × (slot .row < tableOf (now words) .size) ⌝ }
-    ensures { λ r. ⌜ outcome r (now (out .exit)) ≡ spellAt (machineOf (tableOf (now (words .entry)))) (slotSequentOf (tableOf (now (words .entry))) slot) j (now (out .entry)) ⌝ }
+    requires { ⌜ (table ≡ countsOf (rowsOf (now words))) × (slot .row < rowsOf (now words) .size) ⌝ }
+    ensures { λ r. ⌜ outcome r (now (out .exit)) ≡ spellAt (machineOf (rowsOf (now (words .entry)))) (slotSequentOf (rowsOf (now (words .entry))) slot) j (now (out .entry)) ⌝ }
 {
     let event = slot.event;
     let group = slot.group;
@@ -111,8 +111,8 @@ pub enum Request {
 
 // Does what is asked of the sequent in a slot.
 fn serve_found(words: &[u64], table: Table, slot: Slot, request: Request, out: &mut [u8]) -> Reply
-    requires { ⌜ (table ≡ countsOf (tableOf (now words))) × (slot .row < tableOf (now words) .size) ⌝ }
-    ensures { λ r. ⌜ outcome r (now (out .exit)) ≡ serveAt (machineOf (tableOf (now (words .entry)))) request (now (out .entry)) (slotSequentOf (tableOf (now (words .entry))) slot) ⌝ }
+    requires { ⌜ (table ≡ countsOf (rowsOf (now words))) × (slot .row < rowsOf (now words) .size) ⌝ }
+    ensures { λ r. ⌜ outcome r (now (out .exit)) ≡ serveAt (machineOf (rowsOf (now (words .entry)))) request (now (out .entry)) (slotSequentOf (rowsOf (now (words .entry))) slot) ⌝ }
 {
     match request {
         Request::Write => write_found(words, table, slot, out),
@@ -122,20 +122,20 @@ fn serve_found(words: &[u64], table: Table, slot: Slot, request: Request, out: &
 
 // Does what is asked of sequent k of an accepted table with so many sequents.
 fn serve_accepted(words: &[u64], count: u64, k: u64, request: Request, out: &mut [u8]) -> Reply
-    requires { ⌜ judgeOf (tableOf (now words)) ≡ Accepted count ⌝ }
-    ensures { λ r. ⌜ outcome r (now (out .exit)) ≡ serveBy (machineOf (tableOf (now (words .entry)))) (Accepted count) k request (now (out .entry)) ⌝ }
+    requires { ⌜ judgeOf (rowsOf (now words)) ≡ Accepted count ⌝ }
+    ensures { λ r. ⌜ outcome r (now (out .exit)) ≡ serveBy (machineOf (rowsOf (now (words .entry)))) (Accepted count) k request (now (out .entry)) ⌝ }
 {
     if !among(k, count) {
         return Reply::Refused(13, 0);
     }
     let table = Table::of(words);
-    serve_found(words, table, find(words, table, k), request, out)
+    serve_found(words, table, find_sequent(words, table, k), request, out)
 }
 
 // Does what is asked of sequent k of the table of these rows, where it is accepted.
 fn serve_rows(words: &[u64], k: u64, request: Request, out: &mut [u8]) -> Reply
     requires { ⌜ length (now words) ≤ 6896 ⌝ }
-    ensures { λ r. ⌜ outcome r (now (out .exit)) ≡ serveBy (machineOf (tableOf (now (words .entry)))) (judgeOf (tableOf (now (words .entry)))) k request (now (out .entry)) ⌝ }
+    ensures { λ r. ⌜ outcome r (now (out .exit)) ≡ serveBy (machineOf (rowsOf (now (words .entry)))) (judgeOf (rowsOf (now (words .entry)))) k request (now (out .entry)) ⌝ }
 {
     match judge(words) {
         Verdict::Refused(number, row) => Reply::Refused(number, row),

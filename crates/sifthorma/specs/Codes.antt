@@ -3,8 +3,8 @@
 use Prim.Native.Nat.{ℕ}
 use Rattle.rules.specs.declared.Verdict.{Verdict}
 use Rattle.rules.specs.declared.Verdict.the-variants as verdict
-use Rattle.service.specs.declared.Reply.{Reply}
-use Rattle.service.specs.declared.Reply.the-variants as reply
+use Rattle.reply.specs.declared.Reply.{Reply}
+use Rattle.reply.specs.declared.Reply.the-variants as reply
 
 abbrev pub verdictNumber : Verdict → ℕ
 verdictNumber (verdict.Accepted count) = 0

@@ -1,12 +1,12 @@
 // The three services for C and Rust (include/sifthorma.h): each answers 0 or a refusal's number, and puts the count or the row into `value`.
 use rules::Verdict;
-use service::Reply;
+use reply::Reply;
 use services::spell_entry;
 use services::write_sequent;
 use verdict::check;
 ghost use mathlib.Core.Path.{_≡_};
 ghost use Rattle.rules.specs.Verdict.{verdict as verdictOf};
-ghost use Rattle.service.specs.Service.{writeSequent, spellEntry};
+ghost use Rattle.reply.specs.Replies.{writeSequent, spellEntry};
 ghost use Rattle.sifthorma.specs.Codes.{verdictNumber, verdictValue, replyNumber, replyValue};
 
 fn verdict_number(v: Verdict) -> u64

@@ -8,14 +8,14 @@ use lib.Dec.{T, eqb, eqb→eq}
 use Rattle.row.specs.declared.Row.{Row}
 use Rattle.formula.specs.Tree.{Binary, plus, minus, times, equal, less, atMost, iff, Division, quotient, remainder, Connective, and, or, implies, Tree}
 use Rattle.formula.specs.WellDefined.{wellDefined}
-use Rattle.table.specs.Table.{Table, operandNode, operatorOf, leftOf, rightOf}
+use Rattle.table.specs.Rows.{Rows, operandNode, operatorOf, leftOf, rightOf}
 use Rattle.machine.specs.Operator as meaning
 use Rattle.machine.specs.Operator.{Operator, literalOf, identifierOf, afterOf, constantOf, unaryOf, binaryOf, divisionOf, connectiveOf, operatorNumbered}
 use Rattle.machine.specs.Described.{node, treeTo, treeOf}
 use Rattle.machine.proofs.Described.{tree-step}
 use Rattle.rules.specs.Sorts.{shapeOf}
 use Rattle.rules.proofs.Operators.{shapeFor, shape-agrees}
-use Rattle.service.specs.Spelled.{spelled, binaryNumber, divisionNumber, connectiveNumber, spellTree}
+use Rattle.reply.specs.Spelled.{spelled, binaryNumber, divisionNumber, connectiveNumber, spellTree}
 use Rattle.spell.specs.declared.Node.{Node}
 use Rattle.spell.specs.Spell.{divides, openingRows, guardRows, closingRows, nodeBy, nodeOf, shownRows, definedRows}
 use Rattle.spell.proofs.Nodes.{numberIs, operator-numbered, operands-same, nodeFrom, node-none, node-from}
@@ -120,7 +120,7 @@ defined-by (connectiveOf or) n h primed b x y l r = numbered l r 34 n _ h (conne
 defined-by (connectiveOf implies) n h primed b x y l r = numbered l r 35 n _ h (connective-pair _ (spellTree l) _ (spellTree r) implies)
 defined-by meaning.unknown n h primed b x y l r = refl
 
-module _ (t : Table) where
+module _ (t : Rows) where
   -- the WD of node n from a node that it is read as
   abbrev definedAs : ℕ → ℕ → ℕ → ℕ → List Row
   definedAs o k x y = definedBy k o (definedRows t x) (shownRows t false x) (definedRows t y) (shownRows t false y)
@@ -153,7 +153,7 @@ module _ (t : Table) where
       ∙ ap (λ d. definedAs (d .operator) (d .operands) (d .left) (d .right)) (node-from t false n (λ e. omega arith))
 
 -- Node n, read as d: the rows of its WD, by how many operands it has.
-module _ (t : Table) (n : ℕ) (d : Node) (e : d ≡ nodeOf t false n) where
+module _ (t : Rows) (n : ℕ) (d : Node) (e : d ≡ nodeOf t false n) where
   defined-read : (k : ℕ) → d .operands ≡ k → definedAs t (d .operator) k (d .left) (d .right) ≡ definedRows t n
   defined-read k q =
       ap (λ k. definedAs t (d .operator) k (d .left) (d .right)) (sym q)

@@ -8,13 +8,13 @@ use lib.ListN.{getD, List·getD-eq-default}
 use Rattle.lists.specs.Choice.{pick}
 use Rattle.formula.specs.Tree.{Tree}
 use Rattle.formula.specs.Formula.{someValue, someAfterValue}
-use Rattle.table.specs.Table.{Table, isVariableNumber}
+use Rattle.table.specs.Rows.{Rows, isVariableNumber}
 use Rattle.machine.specs.Described.{machineOf}
 use Rattle.machine.proofs.Variables.{variable-numbered}
 use Rattle.sequent.specs.declared.Entry.{Entry as Numbers}
 use Rattle.sequent.specs.Entry.{Entry, written, variable, formula}
 use Rattle.sequent.specs.Numbers.{forms, entryOf}
-use Rattle.service.specs.Spelled.{spelled, spellTree, spell}
+use Rattle.reply.specs.Spelled.{spelled, spellTree, spell}
 use Rattle.spell.specs.Spell.{shownRows, definedRows, movesRows, witnessNode, entryRows}
 
 -- a number that is no form from 2 to 8 counts as form 1
@@ -28,7 +28,7 @@ unfolding spell
 some-rows true x a = refl
 some-rows false x a = refl
 
-module _ (t : Table) (h : Numbers) where
+module _ (t : Rows) (h : Numbers) where
   form-as : (f : ℕ → ℕ → Entry) → f ≡ getD forms (h .form) (λ a b. written a) → spell (formula (machineOf t) (f (h .first) (h .second))) ≡ entryRows t h
   unfolding entryRows entryOf
   form-as f e = ap (λ f. spell (formula (machineOf t) (f (h .first) (h .second)))) e

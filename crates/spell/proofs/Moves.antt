@@ -5,15 +5,15 @@ use mathlib.Core.Bool.{Bool, true, false}
 use mathlib.Core.List.{[], _∷_, _++_}
 use lib.Dec.{ltb}
 use borrow.Author.Tests.{lt-ltb, le-ltb, eq-eqb, ne-eqb}
-use Rattle.lists.specs.Rows.{first}
-use Rattle.table.specs.Table.{Table, tagged}
+use Rattle.lists.specs.Below.{first}
+use Rattle.table.specs.Rows.{Rows, tagged}
 use Rattle.machine.specs.Machine.{Action, unassigned, becomesEqual, becomesSuchThat}
 use Rattle.machine.specs.Described.{sets, actionOf, machineOf}
 use Rattle.sequent.specs.Entry.{actionTree}
-use Rattle.service.specs.Spelled.{spelled, spellTree}
+use Rattle.reply.specs.Spelled.{spelled, spellTree}
 use Rattle.spell.specs.Spell.{shownRows, movesRows}
 
-module _ (t : Table) (e x i : ℕ) (found : i ≡ first (sets t e x) (t .size) 0) where
+module _ (t : Rows) (e x i : ℕ) (found : i ≡ first (sets t e x) (t .size) 0) where
   -- the action by two tests of the row: that it is one, and its tag
   abbrev actionBy : Bool → Bool → ℕ → Action
   actionBy b c i = elim b [ true ↦ elim c [ true ↦ becomesEqual (t .c i) | false ↦ becomesSuchThat (t .c i) ] | false ↦ unassigned ]

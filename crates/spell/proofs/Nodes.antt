@@ -13,7 +13,7 @@ use Rattle.row.specs.declared.Row.{Row}
 use Rattle.formula.specs.Tree.{Constant, literal, TRUE, FALSE, top, bottom, Tree, identifier, after}
 use Rattle.formula.specs.AfterValues.{atAfter}
 use Rattle.formula.proofs.Truth.{and-split}
-use Rattle.table.specs.Table.{Table, isVariableNumber, operandNode, operatorOf, leftOf, rightOf}
+use Rattle.table.specs.Rows.{Rows, isVariableNumber, operandNode, operatorOf, leftOf, rightOf}
 use Rattle.machine.specs.Operator as meaning
 use Rattle.machine.specs.Operator.{Operator, Numbered, literalOf, identifierOf, afterOf, constantOf, unaryOf, binaryOf, divisionOf, connectiveOf, operatorNumbered}
 use Rattle.machine.specs.Described.{node, treeTo, treeOf, machineOf}
@@ -22,7 +22,7 @@ use Rattle.machine.proofs.Variables.{variable-numbered}
 use Rattle.sequent.specs.Entry.{variable}
 use Rattle.rules.specs.Sorts.{Shape, value, anIdentifier, aVariable, none, one, two, unknown, shapeOf}
 use Rattle.rules.proofs.Operators.{shapeFor, shape-agrees}
-use Rattle.service.specs.Spelled.{spelled, constantRow, unaryNumber, binaryNumber, divisionNumber, connectiveNumber, spellTree}
+use Rattle.reply.specs.Spelled.{spelled, constantRow, unaryNumber, binaryNumber, divisionNumber, connectiveNumber, spellTree}
 use Rattle.spell.specs.declared.Node.{Node}
 use Rattle.spell.specs.Spell.{leaf, nodeBy, operandRows, nodeOf, shownRows}
 
@@ -149,7 +149,7 @@ module _ (v : ℕ → Bool) where
   shown-by meaning.unknown n h true b x y l r = refl
   shown-by meaning.unknown n h false b x y l r = refl
 
-module _ (t : Table) where
+module _ (t : Rows) where
   -- the node that was read is the table's
   pub node-none : (primed : Bool) (n : ℕ) → n ≡ 0 → leaf 31 0 ≡ nodeOf t primed n
   unfolding nodeOf
@@ -203,7 +203,7 @@ module _ (t : Table) where
       (operand-falls n (rightOf t n) (omega arith)))
 
 -- Node n, read as d: its row, then the rows of its operands, which have smaller numbers.
-module _ (t : Table) (primed : Bool) (n : ℕ) (d : Node) (e : d ≡ nodeOf t primed n) where
+module _ (t : Rows) (primed : Bool) (n : ℕ) (d : Node) (e : d ≡ nodeOf t primed n) where
   pub shown-read : (spelled (d .operator) (d .b) ∷ []) ++ operandRows (d .operands) (shownRows t primed (d .left)) (shownRows t primed (d .right)) ≡ shownRows t primed n
   shown-read = ap (λ d. rowsBy d (shownRows t primed (d .left)) (shownRows t primed (d .right))) e ∙ sym (shown-node t primed n)
 

@@ -6,17 +6,17 @@ use mathlib.Core.List.{List, _∷_, map}
 use native.Mathlib.Omega.{arith}
 use lib.Dec.{eqb}
 use lib.ListN.{List·getD-eq-default}
-use Rattle.lists.specs.Rows.{first, numbers, keep}
-use Rattle.table.specs.Table.{Table, tableOf, tagged, section}
+use Rattle.lists.specs.Below.{first, numbers, keep}
+use Rattle.table.specs.Rows.{Rows, rowsOf, tagged, section}
 use Rattle.machine.specs.Described.{belonging, machineOf}
 use Rattle.sequent.specs.Entry.{witnessRoot}
 use Rattle.spell.specs.Spell.{witnessNode}
 
 -- past the last row every column is 0
-past-rows : (ws : List ℕ) (i : ℕ) → tableOf ws .size ≤ i → tableOf ws .c i ≡ 0
+past-rows : (ws : List ℕ) (i : ℕ) → rowsOf ws .size ≤ i → rowsOf ws .c i ≡ 0
 past-rows ws i h = List·getD-eq-default ws 0 (omega arith)
 
-module _ (t : Table) (e x : ℕ) where
+module _ (t : Rows) (e x : ℕ) where
   abbrev pub witnesses : ℕ → Bool
   witnesses i = tagged t 60 i && (eqb (t .a i) e && eqb (t .b i) x)
 
@@ -26,7 +26,7 @@ module _ (t : Table) (e x : ℕ) where
   abbrev rootIn : List ℕ → ℕ
   rootIn is = witnessRoot (map (λ i. record { target = t .b i; root = t .c i }) is) x
 
-module _ (t : Table) (e x : ℕ) (past : (i : ℕ) → t .size ≤ i → t .c i ≡ 0) where
+module _ (t : Rows) (e x : ℕ) (past : (i : ℕ) → t .size ≤ i → t .c i ≡ 0) where
   root-first : (n i : ℕ) → i + n ≡ t .size → rootIn t e x (keep (ofEvent t e x) (keep (tagged t 60) (numbers n i))) ≡ t .c (first (witnesses t e x) n i)
   unfolding numbers keep first
   root-first zero i h = sym (past i (omega arith))
@@ -57,5 +57,5 @@ module _ (t : Table) (e x : ℕ) (past : (i : ℕ) → t .size ≤ i → t .c i 
   unfolding witnessNode machineOf belonging section
   witness-row = root-first (t .size) 0 (omega arith)
 
-pub witness-found : (ws : List ℕ) (e x i r : ℕ) → i ≡ first (witnesses (tableOf ws) e x) (tableOf ws .size) 0 → r ≡ tableOf ws .c i → r ≡ witnessNode (tableOf ws) e x
-witness-found ws e x i r f q = q ∙ ap (tableOf ws .c) f ∙ sym (witness-row (tableOf ws) e x (past-rows ws))
+pub witness-found : (ws : List ℕ) (e x i r : ℕ) → i ≡ first (witnesses (rowsOf ws) e x) (rowsOf ws .size) 0 → r ≡ rowsOf ws .c i → r ≡ witnessNode (rowsOf ws) e x
+witness-found ws e x i r f q = q ∙ ap (rowsOf ws .c) f ∙ sym (witness-row (rowsOf ws) e x (past-rows ws))

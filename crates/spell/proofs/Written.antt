@@ -13,8 +13,8 @@ use Rattle.lists.specs.Over.{over}
 use Rattle.lists.proofs.Over.{over-none, over-tail}
 use Rattle.row.specs.declared.Row.{Row}
 use Rattle.row.specs.Row.{rowBytes, width}
-use Rattle.service.specs.Printed.{rowsBytes}
-use Rattle.service.proofs.Printed.{rows-length, rows-join}
+use Rattle.reply.specs.Printed.{rowsBytes}
+use Rattle.reply.proofs.Printed.{rows-length, rows-join}
 use Rattle.spell.specs.Spell.{capped, restStart, room, Spelled}
 use Rattle.spell.proofs.Capped.{capped-below, capped-add, start-after, start-full}
 

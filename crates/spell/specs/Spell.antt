@@ -12,14 +12,14 @@ use Rattle.row.specs.declared.Row.{Row}
 use Rattle.formula.specs.Tree.{Tree}
 use Rattle.formula.specs.AfterValues.{atAfter}
 use Rattle.formula.specs.WellDefined.{wellDefined}
-use Rattle.table.specs.Table.{Table, isVariableNumber, operandNode, operatorOf, leftOf, rightOf}
+use Rattle.table.specs.Rows.{Rows, isVariableNumber, operandNode, operatorOf, leftOf, rightOf}
 use Rattle.machine.specs.Described.{treeOf, machineOf}
 use Rattle.sequent.specs.declared.Entry.{Entry as Numbers}
 use Rattle.sequent.specs.Entry.{variable, actionTree, witnessRoot, formula}
 use Rattle.sequent.specs.Numbers.{entryOf}
 use Rattle.rules.specs.Sorts.{Shape, value, anIdentifier, aVariable, none, one, two, unknown, shapeOf}
-use Rattle.service.specs.Printed.{rowsBytes}
-use Rattle.service.specs.Spelled.{spelled, spellTree, spell}
+use Rattle.reply.specs.Printed.{rowsBytes}
+use Rattle.reply.specs.Spelled.{spelled, spellTree, spell}
 use Rattle.spell.specs.declared.Node.{Node}
 
 -- refusal 15, room: a count above every buffer's room is as good as the cap, since a buffer has fewer than 2^64 bytes
@@ -79,7 +79,7 @@ guardRows operator left = pick (eqb operator 33 || eqb operator 35) (spelled 35 
 unfoldable pub closingRows : ℕ → List Row → List Row
 closingRows operator right = pick (divides operator) (spelled 32 0 ∷ ((spelled 20 0 ∷ right) ++ (spelled 1 0 ∷ []))) []
 
-module _ (t : Table) where
+module _ (t : Rows) where
   -- what node n is spelled by: the operator and b of its row, how many operands follow it, and their nodes; primed is form 2
   unfoldable pub nodeOf : Bool → ℕ → Node
   nodeOf primed n =

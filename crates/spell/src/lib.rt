@@ -18,10 +18,10 @@ ghost use Prim.Native.Nat.{_+_, _≤_};
 ghost use mathlib.Core.Bool.{true, false};
 ghost use mathlib.Core.List.{[], _∷_, _++_};
 ghost use Rattle.lists.specs.Choice.{pick};
-ghost use Rattle.table.specs.Table.{tableOf, isVariableNumber};
+ghost use Rattle.table.specs.Rows.{rowsOf, isVariableNumber};
 ghost use Rattle.table.specs.Counts.{countsOf};
 ghost use Rattle.rule_references.specs.Operator.{meantShape};
-ghost use Rattle.service.specs.Spelled.{spelled};
+ghost use Rattle.reply.specs.Spelled.{spelled};
 ghost use Rattle.spell.specs.Spell.{capped, restStart, Spelled, leaf, nodeBy, operandRows, nodeOf, shownRows, definedRows, openingRows, guardRows, closingRows, movesRows, witnessNode, entryRows};
 
 // More rows than any buffer has room for.
@@ -125,8 +125,8 @@ fn shaped_node(shape: Shape, operator: u64, primed: bool, b: u64, left: u64, rig
 
 // What node n is spelled by.
 fn node_at(words: &[u64], table: Table, n: u64, primed: bool) -> Node
-    requires { ⌜ table ≡ countsOf (tableOf (now words)) ⌝ }
-    ensures { λ r. ⌜ r ≡ nodeOf (tableOf (now (words .entry))) primed n ⌝ }
+    requires { ⌜ table ≡ countsOf (rowsOf (now words)) ⌝ }
+    ensures { λ r. ⌜ r ≡ nodeOf (rowsOf (now (words .entry))) primed n ⌝ }
 {
     if n == 0 {
         return leaf(31, 0);
@@ -144,8 +144,8 @@ fn node_at(words: &[u64], table: Table, n: u64, primed: bool) -> Node
 
 // The tree of node n, an expression: its row, then its operands' rows. A predicate is handed on.
 pub fn spell_expression(words: &[u64], table: Table, n: u64, primed: bool, out: &mut [u8]) -> u64
-    requires { ⌜ table ≡ countsOf (tableOf (now words)) ⌝ }
-    ensures { λ r. ⌜ Spelled (shownRows (tableOf (now (words .entry))) primed n) r (now (out .entry)) (now (out .exit)) ⌝ }
+    requires { ⌜ table ≡ countsOf (rowsOf (now words)) ⌝ }
+    ensures { λ r. ⌜ Spelled (shownRows (rowsOf (now (words .entry))) primed n) r (now (out .entry)) (now (out .exit)) ⌝ }
 {
     let node = node_at(words, table, n, primed);
     if 15 < node.operator {
@@ -159,8 +159,8 @@ pub fn spell_expression(words: &[u64], table: Table, n: u64, primed: bool, out: 
 
 // The tree of node n, a predicate: its row, then its operands' rows.
 pub fn spell_predicate(words: &[u64], table: Table, n: u64, primed: bool, out: &mut [u8]) -> u64
-    requires { ⌜ table ≡ countsOf (tableOf (now words)) ⌝ }
-    ensures { λ r. ⌜ Spelled (shownRows (tableOf (now (words .entry))) primed n) r (now (out .entry)) (now (out .exit)) ⌝ }
+    requires { ⌜ table ≡ countsOf (rowsOf (now words)) ⌝ }
+    ensures { λ r. ⌜ Spelled (shownRows (rowsOf (now (words .entry))) primed n) r (now (out .entry)) (now (out .exit)) ⌝ }
 {
     let node = node_at(words, table, n, primed);
     let head = row_83(out, node.operator, node.b);
@@ -171,8 +171,8 @@ pub fn spell_predicate(words: &[u64], table: Table, n: u64, primed: bool, out: &
 
 // The trees of a node's operands, each begun as an expression, which hands a predicate on.
 fn spell_operands(words: &[u64], table: Table, node: Node, primed: bool, out: &mut [u8]) -> u64
-    requires { ⌜ table ≡ countsOf (tableOf (now words)) ⌝ }
-    ensures { λ r. ⌜ Spelled (operandRows (node .operands) (shownRows (tableOf (now (words .entry))) primed (node .left)) (shownRows (tableOf (now (words .entry))) primed (node .right))) r (now (out .entry)) (now (out .exit)) ⌝ }
+    requires { ⌜ table ≡ countsOf (rowsOf (now words)) ⌝ }
+    ensures { λ r. ⌜ Spelled (operandRows (node .operands) (shownRows (rowsOf (now (words .entry))) primed (node .left)) (shownRows (rowsOf (now (words .entry))) primed (node .right))) r (now (out .entry)) (now (out .exit)) ⌝ }
 {
     if node.operands == 0 {
         return 0;
@@ -196,8 +196,8 @@ fn spell_under(
     primed: bool,
     out: &mut [u8],
 ) -> u64
-    requires { ⌜ table ≡ countsOf (tableOf (now words)) ⌝ }
-    ensures { λ r. ⌜ Spelled (spelled operator b ∷ shownRows (tableOf (now (words .entry))) primed n) r (now (out .entry)) (now (out .exit)) ⌝ }
+    requires { ⌜ table ≡ countsOf (rowsOf (now words)) ⌝ }
+    ensures { λ r. ⌜ Spelled (spelled operator b ∷ shownRows (rowsOf (now (words .entry))) primed n) r (now (out .entry)) (now (out .exit)) ⌝ }
 {
     let head = row_83(out, operator, b);
     let at = rest_start(out.len(), head);
@@ -220,8 +220,8 @@ fn spell_opening(operator: u64, out: &mut [u8]) -> u64
 
 // What stands between WD(a) and WD(b): for ∧ and ⇒ that a implies the rest, for ∨ that a or the rest holds.
 fn spell_guard(words: &[u64], table: Table, operator: u64, left: u64, out: &mut [u8]) -> u64
-    requires { ⌜ table ≡ countsOf (tableOf (now words)) ⌝ }
-    ensures { λ r. ⌜ Spelled (guardRows operator (shownRows (tableOf (now (words .entry))) false left)) r (now (out .entry)) (now (out .exit)) ⌝ }
+    requires { ⌜ table ≡ countsOf (rowsOf (now words)) ⌝ }
+    ensures { λ r. ⌜ Spelled (guardRows operator (shownRows (rowsOf (now (words .entry))) false left)) r (now (out .entry)) (now (out .exit)) ⌝ }
 {
     if (operator == 33) | (operator == 35) {
         return spell_under(words, table, 35, 0, left, false, out);
@@ -234,8 +234,8 @@ fn spell_guard(words: &[u64], table: Table, operator: u64, left: u64, out: &mut 
 
 // The equation of node n and the literal 0.
 fn spell_equals_zero(words: &[u64], table: Table, n: u64, out: &mut [u8]) -> u64
-    requires { ⌜ table ≡ countsOf (tableOf (now words)) ⌝ }
-    ensures { λ r. ⌜ Spelled ((spelled 20 0 ∷ shownRows (tableOf (now (words .entry))) false n) ++ (spelled 1 0 ∷ [])) r (now (out .entry)) (now (out .exit)) ⌝ }
+    requires { ⌜ table ≡ countsOf (rowsOf (now words)) ⌝ }
+    ensures { λ r. ⌜ Spelled ((spelled 20 0 ∷ shownRows (rowsOf (now (words .entry))) false n) ++ (spelled 1 0 ∷ [])) r (now (out .entry)) (now (out .exit)) ⌝ }
 {
     let equal = spell_under(words, table, 20, 0, n, false, out);
     let at = rest_start(out.len(), equal);
@@ -245,8 +245,8 @@ fn spell_equals_zero(words: &[u64], table: Table, n: u64, out: &mut [u8]) -> u64
 
 // What stands after WD(b): for ÷ and mod ¬(b = 0).
 fn spell_closing(words: &[u64], table: Table, operator: u64, right: u64, out: &mut [u8]) -> u64
-    requires { ⌜ table ≡ countsOf (tableOf (now words)) ⌝ }
-    ensures { λ r. ⌜ Spelled (closingRows operator (shownRows (tableOf (now (words .entry))) false right)) r (now (out .entry)) (now (out .exit)) ⌝ }
+    requires { ⌜ table ≡ countsOf (rowsOf (now words)) ⌝ }
+    ensures { λ r. ⌜ Spelled (closingRows operator (shownRows (rowsOf (now (words .entry))) false right)) r (now (out .entry)) (now (out .exit)) ⌝ }
 {
     if (operator == 13) | (operator == 14) {
         let head = row_83(out, 32, 0);
@@ -259,8 +259,8 @@ fn spell_closing(words: &[u64], table: Table, operator: u64, right: u64, out: &m
 
 // The WD of node n.
 pub fn spell_defined(words: &[u64], table: Table, n: u64, out: &mut [u8]) -> u64
-    requires { ⌜ table ≡ countsOf (tableOf (now words)) ⌝ }
-    ensures { λ r. ⌜ Spelled (definedRows (tableOf (now (words .entry))) n) r (now (out .entry)) (now (out .exit)) ⌝ }
+    requires { ⌜ table ≡ countsOf (rowsOf (now words)) ⌝ }
+    ensures { λ r. ⌜ Spelled (definedRows (rowsOf (now (words .entry))) n) r (now (out .entry)) (now (out .exit)) ⌝ }
 {
     let node = node_at(words, table, n, false);
     if node.operands == 0 {
@@ -313,8 +313,8 @@ fn spell_comparison(
     root: u64,
     out: &mut [u8],
 ) -> u64
-    requires { ⌜ table ≡ countsOf (tableOf (now words)) ⌝ }
-    ensures { λ r. ⌜ Spelled (spelled operator 0 ∷ spelled left b ∷ shownRows (tableOf (now (words .entry))) false root) r (now (out .entry)) (now (out .exit)) ⌝ }
+    requires { ⌜ table ≡ countsOf (rowsOf (now words)) ⌝ }
+    ensures { λ r. ⌜ Spelled (spelled operator 0 ∷ spelled left b ∷ shownRows (rowsOf (now (words .entry))) false root) r (now (out .entry)) (now (out .exit)) ⌝ }
 {
     let head = row_83(out, operator, 0);
     let at = rest_start(out.len(), head);
@@ -324,8 +324,8 @@ fn spell_comparison(
 
 // Form 4: the action of the event e for the variable x.
 fn spell_moves(words: &[u64], table: Table, e: u64, x: u64, out: &mut [u8]) -> u64
-    requires { ⌜ table ≡ countsOf (tableOf (now words)) ⌝ }
-    ensures { λ r. ⌜ Spelled (movesRows (tableOf (now (words .entry))) e x) r (now (out .entry)) (now (out .exit)) ⌝ }
+    requires { ⌜ table ≡ countsOf (rowsOf (now words)) ⌝ }
+    ensures { λ r. ⌜ Spelled (movesRows (rowsOf (now (words .entry))) e x) r (now (out .entry)) (now (out .exit)) ⌝ }
 {
     let query = Query::Assigns {
         event: e,
@@ -344,8 +344,8 @@ fn spell_moves(words: &[u64], table: Table, e: u64, x: u64, out: &mut [u8]) -> u
 
 // Form 5: some after value of x meets the action.
 fn spell_feasible(words: &[u64], table: Table, e: u64, x: u64, out: &mut [u8]) -> u64
-    requires { ⌜ table ≡ countsOf (tableOf (now words)) ⌝ }
-    ensures { λ r. ⌜ Spelled (spelled 41 x ∷ movesRows (tableOf (now (words .entry))) e x) r (now (out .entry)) (now (out .exit)) ⌝ }
+    requires { ⌜ table ≡ countsOf (rowsOf (now words)) ⌝ }
+    ensures { λ r. ⌜ Spelled (spelled 41 x ∷ movesRows (rowsOf (now (words .entry))) e x) r (now (out .entry)) (now (out .exit)) ⌝ }
 {
     let head = row_83(out, 41, x);
     let at = rest_start(out.len(), head);
@@ -355,7 +355,7 @@ fn spell_feasible(words: &[u64], table: Table, e: u64, x: u64, out: &mut [u8]) -
 
 // The root of the witness of the event e for x; 0 where there is none, as the columns past the last row are.
 fn witness_root(words: &[u64], e: u64, x: u64) -> u64
-    ensures { λ r. ⌜ r ≡ witnessNode (tableOf (now (words .entry))) e x ⌝ }
+    ensures { λ r. ⌜ r ≡ witnessNode (rowsOf (now (words .entry))) e x ⌝ }
 {
     let query = Query::Witnesses {
         event: e,
@@ -373,8 +373,8 @@ fn some_operator(variable: bool) -> u64
 
 // Form 6: some value of x, or some after value of a variable, meets the witness.
 fn spell_witnessed(words: &[u64], table: Table, e: u64, x: u64, out: &mut [u8]) -> u64
-    requires { ⌜ table ≡ countsOf (tableOf (now words)) ⌝ }
-    ensures { λ r. ⌜ Spelled (spelled (pick (isVariableNumber (tableOf (now (words .entry))) x) 41 40) x ∷ shownRows (tableOf (now (words .entry))) false (witnessNode (tableOf (now (words .entry))) e x)) r (now (out .entry)) (now (out .exit)) ⌝ }
+    requires { ⌜ table ≡ countsOf (rowsOf (now words)) ⌝ }
+    ensures { λ r. ⌜ Spelled (spelled (pick (isVariableNumber (rowsOf (now (words .entry))) x) 41 40) x ∷ shownRows (rowsOf (now (words .entry))) false (witnessNode (rowsOf (now (words .entry))) e x)) r (now (out .entry)) (now (out .exit)) ⌝ }
 {
     let operator = some_operator(is_variable(words, table, x));
     let root = witness_root(words, e, x);
@@ -383,8 +383,8 @@ fn spell_witnessed(words: &[u64], table: Table, e: u64, x: u64, out: &mut [u8]) 
 
 // Form 8: variant after < variant.
 fn spell_decreases(words: &[u64], table: Table, root: u64, out: &mut [u8]) -> u64
-    requires { ⌜ table ≡ countsOf (tableOf (now words)) ⌝ }
-    ensures { λ r. ⌜ Spelled ((spelled 21 0 ∷ shownRows (tableOf (now (words .entry))) true root) ++ shownRows (tableOf (now (words .entry))) false root) r (now (out .entry)) (now (out .exit)) ⌝ }
+    requires { ⌜ table ≡ countsOf (rowsOf (now words)) ⌝ }
+    ensures { λ r. ⌜ Spelled ((spelled 21 0 ∷ shownRows (rowsOf (now (words .entry))) true root) ++ shownRows (rowsOf (now (words .entry))) false root) r (now (out .entry)) (now (out .exit)) ⌝ }
 {
     let after = spell_under(words, table, 21, 0, root, true, out);
     let at = rest_start(out.len(), after);
@@ -394,8 +394,8 @@ fn spell_decreases(words: &[u64], table: Table, root: u64, out: &mut [u8]) -> u6
 
 // An entry spelled out: the count of its rows, capped, and the rows where the buffer has room for them. Form 7, 0 ≤ variant, is a comparison with a literal.
 pub fn spell(words: &[u64], table: Table, entry: Entry, out: &mut [u8]) -> u64
-    requires { ⌜ table ≡ countsOf (tableOf (now words)) ⌝ }
-    ensures { λ r. ⌜ Spelled (entryRows (tableOf (now (words .entry))) entry) r (now (out .entry)) (now (out .exit)) ⌝ }
+    requires { ⌜ table ≡ countsOf (rowsOf (now words)) ⌝ }
+    ensures { λ r. ⌜ Spelled (entryRows (rowsOf (now (words .entry))) entry) r (now (out .entry)) (now (out .exit)) ⌝ }
 {
     let form = entry.form;
     let first = entry.first;

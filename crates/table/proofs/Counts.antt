@@ -7,21 +7,21 @@ use native.Mathlib.Omega.{arith}
 use native.Mathlib.Numerals.{add-one}
 use lib.Dec.{ltb, leb, eqb}
 use lib.ListN.{length, getD}
-use Rattle.lists.specs.Rows.{countBelow}
-use Rattle.lists.proofs.Rows.{count-at-most}
+use Rattle.lists.specs.Below.{countBelow}
+use Rattle.lists.proofs.Below.{count-at-most}
 use Rattle.table.specs.declared.Table.{Table as Counts}
-use Rattle.table.specs.Table.{Table, tableOf, count, start, named, rowOf}
+use Rattle.table.specs.Rows.{Rows, rowsOf, count, start, named, rowOf}
 use Rattle.table.specs.Counts.{emptyCounts, countedRow, countsTo, countsOf, Small}
 
-pub counts-none : (t : Table) → emptyCounts ≡ countsTo t 0
+pub counts-none : (t : Rows) → emptyCounts ≡ countsTo t 0
 unfolding countBelow
 counts-none t = refl
 
-pub counts-next : (t : Table) (i : ℕ) → countedRow (countsTo t i) (t .tag i) ≡ countsTo t (i + 1)
+pub counts-next : (t : Rows) (i : ℕ) → countedRow (countsTo t i) (t .tag i) ≡ countsTo t (i + 1)
 unfolding countBelow
 counts-next t i = rw add-one
 
-pub counts-small : (t : Table) (i : ℕ) (k : Counts) → i < 2 ^ 63 → k ≡ countsTo t i → Small k
+pub counts-small : (t : Rows) (i : ℕ) (k : Counts) → i < 2 ^ 63 → k ≡ countsTo t i → Small k
 counts-small t i k h e = subst Small (sym e) (record {
   identifiersStart = omega (arith, count-at-most (λ i. ltb (t .tag i) 10) i);
   identifiers = omega (arith, count-at-most (λ i. eqb (t .tag i) 10) i);
@@ -32,7 +32,7 @@ counts-small t i k h e = subst Small (sym e) (record {
 })
 
 -- A count as the table's definitions name it, and where a section starts.
-module _ (t : Table) (k : Counts) (e : k ≡ countsOf t) where
+module _ (t : Rows) (k : Counts) (e : k ≡ countsOf t) where
   pub counts-identifiers : k .identifiers ≡ count t 10
   unfolding count
   counts-identifiers = ap (λ c. c .identifiers) e
@@ -57,17 +57,17 @@ module _ (t : Table) (k : Counts) (e : k ≡ countsOf t) where
   unfolding start
   starts-events = ap (λ c. c .«events_start») e
 
-pub start-inside : (ws : List ℕ) (k : ℕ) → start (tableOf ws) k ≤ length ws
+pub start-inside : (ws : List ℕ) (k : ℕ) → start (rowsOf ws) k ≤ length ws
 unfolding start
-start-inside ws k = omega (arith, count-at-most (λ i. ltb (tableOf ws .tag i) k) (tableOf ws .size))
+start-inside ws k = omega (arith, count-at-most (λ i. ltb (rowsOf ws .tag i) k) (rowsOf ws .size))
 
 -- What a number names in the section of a tag, from where the counts say that the section starts, and from how many rows they say it has.
-module _ (ws : List ℕ) (tag s : ℕ) (e : s ≡ start (tableOf ws) tag) where
+module _ (ws : List ℕ) (tag s : ℕ) (e : s ≡ start (rowsOf ws) tag) where
   pub section-inside : s ≤ length ws
   section-inside = rw e (start-inside ws tag)
 
-  pub section-field : (r x column : ℕ) → r ≡ getD ws (4 * (s + x - 1) + column) 0 → r ≡ getD ws (4 * rowOf (tableOf ws) tag x + column) 0
+  pub section-field : (r x column : ℕ) → r ≡ getD ws (4 * (s + x - 1) + column) 0 → r ≡ getD ws (4 * rowOf (rowsOf ws) tag x + column) 0
   section-field r x column h = h ∙ ap (λ s. getD ws (4 * (s + x - 1) + column) 0) e
 
-pub section-named : (t : Table) (tag n x : ℕ) (r : Bool) → n ≡ count t tag → r ≡ (leb 1 x && leb x n) → r ≡ named t tag x
+pub section-named : (t : Rows) (tag n x : ℕ) (r : Bool) → n ≡ count t tag → r ≡ (leb 1 x && leb x n) → r ≡ named t tag x
 section-named t tag n x r e h = h ∙ ap (λ n. leb 1 x && leb x n) e

@@ -11,12 +11,12 @@ use borrow.Author.Tests.{lt-ltb, le-ltb, eq-eqb, ne-eqb}
 use lib.Dec.{T, ltb, leb, eqb, ltb→lt, lt→ltb, leb→le, le→leb, eqb→eq, eqb-refl}
 use Rattle.lists.specs.All.{In}
 use Rattle.lists.specs.Distinct.{Distinct}
-use Rattle.lists.specs.Rows.{oneIf, numbers}
+use Rattle.lists.specs.Below.{oneIf, numbers}
 use Rattle.lists.proofs.Distinct.{pairwise-keep, numbers-distinct}
-use Rattle.lists.proofs.Rows.{count-boundary, count-at-most, count-sum, numbers-in, in-numbers, keep-in, in-keep}
-use Rattle.table.specs.Table.{Table, tagged, section, count, start, named, rowOf, numberIn}
+use Rattle.lists.proofs.Below.{count-boundary, count-at-most, count-sum, numbers-in, in-numbers, keep-in, in-keep}
+use Rattle.table.specs.Rows.{Rows, tagged, section, count, start, named, rowOf, numberIn}
 
-module _ (t : Table) where
+module _ (t : Rows) where
   -- the rows of a section
   pub section-row : (k i : ℕ) → In i (section t k) → (i < t .size) × (t .tag i ≡ k)
   unfolding section

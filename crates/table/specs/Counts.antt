@@ -1,9 +1,9 @@
 -- Where the identifiers, the nodes and the events of a table stand, as the code holds it: counted row by row.
 use Prim.Native.Nat.{ℕ, zero, suc, _+_, _<_, _^_}
 use lib.Dec.{ltb, eqb}
-use Rattle.lists.specs.Rows.{oneIf, countBelow}
+use Rattle.lists.specs.Below.{oneIf, countBelow}
 use Rattle.table.specs.declared.Table.{Table as Counts}
-use Rattle.table.specs.Table.{Table, count, start}
+use Rattle.table.specs.Rows.{Rows, count, start}
 
 abbrev pub emptyCounts : Counts
 emptyCounts = record { «identifiers_start» = 0; identifiers = 0; «nodes_start» = 0; nodes = 0; «events_start» = 0; events = 0 }
@@ -28,7 +28,7 @@ pub record Small (k : Counts) : Type 0 where
   pub events : k .events < 2 ^ 63
 
 -- of the first n rows, and of all
-abbrev pub countsTo : Table → ℕ → Counts
+abbrev pub countsTo : Rows → ℕ → Counts
 countsTo t n = record {
   «identifiers_start» = countBelow (λ i. ltb (t .tag i) 10) n;
   identifiers = countBelow (λ i. eqb (t .tag i) 10) n;
@@ -38,5 +38,5 @@ countsTo t n = record {
   events = countBelow (λ i. eqb (t .tag i) 40) n;
 }
 
-abbrev pub countsOf : Table → Counts
+abbrev pub countsOf : Rows → Counts
 countsOf t = countsTo t (t .size)

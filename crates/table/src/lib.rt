@@ -4,8 +4,8 @@ ghost use Prim.Native.Nat.{_+_, _*_, _-_, _^_, _<_, _≤_};
 ghost use mathlib.Core.Bool.{_&&_};
 ghost use lib.Dec.{eqb, leb};
 ghost use lib.ListN.{length, getD};
-ghost use Rattle.lists.specs.Rows.{oneIf};
-ghost use Rattle.table.specs.Table.{tableOf, named, rowOf, isVariableNumber, operandNode};
+ghost use Rattle.lists.specs.Below.{oneIf};
+ghost use Rattle.table.specs.Rows.{rowsOf, named, rowOf, isVariableNumber, operandNode};
 ghost use Rattle.table.specs.Counts.{emptyCounts, countedRow, countsOf, Small};
 
 // How many rows stand before the identifiers, the nodes and the events of a table, and how many of these there are.
@@ -34,31 +34,31 @@ pub fn cell(words: &[u64], row: usize, column: usize) -> u64
 }
 
 pub fn size(words: &[u64]) -> usize
-    ensures { λ r. ⌜ r ≡ tableOf (now (words .entry)) .size ⌝ }
+    ensures { λ r. ⌜ r ≡ rowsOf (now (words .entry)) .size ⌝ }
 {
     words.len() / 4
 }
 
 pub fn tag_at(words: &[u64], row: usize) -> u64
-    ensures { λ r. ⌜ r ≡ tableOf (now (words .entry)) .tag row ⌝ }
+    ensures { λ r. ⌜ r ≡ rowsOf (now (words .entry)) .tag row ⌝ }
 {
     cell(words, row, 0)
 }
 
 pub fn a_at(words: &[u64], row: usize) -> u64
-    ensures { λ r. ⌜ r ≡ tableOf (now (words .entry)) .a row ⌝ }
+    ensures { λ r. ⌜ r ≡ rowsOf (now (words .entry)) .a row ⌝ }
 {
     cell(words, row, 1)
 }
 
 pub fn b_at(words: &[u64], row: usize) -> u64
-    ensures { λ r. ⌜ r ≡ tableOf (now (words .entry)) .b row ⌝ }
+    ensures { λ r. ⌜ r ≡ rowsOf (now (words .entry)) .b row ⌝ }
 {
     cell(words, row, 2)
 }
 
 pub fn c_at(words: &[u64], row: usize) -> u64
-    ensures { λ r. ⌜ r ≡ tableOf (now (words .entry)) .c row ⌝ }
+    ensures { λ r. ⌜ r ≡ rowsOf (now (words .entry)) .c row ⌝ }
 {
     cell(words, row, 3)
 }
@@ -177,7 +177,7 @@ impl Table {
 
     // The counts of all rows.
     pub fn of(words: &[u64]) -> Self
-        ensures { λ r. ⌜ r ≡ countsOf (tableOf (now (words .entry))) ⌝ }
+        ensures { λ r. ⌜ r ≡ countsOf (rowsOf (now (words .entry))) ⌝ }
     {
         let rows = size(words);
         let mut table = Table::empty();
@@ -192,16 +192,16 @@ impl Table {
 
 // A column of an identifier: 1 kind, 2 type, 3 owner.
 pub fn identifier_field(words: &[u64], table: Table, x: u64, column: usize) -> u64
-    requires { ⌜ (table ≡ countsOf (tableOf (now words))) × (column < 4) ⌝ }
-    ensures { λ r. ⌜ r ≡ getD (now (words .entry)) (4 * rowOf (tableOf (now (words .entry))) 10 x + column) 0 ⌝ }
+    requires { ⌜ (table ≡ countsOf (rowsOf (now words))) × (column < 4) ⌝ }
+    ensures { λ r. ⌜ r ≡ getD (now (words .entry)) (4 * rowOf (rowsOf (now (words .entry))) 10 x + column) 0 ⌝ }
 {
     field(words, table.identifiers_start, x, column)
 }
 
 // Whether an identifier is a variable of one of the machines.
 pub fn is_variable(words: &[u64], table: Table, x: u64) -> bool
-    requires { ⌜ table ≡ countsOf (tableOf (now words)) ⌝ }
-    ensures { λ r. ⌜ r ≡ isVariableNumber (tableOf (now (words .entry))) x ⌝ }
+    requires { ⌜ table ≡ countsOf (rowsOf (now words)) ⌝ }
+    ensures { λ r. ⌜ r ≡ isVariableNumber (rowsOf (now (words .entry))) x ⌝ }
 {
     let kind = identifier_field(words, table, x, Table::KIND);
     (kind == 2) | (kind == 3)
@@ -209,8 +209,8 @@ pub fn is_variable(words: &[u64], table: Table, x: u64) -> bool
 
 // A column of a node: 1 operator, 2 and 3 operands.
 pub fn node_field(words: &[u64], table: Table, n: u64, column: usize) -> u64
-    requires { ⌜ (table ≡ countsOf (tableOf (now words))) × (column < 4) ⌝ }
-    ensures { λ r. ⌜ r ≡ getD (now (words .entry)) (4 * rowOf (tableOf (now (words .entry))) 20 n + column) 0 ⌝ }
+    requires { ⌜ (table ≡ countsOf (rowsOf (now words))) × (column < 4) ⌝ }
+    ensures { λ r. ⌜ r ≡ getD (now (words .entry)) (4 * rowOf (rowsOf (now (words .entry))) 20 n + column) 0 ⌝ }
 {
     field(words, table.nodes_start, n, column)
 }
@@ -227,32 +227,32 @@ pub fn operand(n: u64, x: u64) -> u64
 
 // A column of an event: 1 machine, 2 class, 3 refined event.
 pub fn event_field(words: &[u64], table: Table, e: u64, column: usize) -> u64
-    requires { ⌜ (table ≡ countsOf (tableOf (now words))) × (column < 4) ⌝ }
-    ensures { λ r. ⌜ r ≡ getD (now (words .entry)) (4 * rowOf (tableOf (now (words .entry))) 40 e + column) 0 ⌝ }
+    requires { ⌜ (table ≡ countsOf (rowsOf (now words))) × (column < 4) ⌝ }
+    ensures { λ r. ⌜ r ≡ getD (now (words .entry)) (4 * rowOf (rowsOf (now (words .entry))) 40 e + column) 0 ⌝ }
 {
     field(words, table.events_start, e, column)
 }
 
 // Whether a number names an identifier.
 pub fn named_identifier(words: &[u64], table: Table, x: u64) -> bool
-    requires { ⌜ table ≡ countsOf (tableOf (now words)) ⌝ }
-    ensures { λ r. ⌜ r ≡ named (tableOf (now (words .entry))) 10 x ⌝ }
+    requires { ⌜ table ≡ countsOf (rowsOf (now words)) ⌝ }
+    ensures { λ r. ⌜ r ≡ named (rowsOf (now (words .entry))) 10 x ⌝ }
 {
     among(x, table.identifiers)
 }
 
 // Whether a number names a node.
 pub fn named_node(words: &[u64], table: Table, n: u64) -> bool
-    requires { ⌜ table ≡ countsOf (tableOf (now words)) ⌝ }
-    ensures { λ r. ⌜ r ≡ named (tableOf (now (words .entry))) 20 n ⌝ }
+    requires { ⌜ table ≡ countsOf (rowsOf (now words)) ⌝ }
+    ensures { λ r. ⌜ r ≡ named (rowsOf (now (words .entry))) 20 n ⌝ }
 {
     among(n, table.nodes)
 }
 
 // Whether a number names an event.
 pub fn named_event(words: &[u64], table: Table, e: u64) -> bool
-    requires { ⌜ table ≡ countsOf (tableOf (now words)) ⌝ }
-    ensures { λ r. ⌜ r ≡ named (tableOf (now (words .entry))) 40 e ⌝ }
+    requires { ⌜ table ≡ countsOf (rowsOf (now words)) ⌝ }
+    ensures { λ r. ⌜ r ≡ named (rowsOf (now (words .entry))) 40 e ⌝ }
 {
     among(e, table.events)
 }

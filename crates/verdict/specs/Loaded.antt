@@ -15,12 +15,12 @@ use Rattle.verdict.specs.declared.Loaded.{Loaded}
 use Rattle.verdict.specs.declared.Loaded.the-variants.{Words, Refused}
 
 -- the row at which decoding ended
-abbrev pub rowOf : Decoded → ℕ
-rowOf (decoding.Rows n) = n
-rowOf (decoding.Malformed i) = i
+abbrev pub endRow : Decoded → ℕ
+endRow (decoding.Complete n) = n
+endRow (decoding.Malformed i) = i
 
 abbrev pub loadedRows : Decoded → Loaded
-loadedRows (decoding.Rows n) = Words (4 * n)
+loadedRows (decoding.Complete n) = Words (4 * n)
 loadedRows (decoding.Malformed i) = Refused 2 (i + 1)
 
 unfoldable pub loadedOf : List ℕ → Loaded

@@ -10,9 +10,9 @@ use walk::count;
 ghost use mathlib.Core.Path.{_≡_};
 ghost use Prim.Native.Nat.{_^_, _≤_, _<_};
 ghost use lib.ListN.{length};
-ghost use Rattle.table.specs.Table.{tableOf};
+ghost use Rattle.table.specs.Rows.{rowsOf};
 ghost use Rattle.rules.specs.Verdict.{judge as judgeOf, verdict as verdictOf};
-ghost use Rattle.verdict.specs.Loaded.{rowOf, loadedRows, loadedOf, HoldsRows};
+ghost use Rattle.verdict.specs.Loaded.{endRow, loadedRows, loadedOf, HoldsRows};
 
 // How many words the rows of a table have, or refusal 1 or 2 with its row.
 pub enum Loaded {
@@ -22,11 +22,11 @@ pub enum Loaded {
 
 // Where decoding ended: all rows are in the row form, or one is not.
 fn after_decoding(decoded: Decoded) -> Loaded
-    requires { ⌜ rowOf decoded < 2 ^ 61 ⌝ }
+    requires { ⌜ endRow decoded < 2 ^ 61 ⌝ }
     ensures { λ r. ⌜ r ≡ loadedRows decoded ⌝ }
 {
     match decoded {
-        Decoded::Rows(rows) => Loaded::Words(4 * rows),
+        Decoded::Complete(rows) => Loaded::Words(4 * rows),
         Decoded::Malformed(row) => Loaded::Refused(2, row as u64 + 1),
     }
 }
@@ -49,7 +49,7 @@ pub fn load(bytes: &[u8], words: &mut [u64]) -> Loaded
 // Checks 3 to 12, and the count of the sequents where none offends.
 pub fn judge(words: &[u64]) -> Verdict
     requires { ⌜ length (now words) ≤ 6896 ⌝ }
-    ensures { λ r. ⌜ r ≡ judgeOf (tableOf (now (words .entry))) ⌝ }
+    ensures { λ r. ⌜ r ≡ judgeOf (rowsOf (now (words .entry))) ⌝ }
 {
     let table = Table::of(words);
     let check = first_check(words, table);

@@ -8,14 +8,14 @@ use native.Mathlib.Nat.{suc-mul}
 use lib.Dec.{ltb}
 use borrow.Author.Tests.{ltb-true, ltb-false}
 use Rattle.lists.specs.Choice.{pick}
-use Rattle.lists.proofs.Rows.{count-at-most}
-use Rattle.table.specs.Table.{Table, tagged, count}
+use Rattle.lists.proofs.Below.{count-at-most}
+use Rattle.table.specs.Rows.{Rows, tagged, count}
 use Rattle.sequent.specs.Walk.{groups, slotCount, walkTo}
 use Rattle.sequent.proofs.Find.{walk-row, walk-group, walk-event}
 use Rattle.walk.specs.declared.Slot.{Slot}
-use Rattle.walk.specs.Slots.{slotAt, nextSlot, Within, AtEnd, InWalk, place}
+use Rattle.walk.specs.Slots.{slotAt, nextSlot, Within, AtEnd, InWalk, position}
 
-module _ (t : Table) where
+module _ (t : Rows) where
   -- the slots from s on
   abbrev pub slotsFrom : Slot → ℕ
   slotsFrom s = (groups * (count t 40 + 1 - s .event) - s .group) * t .size - s .row
@@ -23,7 +23,7 @@ module _ (t : Table) where
   -- what a step from s with `left` to pass over comes to
   pub record Stepped (s : Slot) (left : ℕ) (r : Slot) : Type 0 where
     pub inWalk : InWalk t r
-    pub place : place t r ≡ walkTo t (s .event) (s .group) (s .row) + slotCount t (s .event) (s .group) (s .row) + left
+    pub position : position t r ≡ walkTo t (s .event) (s .group) (s .row) + slotCount t (s .event) (s .group) (s .row) + left
     pub fewer : slotsFrom r < slotsFrom s
 
   fewer-rows : (m m′ row : ℕ) → m ≡ suc m′ → row < t .size → m′ * t .size - 0 < m * t .size - row
@@ -54,12 +54,12 @@ module _ (t : Table) where
       by-group : (c : Bool) → ltb (g + 1) groups ≡ c → t .size ≤ i + 1 → Stepped s left (pick c (slotAt e (g + 1) 0 left) (slotAt (e + 1) 0 0 left))
       by-group true q h = record {
         inWalk = inl (record { event = w .event; group = ltb-true (g + 1) groups q; row = omega (arith, w .row) });
-        place = ap (λ n. n + left) (walk-group t e g ∙ last h);
+        position = ap (λ n. n + left) (walk-group t e g ∙ last h);
         fewer = fewer-rows _ _ i (omega (arith, w .event, w .group)) (w .row);
       }
       by-group false q h = record {
         inWalk = by-event (ltb e (count t 40)) refl;
-        place = ap (λ n. n + left) (walk-event t e ∙ ap (λ n. walkTo t e n 0) (omega (arith, w .group, ltb-false (g + 1) groups q)) ∙ walk-group t e g ∙ last h);
+        position = ap (λ n. n + left) (walk-event t e ∙ ap (λ n. walkTo t e n 0) (omega (arith, w .group, ltb-false (g + 1) groups q)) ∙ walk-group t e g ∙ last h);
         fewer = fewer-rows (groups * (count t 40 + 1 - e) - g) (groups * (count t 40 + 1 - (e + 1)) - 0) i (omega (arith, w .event, w .group, ltb-false (g + 1) groups q)) (w .row);
       }
         where
@@ -71,7 +71,7 @@ module _ (t : Table) where
           → Stepped s left (pick b (slotAt e g (i + 1) left) (pick (ltb (g + 1) groups) (slotAt e (g + 1) 0 left) (slotAt (e + 1) 0 0 left)))
       by-row true p = record {
         inWalk = inl (record { event = w .event; group = w .group; row = ltb-true (i + 1) (t .size) p });
-        place = ap (λ n. n + left) (walk-row t e g i);
+        position = ap (λ n. n + left) (walk-row t e g i);
         fewer = next-row _ i (omega (arith, w .event, w .group)) (w .row);
       }
       by-row false p = by-group (ltb (g + 1) groups) refl (ltb-false (i + 1) (t .size) p)
@@ -87,10 +87,10 @@ module _ (t : Table) where
 
   -- the step as the loop takes it
   pub step-kept : (s r : Slot) (left k : ℕ) → Within t s → r ≡ nextSlot (t .size) (slotAt (s .event) (s .group) (s .row) left)
-      → walkTo t (s .event) (s .group) (s .row) + slotCount t (s .event) (s .group) (s .row) + left ≡ k → (InWalk t r) × (place t r ≡ k)
+      → walkTo t (s .event) (s .group) (s .row) + slotCount t (s .event) (s .group) (s .row) + left ≡ k → (InWalk t r) × (position t r ≡ k)
   step-kept s r left k w q p =
       let step = stepped s left w in
-      (subst (InWalk t) (sym q) (step .inWalk), subst (λ r. place t r ≡ k) (sym q) (step .place ∙ p))
+      (subst (InWalk t) (sym q) (step .inWalk), subst (λ r. position t r ≡ k) (sym q) (step .place ∙ p))
 
   pub step-fewer : (s r : Slot) (left : ℕ) → Within t s → r ≡ nextSlot (t .size) (slotAt (s .event) (s .group) (s .row) left) → slotsFrom r < slotsFrom s
   step-fewer s r left w q = subst (λ r. slotsFrom r < slotsFrom s) (sym q) (stepped s left w .fewer)

@@ -6,8 +6,8 @@ use native.Mathlib.Omega.{arith}
 use lib.Dec.{ltb, eqb}
 use lib.ListN.{getD, List·getD-eq-default}
 use borrow.Author.Tests.{ltb-true, eqb-true, eqb-false}
-use Rattle.lists.proofs.Rows.{count-at-most}
-use Rattle.table.specs.Table.{Table, tagged, count}
+use Rattle.lists.proofs.Below.{count-at-most}
+use Rattle.table.specs.Rows.{Rows, tagged, count}
 use Rattle.scan.specs.declared.Span.{Span}
 use Rattle.scan.specs.declared.Query.the-variants.{CountedWith, Assigns}
 use Rattle.scan.specs.Query.{passesOf}
@@ -20,12 +20,12 @@ left-true : (p q : Bool) → p && q ≡ true → p ≡ true
 left-true true q e = refl
 left-true false q e = e
 
-pub identifier-within : (t : Table) (kind i : ℕ) → identifierAt t kind i ≡ true → i < t .size
+pub identifier-within : (t : Rows) (kind i : ℕ) → identifierAt t kind i ≡ true → i < t .size
 unfolding count
 identifier-within t kind i e = omega (arith, ltb-true i (count t 10) (left-true (ltb i (count t 10)) _ e), count-at-most (tagged t 10) (t .size))
 
 -- A test of the identifier that row i stands for, where that is a variable of the event's machine.
-module _ (t : Table) (e i : ℕ) {b : Bool} (found : b ≡ identifierAt t (ownKind t e) i) where
+module _ (t : Rows) (e i : ℕ) {b : Bool} (found : b ≡ identifierAt t (ownKind t e) i) where
   pub own-within : b ≡ true → i < t .size
   own-within h = identifier-within t (ownKind t e) i (sym found ∙ h)
 
@@ -50,7 +50,7 @@ no-invariant b tag h = by-tag (eqb tag 31) (eqb tag 32) refl refl h b
     by-tag false false ex ey h false = sym ey
 
 -- The actions of an event for a variable stand in the span of all actions.
-module _ (t : Table) (e x : ℕ) where
+module _ (t : Rows) (e x : ℕ) where
   no-action : (p q r : Bool) → (p || (true && (p || q))) ≡ false → ((p || q) && r) ≡ false
   no-action true q r h = absurd (true≢false h)
   no-action false true r h = absurd (true≢false h)
@@ -66,7 +66,7 @@ module _ (t : Table) (e x : ℕ) where
 pub past : (n : ℕ) {g : ℕ} → (g ≡ n → ⊥) → n ≤ g → suc n ≤ g
 past n d h = omega (arith, d)
 
-module _ (t : Table) (e i : ℕ) where
+module _ (t : Rows) (e i : ℕ) where
   -- the test of a group; no other number has one
   abbrev pub groupTest : ℕ → Bool
   groupTest g = getD (groupTests t) g (λ e i. false) e i

@@ -5,7 +5,7 @@ use mathlib.Core.Bool.{cond}
 use mathlib.Core.Logic.{_⊎_}
 use lib.Dec.{ltb}
 use Rattle.lists.specs.Choice.{pick}
-use Rattle.table.specs.Table.{Table, count}
+use Rattle.table.specs.Rows.{Rows, count}
 use Rattle.sequent.specs.Walk.{groups, slotCount, walkTo}
 use Rattle.walk.specs.declared.Slot.{Slot}
 
@@ -18,7 +18,7 @@ nextSlot size s =
     pick (ltb (s .row + 1) size) (slotAt (s .event) (s .group) (s .row + 1) (s .left))
     (pick (ltb (s .group + 1) groups) (slotAt (s .event) (s .group + 1) 0 (s .left)) (slotAt (s .event + 1) 0 0 (s .left)))
 
-module _ (t : Table) where
+module _ (t : Rows) where
   -- a slot of the walk
   pub record Within (s : Slot) : Type 0 where
     pub event : s .event ≤ count t 40
@@ -35,9 +35,9 @@ module _ (t : Table) where
   InWalk s = Within s ⊎ AtEnd s
 
   -- the place in the list that a slot and what is left name, counted from 0
-  abbrev pub place : Slot → ℕ
-  place s = walkTo t (s .event) (s .group) (s .row) + s .left
+  abbrev pub position : Slot → ℕ
+  position s = walkTo t (s .event) (s .group) (s .row) + s .left
 
   -- the search for a place has come to an end: in the slot that holds the place, or behind the last
-  abbrev pub Sought : ℕ → Slot → Type 0
-  Sought k s = (place s ≡ k) × (((w : Within s) × (s .left < slotCount t (s .event) (s .group) (s .row))) ⊎ AtEnd s)
+  abbrev pub SoughtSlot : ℕ → Slot → Type 0
+  SoughtSlot k s = (position s ≡ k) × (((w : Within s) × (s .left < slotCount t (s .event) (s .group) (s .row))) ⊎ AtEnd s)

@@ -13,18 +13,18 @@ ghost use mathlib.Core.Path.{_≡_};
 ghost use Prim.Native.Nat.{_+_, _-_, _^_, _<_, _≤_};
 ghost use mathlib.Core.Bool.{_&&_, false, cond};
 ghost use lib.ListN.{getD, length};
-ghost use Rattle.table.specs.Table.{tableOf, tagged, refinedBy};
+ghost use Rattle.table.specs.Rows.{rowsOf, tagged, refinedBy};
 ghost use Rattle.table.specs.Counts.{countsOf};
 ghost use Rattle.sequent.specs.Walk.{hasGroup, groupTests, isFormula, rowOfEvent, isAbstract, isRefining, isMatched, isConvergent};
 ghost use Rattle.sequent.specs.Walk.{ownKind, ownInvariantTag, identifierAt, isAssigned, becomesSuch, makes, slotCount, groups};
 ghost use Rattle.machine.specs.Described.{machineOf};
 ghost use Rattle.sequent.specs.Listed.{sequents};
 ghost use Rattle.walk.specs.Actions.{actionsOf};
-ghost use Rattle.walk.specs.Slots.{slotAt, nextSlot, InWalk, place, Sought};
+ghost use Rattle.walk.specs.Slots.{slotAt, nextSlot, InWalk, position, SoughtSlot};
 
 // "30, 31, 32 axiom, abstract invariant, concrete invariant"
 pub fn is_formula(words: &[u64], i: usize) -> bool
-    ensures { λ r. ⌜ r ≡ isFormula (tableOf (now (words .entry))) i ⌝ }
+    ensures { λ r. ⌜ r ≡ isFormula (rowsOf (now (words .entry))) i ⌝ }
 {
     let tag = tag_at(words, i);
     (tag == 30) | ((tag == 31) | (tag == 32))
@@ -32,39 +32,39 @@ pub fn is_formula(words: &[u64], i: usize) -> bool
 
 // Whether row i is of a tag and belongs to an event.
 pub fn row_of_event(words: &[u64], tag: u64, event: u64, i: usize) -> bool
-    ensures { λ r. ⌜ r ≡ rowOfEvent (tableOf (now (words .entry))) tag event i ⌝ }
+    ensures { λ r. ⌜ r ≡ rowOfEvent (rowsOf (now (words .entry))) tag event i ⌝ }
 {
     (tag_at(words, i) == tag) & (a_at(words, i) == event)
 }
 
 // "machine: 1 abstract, 2 concrete"
 pub fn is_abstract(words: &[u64], table: Table, event: u64) -> bool
-    requires { ⌜ table ≡ countsOf (tableOf (now words)) ⌝ }
-    ensures { λ r. ⌜ r ≡ isAbstract (tableOf (now (words .entry))) event ⌝ }
+    requires { ⌜ table ≡ countsOf (rowsOf (now words)) ⌝ }
+    ensures { λ r. ⌜ r ≡ isAbstract (rowsOf (now (words .entry))) event ⌝ }
 {
     event_field(words, table, event, Table::MACHINE) == 1
 }
 
 // "class: 0 initialisation, 1 ordinary, 2 convergent"
 pub fn is_refining(words: &[u64], table: Table, event: u64) -> bool
-    requires { ⌜ table ≡ countsOf (tableOf (now words)) ⌝ }
-    ensures { λ r. ⌜ r ≡ isRefining (tableOf (now (words .entry))) event ⌝ }
+    requires { ⌜ table ≡ countsOf (rowsOf (now words)) ⌝ }
+    ensures { λ r. ⌜ r ≡ isRefining (rowsOf (now (words .entry))) event ⌝ }
 {
     !is_abstract(words, table, event) & (event_field(words, table, event, Table::CLASS) == 1)
 }
 
 // A concrete initialisation or ordinary event.
 pub fn is_matched(words: &[u64], table: Table, event: u64) -> bool
-    requires { ⌜ table ≡ countsOf (tableOf (now words)) ⌝ }
-    ensures { λ r. ⌜ r ≡ isMatched (tableOf (now (words .entry))) event ⌝ }
+    requires { ⌜ table ≡ countsOf (rowsOf (now words)) ⌝ }
+    ensures { λ r. ⌜ r ≡ isMatched (rowsOf (now (words .entry))) event ⌝ }
 {
     let class = event_field(words, table, event, Table::CLASS);
     !is_abstract(words, table, event) & ((class == 0) | (class == 1))
 }
 
 pub fn is_convergent(words: &[u64], table: Table, event: u64) -> bool
-    requires { ⌜ table ≡ countsOf (tableOf (now words)) ⌝ }
-    ensures { λ r. ⌜ r ≡ isConvergent (tableOf (now (words .entry))) event ⌝ }
+    requires { ⌜ table ≡ countsOf (rowsOf (now words)) ⌝ }
+    ensures { λ r. ⌜ r ≡ isConvergent (rowsOf (now (words .entry))) event ⌝ }
 {
     let class = event_field(words, table, event, Table::CLASS);
     !is_abstract(words, table, event) & !((class == 0) | (class == 1))
@@ -72,8 +72,8 @@ pub fn is_convergent(words: &[u64], table: Table, event: u64) -> bool
 
 // By an event's machine: one number where it is abstract, the other where it is concrete.
 fn of_machine(words: &[u64], table: Table, event: u64, one: u64, other: u64) -> u64
-    requires { ⌜ table ≡ countsOf (tableOf (now words)) ⌝ }
-    ensures { λ r. ⌜ r ≡ cond (isAbstract (tableOf (now (words .entry))) event) one other ⌝ }
+    requires { ⌜ table ≡ countsOf (rowsOf (now words)) ⌝ }
+    ensures { λ r. ⌜ r ≡ cond (isAbstract (rowsOf (now (words .entry))) event) one other ⌝ }
 {
     if is_abstract(words, table, event) {
         return one;
@@ -83,24 +83,24 @@ fn of_machine(words: &[u64], table: Table, event: u64, one: u64, other: u64) -> 
 
 // The kind of the variables of an event's own machine.
 pub fn own_kind(words: &[u64], table: Table, event: u64) -> u64
-    requires { ⌜ table ≡ countsOf (tableOf (now words)) ⌝ }
-    ensures { λ r. ⌜ r ≡ ownKind (tableOf (now (words .entry))) event ⌝ }
+    requires { ⌜ table ≡ countsOf (rowsOf (now words)) ⌝ }
+    ensures { λ r. ⌜ r ≡ ownKind (rowsOf (now (words .entry))) event ⌝ }
 {
     of_machine(words, table, event, 2, 3)
 }
 
 // The tag of the invariants of an event's own machine.
 fn own_invariant_tag(words: &[u64], table: Table, event: u64) -> u64
-    requires { ⌜ table ≡ countsOf (tableOf (now words)) ⌝ }
-    ensures { λ r. ⌜ r ≡ ownInvariantTag (tableOf (now (words .entry))) event ⌝ }
+    requires { ⌜ table ≡ countsOf (rowsOf (now words)) ⌝ }
+    ensures { λ r. ⌜ r ≡ ownInvariantTag (rowsOf (now (words .entry))) event ⌝ }
 {
     of_machine(words, table, event, 31, 32)
 }
 
 // Whether there is an identifier i + 1, of a kind.
 pub fn identifier_at(words: &[u64], table: Table, kind: u64, i: usize) -> bool
-    requires { ⌜ table ≡ countsOf (tableOf (now words)) ⌝ }
-    ensures { λ r. ⌜ r ≡ identifierAt (tableOf (now (words .entry))) kind i ⌝ }
+    requires { ⌜ table ≡ countsOf (rowsOf (now words)) ⌝ }
+    ensures { λ r. ⌜ r ≡ identifierAt (rowsOf (now (words .entry))) kind i ⌝ }
 {
     let x = i as u64;
     if x < table.identifiers {
@@ -111,16 +111,16 @@ pub fn identifier_at(words: &[u64], table: Table, kind: u64, i: usize) -> bool
 
 // Whether an event has an action for a variable.
 fn is_assigned(words: &[u64], actions: Span, event: u64, target: u64) -> bool
-    requires { ⌜ actions ≡ actionsOf (tableOf (now words)) ⌝ }
-    ensures { λ r. ⌜ r ≡ isAssigned (tableOf (now (words .entry))) event target ⌝ }
+    requires { ⌜ actions ≡ actionsOf (rowsOf (now words)) ⌝ }
+    ensures { λ r. ⌜ r ≡ isAssigned (rowsOf (now (words .entry))) event target ⌝ }
 {
     find_within(words, Query::Assigns { event, target }, actions) < size(words)
 }
 
 // Whether that action is a 52.
 fn becomes_such(words: &[u64], actions: Span, event: u64, target: u64) -> bool
-    requires { ⌜ actions ≡ actionsOf (tableOf (now words)) ⌝ }
-    ensures { λ r. ⌜ r ≡ becomesSuch (tableOf (now (words .entry))) event target ⌝ }
+    requires { ⌜ actions ≡ actionsOf (rowsOf (now words)) ⌝ }
+    ensures { λ r. ⌜ r ≡ becomesSuch (rowsOf (now (words .entry))) event target ⌝ }
 {
     let row = find_within(words, Query::Assigns { event, target }, actions);
     (row < size(words)) & !(tag_at(words, row) == 51)
@@ -135,8 +135,8 @@ fn has_group(event: u64, group: u64) -> bool
 
 // Whether the row i stands for a variable of the event's machine. Most rows are past the identifiers.
 fn own_variable_at(words: &[u64], table: Table, event: u64, i: usize) -> bool
-    requires { ⌜ table ≡ countsOf (tableOf (now words)) ⌝ }
-    ensures { λ r. ⌜ r ≡ identifierAt (tableOf (now (words .entry))) (ownKind (tableOf (now (words .entry))) event) i ⌝ }
+    requires { ⌜ table ≡ countsOf (rowsOf (now words)) ⌝ }
+    ensures { λ r. ⌜ r ≡ identifierAt (rowsOf (now (words .entry))) (ownKind (rowsOf (now (words .entry))) event) i ⌝ }
 {
     if table.identifiers <= i as u64 {
         return false;
@@ -146,8 +146,8 @@ fn own_variable_at(words: &[u64], table: Table, event: u64, i: usize) -> bool
 
 // Group 3: a variable of the event's machine that it assigns. The row i stands for the identifier i + 1.
 fn assigned_at(words: &[u64], table: Table, actions: Span, event: u64, i: usize) -> bool
-    requires { ⌜ (table ≡ countsOf (tableOf (now words))) × (actions ≡ actionsOf (tableOf (now words))) ⌝ }
-    ensures { λ r. ⌜ r ≡ identifierAt (tableOf (now (words .entry))) (ownKind (tableOf (now (words .entry))) event) i && isAssigned (tableOf (now (words .entry))) event (i + 1) ⌝ }
+    requires { ⌜ (table ≡ countsOf (rowsOf (now words))) × (actions ≡ actionsOf (rowsOf (now words))) ⌝ }
+    ensures { λ r. ⌜ r ≡ identifierAt (rowsOf (now (words .entry))) (ownKind (rowsOf (now (words .entry))) event) i && isAssigned (rowsOf (now (words .entry))) event (i + 1) ⌝ }
 {
     if own_variable_at(words, table, event, i) {
         return is_assigned(words, actions, event, i as u64 + 1);
@@ -157,8 +157,8 @@ fn assigned_at(words: &[u64], table: Table, actions: Span, event: u64, i: usize)
 
 // Group 4: such a variable whose action is a 52.
 fn feasible_at(words: &[u64], table: Table, actions: Span, event: u64, i: usize) -> bool
-    requires { ⌜ (table ≡ countsOf (tableOf (now words))) × (actions ≡ actionsOf (tableOf (now words))) ⌝ }
-    ensures { λ r. ⌜ r ≡ identifierAt (tableOf (now (words .entry))) (ownKind (tableOf (now (words .entry))) event) i && becomesSuch (tableOf (now (words .entry))) event (i + 1) ⌝ }
+    requires { ⌜ (table ≡ countsOf (rowsOf (now words))) × (actions ≡ actionsOf (rowsOf (now words))) ⌝ }
+    ensures { λ r. ⌜ r ≡ identifierAt (rowsOf (now (words .entry))) (ownKind (rowsOf (now (words .entry))) event) i && becomesSuch (rowsOf (now (words .entry))) event (i + 1) ⌝ }
 {
     if own_variable_at(words, table, event, i) {
         return becomes_such(words, actions, event, i as u64 + 1);
@@ -168,8 +168,8 @@ fn feasible_at(words: &[u64], table: Table, actions: Span, event: u64, i: usize)
 
 // Group 6: a guard of the event that a refining event refines.
 fn refined_guard_at(words: &[u64], table: Table, event: u64, i: usize) -> bool
-    requires { ⌜ table ≡ countsOf (tableOf (now words)) ⌝ }
-    ensures { λ r. ⌜ r ≡ isRefining (tableOf (now (words .entry))) event && rowOfEvent (tableOf (now (words .entry))) 50 (refinedBy (tableOf (now (words .entry))) event) i ⌝ }
+    requires { ⌜ table ≡ countsOf (rowsOf (now words)) ⌝ }
+    ensures { λ r. ⌜ r ≡ isRefining (rowsOf (now (words .entry))) event && rowOfEvent (rowsOf (now (words .entry))) 50 (refinedBy (rowsOf (now (words .entry))) event) i ⌝ }
 {
     if tag_at(words, i) == 50 {
         return is_refining(words, table, event)
@@ -180,8 +180,8 @@ fn refined_guard_at(words: &[u64], table: Table, event: u64, i: usize) -> bool
 
 // Group 7: an abstract variable, where the event is matched.
 fn simulated_at(words: &[u64], table: Table, event: u64, i: usize) -> bool
-    requires { ⌜ table ≡ countsOf (tableOf (now words)) ⌝ }
-    ensures { λ r. ⌜ r ≡ isMatched (tableOf (now (words .entry))) event && identifierAt (tableOf (now (words .entry))) 2 i ⌝ }
+    requires { ⌜ table ≡ countsOf (rowsOf (now words)) ⌝ }
+    ensures { λ r. ⌜ r ≡ isMatched (rowsOf (now (words .entry))) event && identifierAt (rowsOf (now (words .entry))) 2 i ⌝ }
 {
     if identifier_at(words, table, 2, i) {
         return is_matched(words, table, event);
@@ -191,8 +191,8 @@ fn simulated_at(words: &[u64], table: Table, event: u64, i: usize) -> bool
 
 // Group 8: an invariant of the event's machine.
 fn invariant_at(words: &[u64], table: Table, event: u64, i: usize) -> bool
-    requires { ⌜ table ≡ countsOf (tableOf (now words)) ⌝ }
-    ensures { λ r. ⌜ r ≡ tagged (tableOf (now (words .entry))) (ownInvariantTag (tableOf (now (words .entry))) event) i ⌝ }
+    requires { ⌜ table ≡ countsOf (rowsOf (now words)) ⌝ }
+    ensures { λ r. ⌜ r ≡ tagged (rowsOf (now (words .entry))) (ownInvariantTag (rowsOf (now (words .entry))) event) i ⌝ }
 {
     let tag = tag_at(words, i);
     if (tag == 31) | (tag == 32) {
@@ -203,8 +203,8 @@ fn invariant_at(words: &[u64], table: Table, event: u64, i: usize) -> bool
 
 // Groups 9 and 10: the variant, where the event is convergent.
 fn variant_at(words: &[u64], table: Table, event: u64, i: usize) -> bool
-    requires { ⌜ table ≡ countsOf (tableOf (now words)) ⌝ }
-    ensures { λ r. ⌜ r ≡ isConvergent (tableOf (now (words .entry))) event && tagged (tableOf (now (words .entry))) 70 i ⌝ }
+    requires { ⌜ table ≡ countsOf (rowsOf (now words)) ⌝ }
+    ensures { λ r. ⌜ r ≡ isConvergent (rowsOf (now (words .entry))) event && tagged (rowsOf (now (words .entry))) 70 i ⌝ }
 {
     if tag_at(words, i) == 70 {
         return is_convergent(words, table, event);
@@ -214,8 +214,8 @@ fn variant_at(words: &[u64], table: Table, event: u64, i: usize) -> bool
 
 // Whether the slot makes sequents, by its group, where the event has the group.
 fn group_test(words: &[u64], table: Table, actions: Span, event: u64, group: u64, i: usize) -> bool
-    requires { ⌜ (table ≡ countsOf (tableOf (now words))) × (actions ≡ actionsOf (tableOf (now words))) ⌝ }
-    ensures { λ r. ⌜ r ≡ getD (groupTests (tableOf (now (words .entry)))) group (λ e i. false) event i ⌝ }
+    requires { ⌜ (table ≡ countsOf (rowsOf (now words))) × (actions ≡ actionsOf (rowsOf (now words))) ⌝ }
+    ensures { λ r. ⌜ r ≡ getD (groupTests (rowsOf (now (words .entry)))) group (λ e i. false) event i ⌝ }
 {
     match group {
         0 => is_formula(words, i),
@@ -234,8 +234,8 @@ fn group_test(words: &[u64], table: Table, actions: Span, event: u64, group: u64
 
 // Whether the slot makes sequents.
 pub fn makes(words: &[u64], table: Table, actions: Span, event: u64, group: u64, i: usize) -> bool
-    requires { ⌜ (table ≡ countsOf (tableOf (now words))) × (actions ≡ actionsOf (tableOf (now words))) ⌝ }
-    ensures { λ r. ⌜ r ≡ makes (tableOf (now (words .entry))) event group i ⌝ }
+    requires { ⌜ (table ≡ countsOf (rowsOf (now words))) × (actions ≡ actionsOf (rowsOf (now words))) ⌝ }
+    ensures { λ r. ⌜ r ≡ makes (rowsOf (now (words .entry))) event group i ⌝ }
 {
     if has_group(event, group) {
         return group_test(words, table, actions, event, group, i);
@@ -252,8 +252,8 @@ pub fn slot_count(
     group: u64,
     i: usize,
 ) -> u64
-    requires { ⌜ (table ≡ countsOf (tableOf (now words))) × (actions ≡ actionsOf (tableOf (now words))) ⌝ }
-    ensures { λ r. ⌜ r ≡ slotCount (tableOf (now (words .entry))) event group i ⌝ }
+    requires { ⌜ (table ≡ countsOf (rowsOf (now words))) × (actions ≡ actionsOf (rowsOf (now words))) ⌝ }
+    ensures { λ r. ⌜ r ≡ slotCount (rowsOf (now (words .entry))) event group i ⌝ }
 {
     if makes(words, table, actions, event, group, i) {
         if group == 5 {
@@ -343,8 +343,8 @@ impl Slot {
 
 // Walks on from a slot until what is left to pass over lies in a slot, or to the end. Counting, finding and printing all walk by this.
 pub fn seek(words: &[u64], table: Table, from: Slot) -> Slot
-    requires { ⌜ (table ≡ countsOf (tableOf (now words))) × InWalk (tableOf (now words)) from ⌝ }
-    ensures { λ r. ⌜ Sought (tableOf (now (words .entry))) (place (tableOf (now (words .entry))) from) r ⌝ }
+    requires { ⌜ (table ≡ countsOf (rowsOf (now words))) × InWalk (rowsOf (now words)) from ⌝ }
+    ensures { λ r. ⌜ SoughtSlot (rowsOf (now (words .entry))) (position (rowsOf (now (words .entry))) from) r ⌝ }
 {
     let rows = size(words);
     let actions = span_of(words, Query::CountedWith(51));
@@ -364,8 +364,8 @@ const MANY: u64 = 4294967296;
 
 // How many sequents a table has.
 pub fn count(words: &[u64], table: Table) -> u64
-    requires { ⌜ (table ≡ countsOf (tableOf (now words))) × (length (now words) ≤ 6896) ⌝ }
-    ensures { λ r. ⌜ r ≡ length (sequents (machineOf (tableOf (now (words .entry))))) ⌝ }
+    requires { ⌜ (table ≡ countsOf (rowsOf (now words))) × (length (now words) ≤ 6896) ⌝ }
+    ensures { λ r. ⌜ r ≡ length (sequents (machineOf (rowsOf (now (words .entry))))) ⌝ }
 {
     if size(words) == 0 {
         return 0;

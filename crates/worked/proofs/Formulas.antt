@@ -1,8 +1,8 @@
 -- What the entries of the worked table's sequents spell, computed from its nodes.
 use mathlib.Core.Path.{_≡_, refl}
 use lib.Dec.{T}
-use Rattle.lists.specs.Rows.{countBelow, first, numbers, keep}
-use Rattle.table.specs.Table.{section, count, start}
+use Rattle.lists.specs.Below.{countBelow, first, numbers, keep}
+use Rattle.table.specs.Rows.{section, count, start}
 use Rattle.formula.specs.Values.{ValueType, integer, boolean}
 use Rattle.formula.specs.Tree.{Tree, literal, FALSE, top, logicalNot, minus, equal, less, atMost, quotient, and, constant, identifier, after, unary, binary, division, connective}
 use Rattle.formula.specs.Formula.{plain, someValue, someAfterValue}

@@ -2,8 +2,8 @@
 use Prim.Native.Nat.{ℕ}
 use mathlib.Core.Path.{_≡_, refl}
 use mathlib.Core.List.{List, [], _∷_, _++_, flatMap}
-use Rattle.lists.specs.Rows.{countBelow, first, numbers, keep}
-use Rattle.table.specs.Table.{tableOf, section, count, start}
+use Rattle.lists.specs.Below.{countBelow, first, numbers, keep}
+use Rattle.table.specs.Rows.{rowsOf, section, count, start}
 use Rattle.machine.specs.Machine.{Machine}
 use Rattle.machine.specs.Described.{kindNumbered, roleNumbered, actionOf, belonging, identifiersOf, machineOf}
 use Rattle.sequent.specs.Entry.{Entry, written, primed, defined, moves, feasible, witnessed, natural, decreases}
@@ -12,7 +12,7 @@ use Rattle.sequent.specs.Listed.{sequent, inOrder, eventSequents, sequents, WD,
 use Rattle.worked.proofs.Decoded.{words}
 
 unfoldable pub worked : Machine
-worked = machineOf (tableOf words)
+worked = machineOf (rowsOf words)
 
 -- base and guards of an event, then its moves, then its witnesses
 abbrev pub axiomOnly : List Entry

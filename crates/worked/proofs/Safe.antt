@@ -1,7 +1,7 @@
 -- The theorem on runs applies to the worked table: it is accepted and its sequents are valid, so its runs are safe.
 use mathlib.Core.Path.{_≡_, ap, subst⁻¹}
 use Rattle.lists.specs.All.{All}
-use Rattle.table.specs.Table.{tableOf}
+use Rattle.table.specs.Rows.{rowsOf}
 use Rattle.machine.specs.Machine.{Machine}
 use Rattle.machine.specs.Described.{machineOf}
 use Rattle.sequent.specs.Sequent.{Valid}
@@ -16,7 +16,7 @@ use Rattle.worked.proofs.Valid.{valid}
 
 same-machine : machine bytes ≡ worked
 unfolding worked
-same-machine = ap (λ ws. machineOf (tableOf ws)) decodes
+same-machine = ap (λ ws. machineOf (rowsOf ws)) decodes
 
 pub worked-safe : Safe (machine bytes)
 worked-safe = safe-run bytes 43 accepted (subst⁻¹ (λ m. All (Valid m) (sequents m)) same-machine valid)

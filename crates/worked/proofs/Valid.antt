@@ -8,9 +8,9 @@ use native.Mathlib.Omega.{arith}
 use lib.Dec.{T}
 use lib.IntN.{ℤ, pos, sucℤ, _-ℤ_, -ℤ-+ℤ-cancel, +ℤ-one}
 use Rattle.lists.specs.All.{All, all-nil, all-cons}
-use Rattle.lists.specs.Rows.{countBelow}
+use Rattle.lists.specs.Below.{countBelow}
 use Rattle.lists.proofs.All.{all-head, all-tail, all-join}
-use Rattle.table.specs.Table.{start}
+use Rattle.table.specs.Rows.{start}
 use Rattle.formula.specs.Values.{ValueType, integer, boolean, Value, AnyValue, number, truth, wrap, asNumber, asValue, equalValue, atMostℤ, lessℤ}
 use Rattle.formula.specs.Tree.{literal, FALSE, equal, atMost, quotient, constant, identifier, after, binary}
 use Rattle.formula.specs.Evaluate.{Env, evaluate, withPresent, withAfter, totalDivision}

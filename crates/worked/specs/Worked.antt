@@ -3,7 +3,7 @@
 use Prim.Native.Nat.{ℕ}
 use mathlib.Core.List.{List, [], _∷_}
 use Rattle.row.specs.declared.Row.{Row}
-use Rattle.service.specs.Printed.{row, rowsBytes}
+use Rattle.reply.specs.Printed.{row, rowsBytes}
 
 abbrev pub rows : List Row
 rows =

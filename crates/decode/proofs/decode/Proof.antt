@@ -6,7 +6,7 @@ use native.Mathlib.Omega.{arith}
 use native.Mathlib.Nat.{sub-zero}
 use lib.ListN.{length, length-append, length-take, length-drop}
 use Rattle.lists.specs.Over.{over}
-use Rattle.lists.specs.Rows.{first}
+use Rattle.lists.specs.Below.{first}
 use Rattle.lists.proofs.First.{first-next}
 use Rattle.lists.proofs.Over.{over-none, over-length, over-tail}
 use Rattle.rules.specs.Decoded.{lineOf, notRow}

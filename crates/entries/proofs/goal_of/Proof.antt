@@ -1,7 +1,7 @@
 -- Each kind by its row of the table.
 use mathlib.Core.Path.{_≡_, sym, ap, _∙_}
 use native.Mathlib.Omega.{arith}
-use Rattle.table.specs.Table.{tableOf}
+use Rattle.table.specs.Rows.{rowsOf}
 use Rattle.sequent.specs.Numbers.{numbers, numbersOf}
 use Rattle.sequent.specs.Segments.{goalOf}
 use Rattle.entries.proofs.Tables.{goal-rest}
@@ -22,34 +22,34 @@ goal-of-spec = tie.close (tie.spec
     (λ c κs. search needs)
     (λ c κs. search needs)
     (λ c. let a = c .before .before .before .args in
-    let t = tableOf (a .words .now) in
+    let t = rowsOf (a .words .now) in
     let e : a .kind ≡ 2 = omega arith in
     c .of-root .ensures ∙ ap (λ k. numbersOf (goalOf t k (a .event) (a .item))) (sym e))
     (λ c. let a = c .before .before .before .args in
-    let t = tableOf (a .words .now) in
+    let t = rowsOf (a .words .now) in
     let e : a .kind ≡ 3 = omega arith in
     c .of-event .ensures ∙ ap (λ k. numbersOf (goalOf t k (a .event) (a .item))) (sym e))
     (λ c. let a = c .before .before .before .args in
-    let t = tableOf (a .words .now) in
+    let t = rowsOf (a .words .now) in
     let e : a .kind ≡ 4 = omega arith in
     c .of-root2 .ensures ∙ ap (λ k. numbersOf (goalOf t k (a .event) (a .item))) (sym e))
     (λ c. let a = c .before .before .before .before .args in
-    let t = tableOf (a .words .now) in
+    let t = rowsOf (a .words .now) in
     let e : a .kind ≡ 5 = omega arith in
     c .of-event2 .ensures ∙ ap (λ f. numbers 4 f (a .item)) (c .before .matched-by .ensures) ∙ ap (λ k. numbersOf (goalOf t k (a .event) (a .item))) (sym e))
     (λ c. let a = c .before .before .before .args in
-    let t = tableOf (a .words .now) in
+    let t = rowsOf (a .words .now) in
     let e : a .kind ≡ 6 = omega arith in
     c .of-event3 .ensures ∙ ap (λ k. numbersOf (goalOf t k (a .event) (a .item))) (sym e))
     (λ c. let a = c .before .before .before .args in
-    let t = tableOf (a .words .now) in
+    let t = rowsOf (a .words .now) in
     let e : a .kind ≡ 7 = omega arith in
     c .of-root3 .ensures ∙ ap (λ k. numbersOf (goalOf t k (a .event) (a .item))) (sym e))
     (λ c. let a = c .before .before .before .args in
-    let t = tableOf (a .words .now) in
+    let t = rowsOf (a .words .now) in
     let e : a .kind ≡ 8 = omega arith in
     c .of-root4 .ensures ∙ ap (λ k. numbersOf (goalOf t k (a .event) (a .item))) (sym e))
     (λ c. let a = c .before .before .before .args in
-    let t = tableOf (a .words .now) in
+    let t = rowsOf (a .words .now) in
     let o = c .before .match .rest in
     c .of-root5 .ensures ∙ ap numbersOf (goal-rest t (a .kind) (a .event) (a .item) (λ e. o .0 .0 .0 .0 .0 .0 .1 e) (λ e. o .0 .0 .0 .0 .0 .1 e) (λ e. o .0 .0 .0 .0 .1 e) (λ e. o .0 .0 .0 .1 e) (λ e. o .0 .0 .1 e) (λ e. o .0 .1 e) (λ e. o .1 e))))

@@ -2,7 +2,7 @@
 use Prim.Native.Nat.{_+_, _<_}
 use mathlib.Core.Path.{_≡_, refl, sym, subst, _∙_}
 use native.Mathlib.Omega.{arith}
-use Rattle.table.specs.Table.{tableOf}
+use Rattle.table.specs.Rows.{rowsOf}
 use Rattle.entries.specs.Seek.{Stands, entriesBefore}
 use Rattle.entries.proofs.Seek.{one-left, on-entry, ahead, stepped}
 use borrow.Author.Needs.{needs}
@@ -10,10 +10,10 @@ use Rattle.entries.proofs.seek_entry.Statement.{statement}
 use Rattle.entries.proofs.seek_entry.Tie as tie
 
 abbrev Inv-loop : tie.InvT-loop
-Inv-loop words table event group row rows cursor₀ cursor = Stands (tableOf words) cursor × (entriesBefore (tableOf words) event group row cursor + cursor .left ≡ entriesBefore (tableOf words) event group row cursor₀ + cursor₀ .left)
+Inv-loop words table event group row rows cursor₀ cursor = Stands (rowsOf words) cursor × (entriesBefore (rowsOf words) event group row cursor + cursor .left ≡ entriesBefore (rowsOf words) event group row cursor₀ + cursor₀ .left)
 
 abbrev μ-loop : tie.MeasureT-loop
-μ-loop words table event group row rows cursor₀ cursor = ahead (tableOf words) cursor
+μ-loop words table event group row rows cursor₀ cursor = ahead (rowsOf words) cursor
 
 pub seek-entry-spec : {M : Type 1} → statement M
 seek-entry-spec = tie.close (tie.spec
@@ -31,13 +31,13 @@ seek-entry-spec = tie.close (tie.spec
     (λ c. let turn = c .before .before .before .before .before .before in
     let l = turn .loop in
     let a = turn .before .before .before .args in
-    let next = stepped (tableOf (a .words .now)) (a .event) (a .group) (a .row) (l .cursor) (c .next .result) (c .before .before .before .segment-test .result) (turn .before .size .result)
+    let next = stepped (rowsOf (a .words .now)) (a .event) (a .group) (a .row) (l .cursor) (c .next .result) (c .before .before .before .segment-test .result) (turn .before .size .result)
     (l .inv .0) (c .before .before .before .before .if1 .taken) (c .before .before .before .segment-test .ensures) (c .before .if2 .left) (turn .before .size .ensures) (c .next .ensures) in
     next .nearer)
     (λ c. let turn = c .before .before .before .before .before .before in
     let l = turn .loop in
     let a = turn .before .before .before .args in
-    let next = stepped (tableOf (a .words .now)) (a .event) (a .group) (a .row) (l .cursor) (c .next .result) (c .before .before .before .segment-test .result) (turn .before .size .result)
+    let next = stepped (rowsOf (a .words .now)) (a .event) (a .group) (a .row) (l .cursor) (c .next .result) (c .before .before .before .segment-test .result) (turn .before .size .result)
     (l .inv .0) (c .before .before .before .before .if1 .taken) (c .before .before .before .segment-test .ensures) (c .before .if2 .left) (turn .before .size .ensures) (c .next .ensures) in
     (next .stands, next .same ∙ l .inv .1))
     (λ c. let l = c .before .before .loop in

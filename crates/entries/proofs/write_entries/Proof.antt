@@ -2,7 +2,7 @@
 use Prim.Native.Nat.{_-_}
 use native.Mathlib.Omega.{arith}
 use lib.ListN.{length-take, length-drop}
-use Rattle.table.specs.Table.{tableOf}
+use Rattle.table.specs.Rows.{rowsOf}
 use Rattle.sequent.specs.Segments.{segments, entriesTo}
 use Rattle.entries.specs.Seek.{entriesBefore}
 use Rattle.entries.proofs.Seek.{start-stands, passing-stands}
@@ -12,10 +12,10 @@ use Rattle.entries.proofs.write_entries.Statement.{statement}
 use Rattle.entries.proofs.write_entries.Tie as tie
 
 abbrev Inv-loop : tie.InvT-loop
-Inv-loop words table event group row which out₀ cursor₀ at₀ out cursor at = Progress (tableOf words) event group row which out₀ out cursor at
+Inv-loop words table event group row which out₀ cursor₀ at₀ out cursor at = Progress (rowsOf words) event group row which out₀ out cursor at
 
 abbrev μ-loop : tie.MeasureT-loop
-μ-loop words table event group row which out₀ cursor₀ at₀ out cursor at = entriesTo (tableOf words) event group row segments 0 - entriesBefore (tableOf words) event group row cursor
+μ-loop words table event group row which out₀ cursor₀ at₀ out cursor at = entriesTo (rowsOf words) event group row segments 0 - entriesBefore (rowsOf words) event group row cursor
 
 pub write-entries-spec : {M : Type 1} → statement M
 write-entries-spec = tie.close (tie.spec
@@ -25,7 +25,7 @@ write-entries-spec = tie.close (tie.spec
     (λ c κs. let s = c .before .before .before in (s .pre .0 .0, start-stands (c .start .ensures) (omega (arith, s .pre .0 .1))))
     (λ c. let s = c .before .before .before .before in
     let a = s .args in
-    progress-start (tableOf (a .words .now)) (a .event) (a .group) (a .row) (a .which) (s .pre .0 .1) (a .out .now) (c .before .start .ensures) (c .seek-entry .ensures))
+    progress-start (rowsOf (a .words .now)) (a .event) (a .group) (a .row) (a .which) (s .pre .0 .1) (a .out .now) (c .before .start .ensures) (c .seek-entry .ensures))
     (λ c κs. let turn = c .before .before in
     let s = turn .before .before .before .before .before in
     (s .pre .0 .0, s .pre .0 .1, turn .loop .inv .stands .row))

@@ -4,16 +4,16 @@ use mathlib.Core.Path.{_≡_, refl, ap, sym, _∙_}
 use native.Mathlib.Omega.{arith}
 use borrow.Author.Tests.{lt-ltb, le-ltb}
 use lib.Dec.{ltb}
-use Rattle.lists.specs.Rows.{first}
+use Rattle.lists.specs.Below.{first}
 use Rattle.lists.proofs.First.{first-here, first-next, first-end}
-use Rattle.table.specs.Table.{tableOf}
+use Rattle.table.specs.Rows.{rowsOf}
 use Rattle.rules.specs.Verdict.{firstRow, firstCheck}
 use borrow.Author.Needs.{needs}
 use Rattle.fault.proofs.first_check.Statement.{statement}
 use Rattle.fault.proofs.first_check.Tie as tie
 
 abbrev Inv-loop : tie.InvT-loop
-Inv-loop words table rows check₀ check = (3 ≤ check) × (check ≤ 12) × (first (λ k. ltb (firstRow (tableOf words) k) (tableOf words .size)) (12 - check) check ≡ firstCheck (tableOf words))
+Inv-loop words table rows check₀ check = (3 ≤ check) × (check ≤ 12) × (first (λ k. ltb (firstRow (rowsOf words) k) (rowsOf words .size)) (12 - check) check ≡ firstCheck (rowsOf words))
 
 abbrev μ-loop : tie.MeasureT-loop
 μ-loop words table rows check₀ check = 12 - check
@@ -27,7 +27,7 @@ first-check-spec = tie.close (tie.spec
     (λ c. (omega arith, omega arith, refl))
     (λ c κs. c .before .before .before .before .pre)
     (λ c. let turn = c .before .before .before in
-    let t = tableOf (turn .before .before .before .args .words .now) in
+    let t = rowsOf (turn .before .before .before .args .words .now) in
     let k = turn .loop .check in
     sym (first-here (λ k. ltb (firstRow t k) (t .size)) 12 k (c .before .before .loop-test .taken)
     (lt-ltb (firstRow t k) (t .size) (omega (arith, c .before .first-row .ensures, turn .before .size .ensures, c .if1 .taken)))) ∙ turn .loop .inv .2)
@@ -37,11 +37,11 @@ first-check-spec = tie.close (tie.spec
       omega arith,
       omega arith,
       let turn = c .before .before .before in
-          let t = tableOf (turn .before .before .before .args .words .now) in
+          let t = rowsOf (turn .before .before .before .args .words .now) in
           let k = turn .loop .check in
           sym (first-next (λ k. ltb (firstRow t k) (t .size)) 12 k (c .before .before .loop-test .taken)
           (le-ltb (firstRow t k) (t .size) (omega (arith, c .before .first-row .ensures, turn .before .size .ensures, c .if1 .left)))) ∙ turn .loop .inv .2,
     ))
     (λ c. let turn = c .before in
-    let t = tableOf (turn .before .before .before .args .words .now) in
+    let t = rowsOf (turn .before .before .before .args .words .now) in
     sym (first-end (λ k. ltb (firstRow t k) (t .size)) 12 (turn .loop .check) (c .loop-test .left)) ∙ turn .loop .inv .2))

@@ -4,9 +4,9 @@ use mathlib.Core.Path.{_≡_, ap, sym, _∙_}
 use mathlib.Core.Bool.{true, false}
 use native.Mathlib.Omega.{arith}
 use native.Mathlib.Nat.{sub-zero}
-use Rattle.lists.specs.Rows.{first}
+use Rattle.lists.specs.Below.{first}
 use Rattle.lists.proofs.First.{first-here, first-next, first-end}
-use Rattle.table.specs.Table.{tableOf}
+use Rattle.table.specs.Rows.{rowsOf}
 use Rattle.rules.specs.Rules.{offends}
 use Rattle.rules.specs.Verdict.{firstRow}
 use borrow.Author.Needs.{needs}
@@ -14,7 +14,7 @@ use Rattle.fault.proofs.first_row.Statement.{statement}
 use Rattle.fault.proofs.first_row.Tie as tie
 
 abbrev Inv-loop : tie.InvT-loop
-Inv-loop words table check rows i₀ i = (i ≤ rows) × (first (offends (tableOf words) check) (rows - i) i ≡ firstRow (tableOf words) check)
+Inv-loop words table check rows i₀ i = (i ≤ rows) × (first (offends (rowsOf words) check) (rows - i) i ≡ firstRow (rowsOf words) check)
 
 abbrev μ-loop : tie.MeasureT-loop
 μ-loop words table check rows i₀ i = rows - i
@@ -24,13 +24,13 @@ first-row-spec = tie.close (tie.spec
     Inv-loop
     μ-loop
     (λ c κs. search needs)
-    (λ c. c .first-unsorted .ensures ∙ ap (firstRow (tableOf (c .before .before .before .args .words .now))) (sym (c .before .if1 .taken)))
+    (λ c. c .first-unsorted .ensures ∙ ap (firstRow (rowsOf (c .before .before .before .args .words .now))) (sym (c .before .if1 .taken)))
     (λ c κs. search needs)
-    (λ c. (omega arith, let a = c .before .before .before .args in ap (λ n. first (offends (tableOf (a .words .now)) (a .check)) n 0) (sub-zero (c .size .result) ∙ c .size .ensures)))
+    (λ c. (omega arith, let a = c .before .before .before .args in ap (λ n. first (offends (rowsOf (a .words .now)) (a .check)) n 0) (sub-zero (c .size .result) ∙ c .size .ensures)))
     (λ c κs. search needs)
     (λ c. let turn = c .before .before .before in
     let a = turn .before .before .before .before .args in
-    let t = tableOf (a .words .now) in
+    let t = rowsOf (a .words .now) in
     sym (first-here (offends t (a .check)) (turn .before .size .result) (turn .loop .i) (c .before .before .loop-test .taken) (sym (c .before .row-offends .ensures) ∙ c .if2 .taken)) ∙ turn .loop .inv .1)
     (λ c. omega arith)
     (λ c. omega arith)
@@ -38,10 +38,10 @@ first-row-spec = tie.close (tie.spec
       omega arith,
       let turn = c .before .before .before in
           let a = turn .before .before .before .before .args in
-          let t = tableOf (a .words .now) in
+          let t = rowsOf (a .words .now) in
           sym (first-next (offends t (a .check)) (turn .before .size .result) (turn .loop .i) (c .before .before .loop-test .taken) (sym (c .before .row-offends .ensures) ∙ c .if2 .left)) ∙ turn .loop .inv .1,
     ))
     (λ c. let turn = c .before in
     let a = turn .before .before .before .before .args in
-    let t = tableOf (a .words .now) in
+    let t = rowsOf (a .words .now) in
     sym (first-end (offends t (a .check)) (turn .before .size .result) (turn .loop .i) (c .loop-test .left)) ∙ turn .loop .inv .1))

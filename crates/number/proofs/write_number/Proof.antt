@@ -6,14 +6,14 @@ use native.Mathlib.Omega.{arith}
 use lib.ListN.{length, drop, length-set}
 use borrow.Author.Needs.{needs}
 use Rattle.lists.specs.Over.{over}
-use Rattle.number.specs.Number.{written, textOf}
+use Rattle.number.specs.Number.{columnsOf, textOf}
 use Rattle.number.proofs.Columns.{written-back, written-start, written-done}
 use Rattle.number.proofs.write_number.Statement.{statement}
 use Rattle.number.proofs.write_number.Tie as tie
 
 abbrev Inv-loop : tie.InvT-loop
 Inv-loop out₀ width word rest₀ i₀ out rest i =
-    (i ≤ length out) × (length out ≡ length out₀) × (written i rest ++ drop i out ≡ over (written width (textOf word)) out₀)
+    (i ≤ length out) × (length out ≡ length out₀) × (columnsOf i rest ++ drop i out ≡ over (columnsOf width (textOf word)) out₀)
 
 abbrev μ-loop : tie.MeasureT-loop
 μ-loop out₀ width word rest₀ i₀ out rest i = i

@@ -3,9 +3,9 @@ use Prim.Native.Nat.{_+_, _*_, _≤_}
 use mathlib.Core.Path.{_≡_, sym, ap, _∙_}
 use native.Mathlib.Omega.{arith}
 use lib.ListN.{length, length-take}
-use Rattle.table.specs.Table.{tableOf}
+use Rattle.table.specs.Rows.{rowsOf}
 use Rattle.sequent.proofs.Seek.{entries-at-most}
-use Rattle.service.specs.Printed.{sequentRows, rowsBytes}
+use Rattle.reply.specs.Printed.{sequentRows, rowsBytes}
 use Rattle.services.specs.Found.{slotSequentOf}
 use Rattle.obligations.proofs.Walk.{front, rows-end}
 use borrow.Author.Needs.{needs}
@@ -17,26 +17,26 @@ print-slot-spec = tie.close (tie.spec
     (λ c κs. search needs)
     (λ c. let s = c .before .before .before in
     let a = s .args .slot in
-    omega (arith, c .count-entries .ensures, entries-at-most (tableOf (s .args .words .now)) (a .event) (a .group) (a .row), s .pre .1))
+    omega (arith, c .count-entries .ensures, entries-at-most (rowsOf (s .args .words .now)) (a .event) (a .group) (a .row), s .pre .1))
     (λ c. let s = c .before .before .before in
     let a = s .args .slot in
-    omega (arith, s .good, c .count-entries .ensures, entries-at-most (tableOf (s .args .words .now)) (a .event) (a .group) (a .row), s .pre .1))
+    omega (arith, s .good, c .count-entries .ensures, entries-at-most (rowsOf (s .args .words .now)) (a .event) (a .group) (a .row), s .pre .1))
     (λ c κs. let s = c .before .before .before .before in
     let a = s .args .slot in
-    ((s .pre .0 .0, s .pre .0 .1 .row), omega (arith, entries-at-most (tableOf (s .args .words .now)) (a .event) (a .group) (a .row), s .pre .1)))
+    ((s .pre .0 .0, s .pre .0 .1 .row), omega (arith, entries-at-most (rowsOf (s .args .words .now)) (a .event) (a .group) (a .row), s .pre .1)))
     (λ c. let counted = c .before .before .before .before in
     let s = counted .before .before .before in
     let a = s .args .slot in
-    omega (arith, counted .count-entries .ensures, entries-at-most (tableOf (s .args .words .now)) (a .event) (a .group) (a .row), s .pre .1, c .before .out .given))
+    omega (arith, counted .count-entries .ensures, entries-at-most (rowsOf (s .args .words .now)) (a .event) (a .group) (a .row), s .pre .1, c .before .out .given))
     (λ c. let known = c .before in
     let counted = known .before .before .before .before in
     let s = counted .before .before .before in
     let a = s .args .slot in
-    simp (length-take) (omega (arith, counted .count-entries .ensures, entries-at-most (tableOf (s .args .words .now)) (a .event) (a .group) (a .row), s .pre .1, known .before .out .given)))
+    simp (length-take) (omega (arith, counted .count-entries .ensures, entries-at-most (rowsOf (s .args .words .now)) (a .event) (a .group) (a .row), s .pre .1, known .before .out .given)))
     (λ c κs. let written = c .before .before .before in
     let counted = written .before .before in
     let s = counted .before .before .before in
-    let t = tableOf (s .args .words .now) in
+    let t = rowsOf (s .args .words .now) in
     let rs = sequentRows (slotSequentOf t (s .args .slot)) in
     let end : length (rowsBytes rs) ≡ 38 * (1 + counted .count-entries .result) = rows-end t (s .args .slot) (s .pre .0 .1 .row) (counted .count-entries .result) (counted .count-entries .ensures) in
     front (rowsBytes rs) (s .args .out .now) (written .write-slot .last .1 .1 .1 .0) (38 * (1 + counted .count-entries .result)) end (written .write-slot .ensures)

@@ -1,6 +1,6 @@
 -- The filled part of the words is what the rows hold (verdict's Rows).
 use mathlib.Core.Path.{sym, _∙_}
-use Rattle.verdict.proofs.Rows.{filled}
+use Rattle.verdict.proofs.Filled.{filled}
 use borrow.Author.Needs.{needs}
 use Rattle.obligations.proofs.print_table.Statement.{statement}
 use Rattle.obligations.proofs.print_table.Tie as tie

@@ -3,8 +3,8 @@ use mathlib.Core.Path.{_≡_, _∙_, sym, ap}
 use Prim.Native.Nat.{_+_}
 use mathlib.Core.Bool.{not, _&&_, _||_}
 use lib.Dec.{ltb, eqb}
-use Rattle.lists.specs.Rows.{someBelow}
-use Rattle.table.specs.Table.{tableOf}
+use Rattle.lists.specs.Below.{someBelow}
+use Rattle.table.specs.Rows.{rowsOf}
 use Rattle.rules.specs.Rules.{actionWanted, assigned}
 use Rattle.scan.specs.Query.{passesOf}
 use Rattle.scan.specs.declared.Query.the-variants.{Assigns}
@@ -23,7 +23,7 @@ lacks-action-spec = tie.close (tie.spec
     (λ c κs. search needs)
     (λ c. let read = c .before .before .before in
     let a = read .before .before .before .before .before .args in
-    let t = tableOf (a .words .now) in
+    let t = rowsOf (a .words .now) in
     let machine = read .before .before in
     let class = machine .before in
     let same : (eqb (class .b-at .result) 0 && read .follows .result)
@@ -33,7 +33,7 @@ lacks-action-spec = tie.close (tie.spec
     ap not found ∙ sym (and-passed (actionWanted t (a .i) (a .j)) (not (assigned t (a .event) (a .target))) (sym same ∙ c .before .before .if1 .taken)))
     (λ c. let read = c .before in
     let a = read .before .before .before .before .before .args in
-    let t = tableOf (a .words .now) in
+    let t = rowsOf (a .words .now) in
     let machine = read .before .before in
     let class = machine .before in
     let same : (eqb (class .b-at .result) 0 && read .follows .result)

@@ -3,7 +3,7 @@ use mathlib.Core.Path.{_≡_, _∙_, sym, ap, ap₂}
 use Prim.Native.Nat.{_+_, _-_}
 use mathlib.Core.Bool.{not, _&&_, _||_}
 use borrow.Author.Tests.{eq-eqb, ne-eqb}
-use Rattle.table.specs.Table.{tableOf, tagged, numberIn}
+use Rattle.table.specs.Rows.{rowsOf, tagged, numberIn}
 use Rattle.table.proofs.Counts.{starts-identifiers, starts-events}
 use Rattle.rules.specs.Rules.{actionWanted, witnessWanted, assigned, hasWitness, lacksAction, lacksWitness}
 use Rattle.rule_missing.proofs.Tests.{and-passed, and-failed}
@@ -15,7 +15,7 @@ pub lacks-for-spec : {M : Type 1} → statement M
 lacks-for-spec = tie.close (tie.spec
     (λ c κs. search needs)
     (λ c. let a = c .before .before .before .args in
-    let t = tableOf (a .words .now) in
+    let t = rowsOf (a .words .now) in
     sym (and-failed (tagged t 10 (a .j)) (lacksAction t (a .i) (a .j) || lacksWitness t (a .i) (a .j))
     (ne-eqb (t .tag (a .j)) 10 (λ e. c .if1 .taken (c .before .tag-at .ensures ∙ e)))))
     (λ c κs. search needs)
@@ -25,7 +25,7 @@ lacks-for-spec = tie.close (tie.spec
     (λ c. let test = c .before .before .before .before in
     let s = test .before .before .before in
     let a = s .args in
-    let t = tableOf (a .words .now) in
+    let t = rowsOf (a .words .now) in
     let event : c .before .before .before .number-in .result ≡ numberIn t 40 (a .i) =
     c .before .before .before .number-in .ensures ∙ ap (λ s. a .i + 1 - s) (starts-events t (a .table) (s .pre .0)) in
     let target : c .before .before .number-in2 .result ≡ numberIn t 10 (a .j) =

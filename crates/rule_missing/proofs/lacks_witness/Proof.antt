@@ -3,8 +3,8 @@ use mathlib.Core.Path.{_≡_, _∙_, sym, ap}
 use Prim.Native.Nat.{_+_}
 use mathlib.Core.Bool.{not, _&&_, _||_}
 use lib.Dec.{ltb, eqb}
-use Rattle.lists.specs.Rows.{someBelow}
-use Rattle.table.specs.Table.{tableOf}
+use Rattle.lists.specs.Below.{someBelow}
+use Rattle.table.specs.Rows.{rowsOf}
 use Rattle.rules.specs.Rules.{witnessWanted, hasWitness}
 use Rattle.scan.specs.Query.{passesOf}
 use Rattle.scan.specs.declared.Query.the-variants.{Witnesses}
@@ -24,7 +24,7 @@ lacks-witness-spec = tie.close (tie.spec
     (λ c κs. search needs)
     (λ c. let read = c .before .before .before in
     let a = read .before .before .before .before .before .before .args in
-    let t = tableOf (a .words .now) in
+    let t = rowsOf (a .words .now) in
     let class = read .before .before in
     let machine = class .before in
     let kind = machine .before in
@@ -35,7 +35,7 @@ lacks-witness-spec = tie.close (tie.spec
     ap not found ∙ sym (and-passed (witnessWanted t (a .i) (a .j)) (not (hasWitness t (a .event) (a .target))) (sym same ∙ c .before .before .if1 .taken)))
     (λ c. let read = c .before in
     let a = read .before .before .before .before .before .before .args in
-    let t = tableOf (a .words .now) in
+    let t = rowsOf (a .words .now) in
     let class = read .before .before in
     let machine = class .before in
     let kind = machine .before in

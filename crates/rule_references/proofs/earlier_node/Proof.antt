@@ -7,7 +7,7 @@ use native.Mathlib.Decide.{decLe}
 use lib.Dec.{leb, ltb}
 use borrow.Author.Needs.{needs}
 use borrow.Author.Tests.{le-leb, lt-leb, lt-ltb, le-ltb}
-use Rattle.table.specs.Table.{tableOf}
+use Rattle.table.specs.Rows.{rowsOf}
 use Rattle.table.proofs.Counts.{starts-nodes}
 use Rattle.rule_references.proofs.earlier_node.Statement.{statement}
 use Rattle.rule_references.proofs.earlier_node.Tie as tie
@@ -29,8 +29,8 @@ up-to i s k n e h = ap (λ b. leb 1 n && b) (go (decLe n (i - k)))
 pub earlier-node-spec : {M : Type 1} → statement M
 earlier-node-spec = tie.close (tie.spec
     (λ c. let a = c .before .before .args in
-    not-yet (a .i) _ (a .table .«nodes_start») (a .n) (starts-nodes (tableOf (a .words .now)) (a .table) (c .before .before .pre)) (c .if1 .taken))
+    not-yet (a .i) _ (a .table .«nodes_start») (a .n) (starts-nodes (rowsOf (a .words .now)) (a .table) (c .before .before .pre)) (c .if1 .taken))
     (λ c κs. search needs)
     (λ c. let s = c .before .before .before in
     let a = s .args in
-    c .among .ensures ∙ up-to (a .i) _ (a .table .«nodes_start») (a .n) (starts-nodes (tableOf (a .words .now)) (a .table) (s .pre)) (c .before .if1 .left)))
+    c .among .ensures ∙ up-to (a .i) _ (a .table .«nodes_start») (a .n) (starts-nodes (rowsOf (a .words .now)) (a .table) (s .pre)) (c .before .if1 .left)))

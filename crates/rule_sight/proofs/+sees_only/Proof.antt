@@ -6,7 +6,7 @@ use native.Mathlib.Omega.{arith}
 use borrow.Author.Needs.{needs}
 use borrow.Fn.Kinds.{In}
 use borrow.Fn.PlainCycle.{Measures, is, falls, and}
-use Rattle.table.specs.Table.{tableOf, operandNode}
+use Rattle.table.specs.Rows.{rowsOf, operandNode}
 use Rattle.machine.proofs.Described.{operand-falls}
 use Rattle.rules.specs.Sight.{mayMention, mayMentionAfter, seesOnly}
 use Rattle.rule_references.specs.declared.Shape.{Shape}
@@ -57,10 +57,10 @@ module _ (t : ℕ) (f : sees-only-lts.After-find-operator (claims t) (sees-only-
   abbrev n : ℕ
   n = start .args .n
 
-  by-shape : (s : Shape) {r : Bool} → f .find-operator .result .shape ≡ s → r ≡ seesBy (tableOf (start .args .words .now)) (start .args .i) (meantShape s) n
-      → r ≡ seesOnly (tableOf (start .args .words .now)) (start .args .i) n
+  by-shape : (s : Shape) {r : Bool} → f .find-operator .result .shape ≡ s → r ≡ seesBy (rowsOf (start .args .words .now)) (start .args .i) (meantShape s) n
+      → r ≡ seesOnly (rowsOf (start .args .words .now)) (start .args .i) n
   by-shape s {r} told h =
-      sees-found (tableOf (start .args .words .now)) (start .args .i) n r (f .before .before .before .before .if1 .left)
+      sees-found (rowsOf (start .args .words .now)) (start .args .i) n r (f .before .before .before .before .if1 .left)
       (f .find-operator .result) (f .before .node-field3 .result) (f .find-operator .ensures) (f .before .node-field3 .ensures) s told h
 
   falling : (x : ℕ) {o : ℕ} → o ≡ operandNode n x → o < t
@@ -70,7 +70,7 @@ pub +sees-only-spec : {M : Type 1} → statement M
 +sees-only-spec = close μ-sees-only λ t. sees-only-lts.spec (claims t)
     (sees-only-at t)
     sees-only.Post
-    (λ c. let s = c .before .before .args in rw (c .if1 .taken) (sees-none (tableOf (s .words .now)) (s .i)))
+    (λ c. let s = c .before .before .args in rw (c .if1 .taken) (sees-none (rowsOf (s .words .now)) (s .i)))
     (λ c κs. search needs)
     (λ c κs. search needs)
     (λ c κs. search needs)
@@ -97,19 +97,19 @@ pub +sees-only-spec : {M : Type 1} → statement M
     (λ c. let f = c .before .before .before in
     let a = start t f .args in
     by-shape t f shape.Identifier (c .before .enum-told2 .given .1)
-    (c .may-mention .ensures ∙ ap (mayMention (tableOf (a .words .now)) (a .i)) (f .before .before .before .node-field .ensures)))
+    (c .may-mention .ensures ∙ ap (mayMention (rowsOf (a .words .now)) (a .i)) (f .before .before .before .node-field .ensures)))
     (λ c. let f = c .before .before .before in
     let a = start t f .args in
     by-shape t f shape.Variable (c .before .enum-told3 .given .1)
-    (c .may-mention-after .ensures ∙ ap (mayMentionAfter (tableOf (a .words .now)) (a .i)) (f .before .before .before .node-field .ensures)))
+    (c .may-mention-after .ensures ∙ ap (mayMentionAfter (rowsOf (a .words .now)) (a .i)) (f .before .before .before .node-field .ensures)))
     (λ c. by-shape t (c .before .before) shape.NoOperand (c .enum-told4 .given .1) refl)
     (λ c. let f = c .before .before .before .before in
     let a = start t f .args in
     by-shape t f shape.OneOperand (c .before .before .enum-told5 .given .1)
-    (operand-seen (tableOf (a .words .now)) (a .i) (a .n) (c .sees-only .ensures) (c .before .operand .ensures) (f .before .before .before .node-field .ensures)))
+    (operand-seen (rowsOf (a .words .now)) (a .i) (a .n) (c .sees-only .ensures) (c .before .operand .ensures) (f .before .before .before .node-field .ensures)))
     (λ c. let f = c .before .before .before .before .before .before in
     let a = start t f .args in
-    let w = tableOf (a .words .now) in
+    let w = rowsOf (a .words .now) in
     by-shape t f shape.TwoOperands (c .before .before .before .before .enum-told6 .given .1)
     (ap₂ _&&_ (operand-seen w (a .i) (a .n) (c .before .before .sees-only2 .ensures) (c .before .before .before .operand2 .ensures) (f .before .before .before .node-field .ensures))
     (operand-seen w (a .i) (a .n) (c .sees-only3 .ensures) (c .before .operand3 .ensures) (f .before .before .node-field2 .ensures))))

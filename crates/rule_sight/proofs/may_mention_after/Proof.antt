@@ -2,7 +2,7 @@
 use borrow.Author.Tests.{eq-eqb, ne-eqb}
 use mathlib.Core.Bool.{false, _&&_, _||_}
 use lib.Dec.{eqb}
-use Rattle.table.specs.Table.{tableOf}
+use Rattle.table.specs.Rows.{rowsOf}
 use Rattle.rules.proofs.Sight.{seenAfter}
 use Rattle.rule_sight.proofs.Walk.{after-when}
 use borrow.Author.Needs.{needs}
@@ -16,12 +16,12 @@ may-mention-after-spec = tie.close (tie.spec
     (λ c κs. search needs)
     (λ c κs. search needs)
     (λ c. let k = c .before in let s = k .before .before .before .before .before in let b = k .before .before .before .b-at in
-    after-when (tableOf (s .args .words .now)) (s .args .i) (s .args .x) (k .tag-at .result) (eqb (s .args .x) (b .result)) (k .tag-at .ensures)
+    after-when (rowsOf (s .args .words .now)) (s .args .i) (s .args .x) (k .tag-at .result) (eqb (s .args .x) (b .result)) (k .tag-at .ensures)
     (rw (eq-eqb _ _ (c .if1 .taken), seenAfter) (simp (b .ensures))))
     (λ c. let k = c .before .before in let s = k .before .before .before .before .before in let b = k .before .before .before .b-at in let target = k .before .identifier-field2 in let kind = k .before .before .identifier-field in
-    after-when (tableOf (s .args .words .now)) (s .args .i) (s .args .x) (k .tag-at .result)
+    after-when (rowsOf (s .args .words .now)) (s .args .i) (s .args .x) (k .tag-at .result)
     (eqb (target .result) 2 && (eqb (kind .result) 3 || eqb (s .args .x) (b .result))) (k .tag-at .ensures)
     (rw (ne-eqb _ _ (c .before .if1 .left), eq-eqb _ _ (c .if2 .taken), seenAfter) (simp (target .ensures, kind .ensures, b .ensures))))
     (λ c. let k = c .before .before in let s = k .before .before .before .before .before in
-    after-when (tableOf (s .args .words .now)) (s .args .i) (s .args .x) (k .tag-at .result) false (k .tag-at .ensures)
+    after-when (rowsOf (s .args .words .now)) (s .args .i) (s .args .x) (k .tag-at .result) false (k .tag-at .ensures)
     (rw (ne-eqb _ _ (c .before .if1 .left), ne-eqb _ _ (c .if2 .left), seenAfter))))

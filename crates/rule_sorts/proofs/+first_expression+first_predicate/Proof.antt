@@ -3,7 +3,7 @@ use Prim.Native.Nat.{_+_, _-_, _*_}
 use mathlib.Core.Path.{_≡_, ap, ap₂, _∙_}
 use native.Mathlib.Omega.{arith}
 use Rattle.lists.specs.Choice.{pick}
-use Rattle.table.specs.Table.{tableOf}
+use Rattle.table.specs.Rows.{rowsOf}
 use Rattle.rules.specs.Rules.{sortOffends}
 use Rattle.rule_sorts.specs.Walk.{firstBefore}
 use Rattle.rule_sorts.proofs.Walk.{before-none, before-row}
@@ -77,7 +77,7 @@ pub +first-expression+first-predicate-spec : {M : Type 1} → statement M
     )
     (first-expression-at t)
     first-expression.Post
-    (λ c. let a = c .before .before .args in before-none (sortOffends (tableOf (a .words .now))) (a .found) (a .i) (c .if1 .taken))
+    (λ c. let a = c .before .before .args in before-none (sortOffends (rowsOf (a .words .now))) (a .found) (a .i) (c .if1 .taken))
     (λ c. search needs)
     (λ c κs. search needs)
     (λ c κs. let s = c .before .before .before .before in (omega (arith, s .pre .0), s .pre .1))
@@ -87,7 +87,7 @@ pub +first-expression+first-predicate-spec : {M : Type 1} → statement M
     (λ c κs. let s = c .before .before .before .before .before .before in (omega (arith, s .pre .0, c .before .before .before .before .if1 .left), s .pre .1))
     (λ c. let judged = c .before in
     let s = judged .before .before .before .before .before .before in
-    let P = sortOffends (tableOf (s .args .words .now)) in
+    let P = sortOffends (rowsOf (s .args .words .now)) in
     before-row P (s .args .i) (s .args .found) (c .first-expression .result) (judged .before .before .before .before .if1 .left)
     (c .first-expression .ensures ∙ ap (firstBefore P (s .args .i - 1)) (judged .fault-or .ensures ∙ ap (λ b. pick b (s .args .i - 1) (s .args .found)) (judged .before .sort-offends .ensures)))))
     λ t. first-predicate-lts.spec (
@@ -100,13 +100,13 @@ pub +first-expression+first-predicate-spec : {M : Type 1} → statement M
     )
     (first-predicate-at t)
     first-predicate.Post
-    (λ c. let a = c .before .before .args in before-none (sortOffends (tableOf (a .words .now))) (a .found) (a .i) (c .if1 .taken))
+    (λ c. let a = c .before .before .args in before-none (sortOffends (rowsOf (a .words .now))) (a .found) (a .i) (c .if1 .taken))
     (λ c. search needs)
     (λ c κs. search needs)
     (λ c κs. search needs)
     (λ c κs. let s = c .before .before .before .before in (omega (arith, s .pre .0, c .before .before .if1 .left), s .pre .1))
     (λ c. let judged = c .before in
     let s = judged .before .before .before .before in
-    let P = sortOffends (tableOf (s .args .words .now)) in
+    let P = sortOffends (rowsOf (s .args .words .now)) in
     before-row P (s .args .i) (s .args .found) (c .first-expression .result) (judged .before .before .if1 .left)
     (c .first-expression .ensures ∙ ap (firstBefore P (s .args .i - 1)) (judged .fault-or .ensures ∙ ap (λ b. pick b (s .args .i - 1) (s .args .found)) (judged .before .sort-offends .ensures))))

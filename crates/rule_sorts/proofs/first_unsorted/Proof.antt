@@ -1,6 +1,6 @@
 -- The walk from the last row down finds the first row (Walk).
 use mathlib.Core.Path.{ap, _∙_}
-use Rattle.table.specs.Table.{tableOf}
+use Rattle.table.specs.Rows.{rowsOf}
 use Rattle.rules.specs.Rules.{offends, sortOffends}
 use Rattle.rule_sorts.specs.Walk.{firstBefore}
 use Rattle.rule_sorts.proofs.Walk.{first-found}
@@ -13,5 +13,5 @@ unfolding offends
 first-unsorted-spec = tie.close (tie.spec
     (λ c κs. search needs)
     (λ c κs. search needs)
-    (λ c. let P = sortOffends (tableOf (c .before .before .before .args .words .now)) in
-    c .first-expression .ensures ∙ ap (λ n. firstBefore P n n) (c .before .size .ensures) ∙ first-found P (tableOf (c .before .before .before .args .words .now) .size)))
+    (λ c. let P = sortOffends (rowsOf (c .before .before .before .args .words .now)) in
+    c .first-expression .ensures ∙ ap (λ n. firstBefore P n n) (c .before .size .ensures) ∙ first-found P (rowsOf (c .before .before .before .args .words .now) .size)))

@@ -1,6 +1,6 @@
 -- By whether the operator names an identifier.
 use mathlib.Core.Path.{ap, _∙_}
-use Rattle.table.specs.Table.{tableOf}
+use Rattle.table.specs.Rows.{rowsOf}
 use Rattle.rules.specs.Sorts.{shapeOf, resultSort, namesIdentifier}
 use Rattle.rule_references.proofs.Found.{shape-found, sort-found}
 use Rattle.rule_sorts.proofs.Sorts.{sort-when}
@@ -16,10 +16,10 @@ sort-of-spec = tie.close (tie.spec
     (λ c κs. search needs)
     (λ c κs. search needs)
     (λ c. let k = c .before .before in let o = k .before .find-operator in let f = k .before .before in let a = f .before .before .before .args in
-    sort-when (tableOf (a .words .now)) (a .n) (c .identifier-field .result) (k .names-identifier .result)
+    sort-when (rowsOf (a .words .now)) (a .n) (c .identifier-field .result) (k .names-identifier .result)
     (k .names-identifier .ensures ∙ ap namesIdentifier (shape-found (o .result) (f .node-field2 .result) (o .ensures) ∙ ap shapeOf (f .node-field2 .ensures)))
     (rw (c .before .if1 .taken) (simp (f .before .node-field .ensures) at (c .identifier-field .ensures))))
     (λ c. let k = c .before in let o = k .before .find-operator in let f = k .before .before in let a = f .before .before .before .args in
-    sort-when (tableOf (a .words .now)) (a .n) (o .result .sort) (k .names-identifier .result)
+    sort-when (rowsOf (a .words .now)) (a .n) (o .result .sort) (k .names-identifier .result)
     (k .names-identifier .ensures ∙ ap namesIdentifier (shape-found (o .result) (f .node-field2 .result) (o .ensures) ∙ ap shapeOf (f .node-field2 .ensures)))
     (rw (c .if1 .left) (sort-found (o .result) (f .node-field2 .result) (o .ensures) ∙ ap resultSort (f .node-field2 .ensures)))))

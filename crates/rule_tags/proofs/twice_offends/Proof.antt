@@ -2,7 +2,7 @@
 use mathlib.Core.Path.{ap, sym, _∙_}
 use mathlib.Core.Bool.{not, _||_}
 use lib.Dec.{eqb}
-use Rattle.table.specs.Table.{tableOf}
+use Rattle.table.specs.Rows.{rowsOf}
 use Rattle.rules.specs.Rules.{twiceOffends}
 use Rattle.rule_tags.proofs.Twice.{twice-none}
 use borrow.Author.Needs.{needs}
@@ -14,7 +14,7 @@ unfolding twiceOffends
 twice-offends-spec = tie.close (tie.spec
     (λ c κs. search needs)
     (λ c. let a = c .before .before .before .args in
-    sym (twice-none (tableOf (a .words .now)) (a .i) (ap (λ k. not ((eqb k 51 || eqb k 52) || eqb k 60)) (sym (c .before .tag-at .ensures)) ∙ c .if1 .taken)))
+    sym (twice-none (rowsOf (a .words .now)) (a .i) (ap (λ k. not ((eqb k 51 || eqb k 52) || eqb k 60)) (sym (c .before .tag-at .ensures)) ∙ c .if1 .taken)))
     (λ c κs. search needs)
     (λ c κs. search needs)
     (λ c κs. search needs)

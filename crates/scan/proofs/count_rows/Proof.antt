@@ -2,16 +2,16 @@
 use Prim.Native.Nat.{_≤_, _-_}
 use mathlib.Core.Path.{_≡_, sym, _∙_, ap}
 use native.Mathlib.Omega.{arith}
-use Rattle.lists.specs.Rows.{countBelow, oneIf}
-use Rattle.lists.proofs.Rows.{count-none, count-next, count-at-most}
-use Rattle.table.specs.Table.{tableOf}
+use Rattle.lists.specs.Below.{countBelow, oneIf}
+use Rattle.lists.proofs.Below.{count-none, count-next, count-at-most}
+use Rattle.table.specs.Rows.{rowsOf}
 use Rattle.scan.specs.Query.{passesOf}
 use borrow.Author.Needs.{needs}
 use Rattle.scan.proofs.count_rows.Statement.{statement}
 use Rattle.scan.proofs.count_rows.Tie as tie
 
 abbrev Inv-loop : tie.InvT-loop
-Inv-loop words query n low high count₀ j₀ count j = (j ≤ n) × (count ≡ countBelow (passesOf (tableOf words) query) j)
+Inv-loop words query n low high count₀ j₀ count j = (j ≤ n) × (count ≡ countBelow (passesOf (rowsOf words) query) j)
 
 abbrev μ-loop : tie.MeasureT-loop
 μ-loop words query n low high count₀ j₀ count j = n - j
@@ -22,17 +22,17 @@ count-rows-spec = tie.close (tie.spec
     μ-loop
     (λ c κs. search needs)
     (λ c κs. search needs)
-    (λ c. let a = c .before .before .before .args in (omega arith, sym (count-none (passesOf (tableOf (a .words .now)) (a .query)))))
+    (λ c. let a = c .before .before .before .args in (omega arith, sym (count-none (passesOf (rowsOf (a .words .now)) (a .query)))))
     (λ c κs. search needs)
     (λ c κs. search needs)
     (λ c. let turn = c .before .before .before in
     let a = turn .before .before .before .before .args in
-    omega (arith, turn .loop .inv .1, count-at-most (passesOf (tableOf (a .words .now)) (a .query)) (turn .loop .j)))
+    omega (arith, turn .loop .inv .1, count-at-most (passesOf (rowsOf (a .words .now)) (a .query)) (turn .loop .j)))
     (λ c. omega arith)
     (λ c. omega arith)
     (λ c. let turn = c .before .before .before in
     let a = turn .before .before .before .before .args in
-    let P = passesOf (tableOf (a .words .now)) (a .query) in
+    let P = passesOf (rowsOf (a .words .now)) (a .query) in
     (omega arith, omega (arith, c .one-if .ensures .0 ∙ ap oneIf (c .before .passes-at .ensures), turn .loop .inv .1, count-next P (turn .loop .j))))
     (λ c. let a = c .before .before .before .before .before .args in
-    c .before .loop .inv .1 ∙ ap (countBelow (passesOf (tableOf (a .words .now)) (a .query))) (omega arith)))
+    c .before .loop .inv .1 ∙ ap (countBelow (passesOf (rowsOf (a .words .now)) (a .query))) (omega arith)))

@@ -1,10 +1,10 @@
 -- By checks 1 and 2; then by what the filled part of the words holds, the numbers of all rows (verdict's Rows).
 use mathlib.Core.Path.{ap, sym, _∙_}
-use Rattle.table.specs.Table.{tableOf}
+use Rattle.table.specs.Rows.{rowsOf}
 use Rattle.machine.specs.Described.{machineOf}
 use Rattle.rules.specs.Verdict.{judge, machine}
 use Rattle.verdict.specs.Loaded.{judged}
-use Rattle.verdict.proofs.Rows.{verdict-judged, filled}
+use Rattle.verdict.proofs.Filled.{verdict-judged, filled}
 use Rattle.services.specs.Found.{serveBy}
 use borrow.Author.Needs.{needs}
 use Rattle.services.proofs.serve.Statement.{statement}
@@ -36,5 +36,5 @@ serve-spec = tie.close (tie.spec
     let b = s .args .bytes .now in
     let words = sym (told .before .before .before .load .ensures .0) ∙ told .n .given .1 in
     served .serve-rows .ensures
-    ∙ ap (λ ws. serveBy (machineOf (tableOf ws)) (judge (tableOf ws)) (s .args .k) (s .args .request) (s .args .out .now)) (told .before .before .before .load .ensures .1 (told .n .given .0 .0) words)
+    ∙ ap (λ ws. serveBy (machineOf (rowsOf ws)) (judge (rowsOf ws)) (s .args .k) (s .args .request) (s .args .out .now)) (told .before .before .before .load .ensures .1 (told .n .given .0 .0) words)
     ∙ sym (ap (λ v. serveBy (machine b) v (s .args .k) (s .args .request) (s .args .out .now)) (verdict-judged b ∙ ap (judged b) words))))

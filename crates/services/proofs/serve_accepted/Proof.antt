@@ -1,10 +1,10 @@
 -- By whether there is a sequent k; then it is the one that is found (Judged, Found).
 use mathlib.Core.Path.{ap, sym, _∙_}
 use native.Mathlib.Omega.{arith}
-use Rattle.table.specs.Table.{tableOf}
+use Rattle.table.specs.Rows.{rowsOf}
 use Rattle.machine.specs.Described.{machineOf}
 use Rattle.sequent.specs.Listed.{sequents}
-use Rattle.service.specs.Service.{among}
+use Rattle.reply.specs.Replies.{among}
 use Rattle.lists.proofs.Choice.{chosen, not-chosen}
 use Rattle.services.specs.Found.{serveAt}
 use Rattle.services.proofs.Judged.{judged-rising, judged-count}
@@ -21,16 +21,16 @@ serve-accepted-spec = tie.close (tie.spec
     (λ c κs. search needs)
     (λ c κs. let named = c .before .before in
     let s = named .before .before .before in
-    let t = tableOf (s .args .words .now) in
+    let t = rowsOf (s .args .words .now) in
     let k = sym (named .among .ensures) ∙ not-false (named .among .result) (c .before .if1 .left) in
     ((c .of .ensures, among-low (s .args .k) (s .args .count) k, omega (arith, among-high (s .args .k) (s .args .count) k, judged-count t (s .args .count) (s .pre))), judged-rising t (s .args .count) (s .pre)))
-    (λ c κs. (c .before .before .of .ensures, c .before .find .ensures .row))
+    (λ c κs. (c .before .before .of .ensures, c .before .find-sequent .ensures .row))
     (λ c. search needs)
     (λ c. let served = c .before .before in
     let located = served .before .before in
     let named = located .before .before .before in
     let s = named .before .before .before in
-    let t = tableOf (s .args .words .now) in
+    let t = rowsOf (s .args .words .now) in
     served .serve-found .ensures
-    ∙ ap (serveAt (machineOf t) (s .args .request) (s .args .out .now)) (sym (located .find .ensures .holds))
+    ∙ ap (serveAt (machineOf t) (s .args .request) (s .args .out .now)) (sym (located .find-sequent .ensures .holds))
     ∙ sym (chosen (among (s .args .k) (s .args .count)) _ _ (sym (named .among .ensures) ∙ not-false (named .among .result) (located .before .before .if1 .left)))))

@@ -1,6 +1,6 @@
 -- By what is asked.
 use mathlib.Core.Path.{ap, sym, _∙_}
-use Rattle.table.specs.Table.{tableOf}
+use Rattle.table.specs.Rows.{rowsOf}
 use Rattle.machine.specs.Described.{machineOf}
 use Rattle.services.specs.Found.{slotSequentOf, serveAt}
 use borrow.Author.Needs.{needs}
@@ -16,10 +16,10 @@ serve-found-spec = tie.close (tie.spec
     (λ c. search needs)
     (λ c. let told = c .before .before .before .before in
     let s = told .before .before .before .before in
-    let t = tableOf (s .args .words .now) in
+    let t = rowsOf (s .args .words .now) in
     c .before .before .write-found .ensures ∙ sym (ap (λ r. serveAt (machineOf t) r (s .args .out .now) (slotSequentOf t (s .args .slot))) (told .enum-told .given .1)))
     (λ c. search needs)
     (λ c. let told = c .before .before .before .before .before in
     let s = told .before .before .before .before in
-    let t = tableOf (s .args .words .now) in
+    let t = rowsOf (s .args .words .now) in
     c .before .before .spell-found .ensures ∙ sym (ap (λ r. serveAt (machineOf t) r (s .args .out .now) (slotSequentOf t (s .args .slot))) (told .request .given .1))))

@@ -1,6 +1,6 @@
 -- By the verdict.
 use mathlib.Core.Path.{ap, sym, _∙_}
-use Rattle.table.specs.Table.{tableOf}
+use Rattle.table.specs.Rows.{rowsOf}
 use Rattle.machine.specs.Described.{machineOf}
 use Rattle.services.specs.Found.{serveBy}
 use borrow.Author.Needs.{needs}
@@ -15,11 +15,11 @@ serve-rows-spec = tie.close (tie.spec
     (λ c κs. sym (c .before .before .before .before .judge .ensures) ∙ c .before .before .count .given .1)
     (λ c. let told = c .before in
     let s = told .before .before .before .before .before in
-    let t = tableOf (s .args .words .now) in
+    let t = rowsOf (s .args .words .now) in
     sym (ap (λ v. serveBy (machineOf t) v (s .args .k) (s .args .request) (s .args .out .now)) (sym (told .before .before .judge .ensures) ∙ told .number .given .1)))
     (λ c. search needs)
     (λ c. let served = c .before .before in
     let told = served .before .before .before in
     let s = told .before .before .before .before .before in
-    let t = tableOf (s .args .words .now) in
+    let t = rowsOf (s .args .words .now) in
     served .serve-accepted .ensures ∙ sym (ap (λ v. serveBy (machineOf t) v (s .args .k) (s .args .request) (s .args .out .now)) (sym (told .before .before .judge .ensures) ∙ told .count .given .1))))

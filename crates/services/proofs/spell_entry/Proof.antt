@@ -1,5 +1,5 @@
 -- What is served is what the definition says.
-use Rattle.service.specs.Service.{spellEntry}
+use Rattle.reply.specs.Replies.{spellEntry}
 use borrow.Author.Needs.{needs}
 use Rattle.services.proofs.spell_entry.Statement.{statement}
 use Rattle.services.proofs.spell_entry.Tie as tie

@@ -3,9 +3,9 @@ use Prim.Native.Nat.{_-_, _≤_}
 use mathlib.Core.Path.{_≡_, ap, ap₂, sym, _∙_}
 use native.Mathlib.Omega.{arith}
 use lib.ListN.{length}
-use Rattle.table.specs.Table.{tableOf}
-use Rattle.service.specs.declared.Reply.the-variants as reply
-use Rattle.service.specs.Service.{writeRows}
+use Rattle.table.specs.Rows.{rowsOf}
+use Rattle.reply.specs.declared.Reply.the-variants as reply
+use Rattle.reply.specs.Replies.{writeRows}
 use Rattle.spell.specs.Spell.{entryRows}
 use Rattle.spell.proofs.Written.{all-rows}
 use Rattle.spell.proofs.Room.{rows-above, rows-within}
@@ -21,7 +21,7 @@ spell-found-spec = tie.close (tie.spec
     (λ c κs. search needs)
     (λ c. let counted = c .before .before in
     let s = counted .before .before .before in
-    let t = tableOf (s .args .words .now) in
+    let t = rowsOf (s .args .words .now) in
     sym (no-entry t (s .args .slot) (s .pre .1) (s .args .j) (counted .count-entries .result) (s .args .out .now) (counted .count-entries .ensures) (sym (c .before .among .ensures) ∙ not-true (c .before .among .result) (c .if1 .taken))))
     (λ c. let s = c .before .before .before .before .before in
     among-low (s .args .j) (c .before .before .count-entries .result) (sym (c .before .among .ensures) ∙ not-false (c .before .among .result) (c .if1 .left)))
@@ -32,7 +32,7 @@ spell-found-spec = tie.close (tie.spec
     let chosen = spelled .before .before .before in
     let counted = chosen .before .before in
     let s = counted .before .before .before in
-    let t = tableOf (s .args .words .now) in
+    let t = rowsOf (s .args .words .now) in
     let entry = spelled .before .before .entry-at in
     sym (an-entry t (s .args .slot) (s .pre .1) (s .args .j) (counted .count-entries .result) (s .args .out .now) (counted .count-entries .ensures) (sym (chosen .before .among .ensures) ∙ not-false (chosen .before .among .result) (chosen .if1 .left))
     ∙ ap (λ rs. writeRows rs (s .args .out .now)) (spelled-entry t (s .args .slot) (s .pre .1) (s .args .j) (entry .result) (entry .ensures))
@@ -44,7 +44,7 @@ spell-found-spec = tie.close (tie.spec
     let chosen = spelled .before .before .before in
     let counted = chosen .before .before in
     let s = counted .before .before .before in
-    let t = tableOf (s .args .words .now) in
+    let t = rowsOf (s .args .words .now) in
     let entry = spelled .before .before .entry-at in
     let fits = rows-within (length (s .args .out .now)) (length (entryRows t (entry .result))) (spelled .spell .result) (omega (arith, s .good)) (spelled .spell .ensures .counted) (again .before .before .if2 .left) in
     ap₂ (λ n out. outcome (reply.Written n) out) (fits .1) (all-rows (again .spell2 .ensures) (fits .0))

@@ -3,9 +3,9 @@ use Prim.Native.Nat.{_+_}
 use mathlib.Core.Path.{_≡_, ap₂, sym, _∙_}
 use native.Mathlib.Omega.{arith}
 use lib.ListN.{length}
-use Rattle.table.specs.Table.{tableOf}
-use Rattle.service.specs.declared.Reply.the-variants as reply
-use Rattle.service.specs.Printed.{sequentRows}
+use Rattle.table.specs.Rows.{rowsOf}
+use Rattle.reply.specs.declared.Reply.the-variants as reply
+use Rattle.reply.specs.Printed.{sequentRows}
 use Rattle.services.specs.Found.{slotSequentOf, outcome}
 use Rattle.services.proofs.Slots.{rows-count, no-room, room}
 use borrow.Author.Needs.{needs}
@@ -17,7 +17,7 @@ write-found-spec = tie.close (tie.spec
     (λ c κs. search needs)
     (λ c. let counted = c .before in
     let s = counted .before .before .before in
-    let t = tableOf (s .args .words .now) in
+    let t = rowsOf (s .args .words .now) in
     sym (no-room (sequentRows (slotSequentOf t (s .args .slot))) (s .args .out .now) (omega (arith, rows-count t (s .args .slot) (s .pre .1), counted .count-entries .ensures, c .if1 .taken))))
     (λ c κs. search needs)
     (λ c. search needs)
@@ -25,7 +25,7 @@ write-found-spec = tie.close (tie.spec
     (λ c. let written = c .before .before in
     let counted = written .before .before .before in
     let s = counted .before .before .before in
-    let t = tableOf (s .args .words .now) in
+    let t = rowsOf (s .args .words .now) in
     let rows : counted .count-entries .result + 1 ≡ length (sequentRows (slotSequentOf t (s .args .slot))) = omega (arith, rows-count t (s .args .slot) (s .pre .1), counted .count-entries .ensures) in
     ap₂ (λ n out. outcome (reply.Written n) out) rows (written .write-slot .ensures)
     ∙ sym (room (sequentRows (slotSequentOf t (s .args .slot))) (s .args .out .now) (omega (arith, rows, written .before .before .if1 .left)))))

@@ -1,5 +1,5 @@
 -- What is served is what the definition says.
-use Rattle.service.specs.Service.{writeSequent}
+use Rattle.reply.specs.Replies.{writeSequent}
 use borrow.Author.Needs.{needs}
 use Rattle.services.proofs.write_sequent.Statement.{statement}
 use Rattle.services.proofs.write_sequent.Tie as tie

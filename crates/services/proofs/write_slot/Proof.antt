@@ -5,8 +5,8 @@ use Rattle.lists.specs.Over.{over}
 use Rattle.lists.proofs.Over.{over-tail}
 use Rattle.row.specs.Row.{rowBytes, width}
 use Rattle.row.proofs.Form.{row-length}
-use Rattle.table.specs.Table.{tableOf}
-use Rattle.service.specs.Printed.{row, rowsBytes}
+use Rattle.table.specs.Rows.{rowsOf}
+use Rattle.reply.specs.Printed.{row, rowsBytes}
 use Rattle.entries.specs.Written.{entryRows}
 use Rattle.services.proofs.Slots.{headerRow, slot-bytes}
 use borrow.Author.Needs.{needs}
@@ -26,7 +26,7 @@ write-slot-spec = tie.close (tie.spec
     (λ c. let written = c .before .before in
     let header = written .before .before .before .before in
     let s = header .before .before .before .before .before .before in
-    let t = tableOf (s .args .words .now) in
+    let t = rowsOf (s .args .words .now) in
     let slot = s .args .slot in
     over-tail (rowBytes width (headerRow t slot)) (rowsBytes (entryRows t (slot .event) (slot .group) (slot .row) (slot .left))) (s .args .out .now) (header .write .last .1 .0)
     (written .write-entries .last .1 .1 .1 .1 .1 .1 .0) 38 (row-length width (headerRow t slot))

@@ -1,7 +1,7 @@
 -- A node's WD is spelled from its operands' trees and their WD; the operands have smaller numbers, and the measure is the node's.
 use mathlib.Core.Bool.{false}
 use native.Mathlib.Omega.{arith}
-use Rattle.table.specs.Table.{tableOf}
+use Rattle.table.specs.Rows.{rowsOf}
 use Rattle.spell.proofs.Nodes.{left-below, right-below, above-falls}
 use Rattle.spell.proofs.Defined.{defined-none, defined-one, defined-two}
 use Rattle.spell.proofs.Written.{spelled-join, spelled-as}
@@ -65,13 +65,13 @@ pub +spell-defined-spec : {M : Type 1} → statement M
     let k = h .before .before .before .before in
     let s = k .before .before .before in
     let a = s .args in
-    let w = tableOf (a .words .now) in
+    let w = rowsOf (a .words .now) in
     let d = k .node-at in
     spelled-as (defined-none w (a .n) (d .result) (d .ensures) (h .before .before .if1 .taken)) (h .row-83 .ensures))
     (λ c κs. let k = c .before .before .before .before .before in
     let s = k .before .before .before in
     let a = s .args in
-    let w = tableOf (a .words .now) in
+    let w = rowsOf (a .words .now) in
     let d = k .node-at in
     (omega (arith, left-below (d .result) (c .before .before .before .if1 .left), above-falls w false (a .n) (d .result) (d .ensures), s .pre .0), s .pre .1))
     (λ c. search needs)
@@ -79,7 +79,7 @@ pub +spell-defined-spec : {M : Type 1} → statement M
     let k = h .before .before .before .before .before .before in
     let s = k .before .before .before in
     let a = s .args in
-    let w = tableOf (a .words .now) in
+    let w = rowsOf (a .words .now) in
     let d = k .node-at in
     spelled-as (defined-one w (a .n) (d .result) (d .ensures) (h .before .before .if2 .taken)) (h .spell-defined .ensures))
     (λ c κs. search needs)
@@ -91,7 +91,7 @@ pub +spell-defined-spec : {M : Type 1} → statement M
     let k = o .before .before .before .before .before .before in
     let s = k .before .before .before in
     let a = s .args in
-    let w = tableOf (a .words .now) in
+    let w = rowsOf (a .words .now) in
     let d = k .node-at in
     (omega (arith, left-below (d .result) (o .before .before .before .before .if1 .left), above-falls w false (a .n) (d .result) (d .ensures), s .pre .0), s .pre .1))
     (λ c κs. search needs)
@@ -109,7 +109,7 @@ pub +spell-defined-spec : {M : Type 1} → statement M
     let k = o .before .before .before .before .before .before in
     let s = k .before .before .before in
     let a = s .args in
-    let w = tableOf (a .words .now) in
+    let w = rowsOf (a .words .now) in
     let d = k .node-at in
     (omega (arith, right-below (d .result) (o .before .before .before .before .if1 .left), above-falls w false (a .n) (d .result) (d .ensures), s .pre .0), s .pre .1))
     (λ c κs. search needs)
@@ -140,7 +140,7 @@ pub +spell-defined-spec : {M : Type 1} → statement M
     let k = o .before .before .before .before .before .before in
     let s = k .before .before .before in
     let a = s .args in
-    let w = tableOf (a .words .now) in
+    let w = rowsOf (a .words .now) in
     let d = k .node-at in
     let q = r1 .before .before .out3 .given in
     let j1 = spelled-join (omega (arith, s .good)) (omega (arith, q)) (o .spell-opening .ensures) (r1 .rest-start .ensures .0) (e1 .spell-defined2 .ensures) (a1 .add-rows .ensures) in

@@ -6,7 +6,7 @@ use native.Mathlib.Omega.{arith}
 use borrow.Author.Needs.{needs}
 use borrow.Fn.Kinds.{In}
 use borrow.Fn.PlainCycle.{Measures, is, falls, and}
-use Rattle.table.specs.Table.{tableOf}
+use Rattle.table.specs.Rows.{rowsOf}
 use Rattle.spell.specs.Spell.{operandRows, shownRows}
 use Rattle.spell.proofs.Nodes.{operands-two, above, left-below, right-below, shown-read, above-falls}
 use Rattle.spell.proofs.Written.{spelled-none, spelled-join, spelled-as}
@@ -83,7 +83,7 @@ pub +spell-expression+spell-operands+spell-predicate-spec : {M : Type 1} → sta
     (λ c κs. let k = c .before .before .before .before .before .before .before .before in
     let s = k .before .before .before in
     let a = s .args in
-    (omega (arith, above-falls (tableOf (a .words .now)) (a .primed) (a .n) (k .node-at .result) (k .node-at .ensures), s .pre .0), s .pre .1))
+    (omega (arith, above-falls (rowsOf (a .words .now)) (a .primed) (a .n) (k .node-at .result) (k .node-at .ensures), s .pre .0), s .pre .1))
     (λ c κs. search needs)
     (λ c. search needs)
     (λ c. let o = c .before .before .before in
@@ -92,7 +92,7 @@ pub +spell-expression+spell-operands+spell-predicate-spec : {M : Type 1} → sta
     let k = h .before .before .before .before in
     let s = k .before .before .before in
     let a = s .args in
-    spelled-as (shown-read (tableOf (a .words .now)) (a .primed) (a .n) (k .node-at .result) (k .node-at .ensures))
+    spelled-as (shown-read (rowsOf (a .words .now)) (a .primed) (a .n) (k .node-at .result) (k .node-at .ensures))
     (spelled-join (omega (arith, s .good)) (omega arith) (h .row-83 .ensures) (r .rest-start .ensures .0) (o .spell-operands .ensures) (c .add-rows .ensures))))
     (λ t. spell-operands-lts.spec (
       spell-expression-below t,
@@ -106,7 +106,7 @@ pub +spell-expression+spell-operands+spell-predicate-spec : {M : Type 1} → sta
     spell-operands.Post
     (λ c. let s = c .before .before .before .before in
     let d = s .args .node in
-    let rows = shownRows (tableOf (s .args .words .now)) (s .args .primed) in
+    let rows = shownRows (rowsOf (s .args .words .now)) (s .args .primed) in
     spelled-as (ap (λ k. operandRows k (rows (d .left)) (rows (d .right))) (sym (c .if1 .taken))) (spelled-none _))
     (λ c κs. let s = c .before .before .before .before .before in
     (omega (arith, left-below (s .args .node) (c .before .if1 .left), s .pre .0), s .pre .1))
@@ -114,7 +114,7 @@ pub +spell-expression+spell-operands+spell-predicate-spec : {M : Type 1} → sta
     (λ c. let l = c .before .before .before .before in
     let s = l .before .before .before .before .before .before in
     let d = s .args .node in
-    let rows = shownRows (tableOf (s .args .words .now)) (s .args .primed) in
+    let rows = shownRows (rowsOf (s .args .words .now)) (s .args .primed) in
     spelled-as (ap (λ k. operandRows k (rows (d .left)) (rows (d .right))) (sym (c .if2 .taken))) (l .spell-expression .ensures))
     (λ c κs. search needs)
     (λ c. search needs)
@@ -130,7 +130,7 @@ pub +spell-expression+spell-operands+spell-predicate-spec : {M : Type 1} → sta
     let l = r .before .before .before .before .before in
     let s = l .before .before .before .before .before .before in
     let d = s .args .node in
-    let rows = shownRows (tableOf (s .args .words .now)) (s .args .primed) in
+    let rows = shownRows (rowsOf (s .args .words .now)) (s .args .primed) in
     spelled-as (operands-two (d .operands) (rows (d .left)) (rows (d .right)) (l .before .before .if1 .left) (r .before .if2 .left))
     (spelled-join (omega (arith, s .good)) (omega arith) (l .spell-expression .ensures) (r .rest-start .ensures .0) (e .spell-expression2 .ensures) (c .add-rows .ensures))))
     λ t. spell-predicate-lts.spec (
@@ -156,7 +156,7 @@ pub +spell-expression+spell-operands+spell-predicate-spec : {M : Type 1} → sta
     (λ c κs. let k = c .before .before .before .before .before .before in
     let s = k .before .before .before in
     let a = s .args in
-    (omega (arith, above-falls (tableOf (a .words .now)) (a .primed) (a .n) (k .node-at .result) (k .node-at .ensures), s .pre .0), s .pre .1))
+    (omega (arith, above-falls (rowsOf (a .words .now)) (a .primed) (a .n) (k .node-at .result) (k .node-at .ensures), s .pre .0), s .pre .1))
     (λ c κs. search needs)
     (λ c. search needs)
     (λ c. let o = c .before .before .before in
@@ -165,5 +165,5 @@ pub +spell-expression+spell-operands+spell-predicate-spec : {M : Type 1} → sta
     let k = h .before .before in
     let s = k .before .before .before in
     let a = s .args in
-    spelled-as (shown-read (tableOf (a .words .now)) (a .primed) (a .n) (k .node-at .result) (k .node-at .ensures))
+    spelled-as (shown-read (rowsOf (a .words .now)) (a .primed) (a .n) (k .node-at .result) (k .node-at .ensures))
     (spelled-join (omega (arith, s .good)) (omega arith) (h .row-83 .ensures) (r .rest-start .ensures .0) (o .spell-operands .ensures) (c .add-rows .ensures)))

@@ -1,6 +1,6 @@
 -- Each part that was read is the table's.
 use mathlib.Core.Path.{_∙_}
-use Rattle.table.specs.Table.{tableOf}
+use Rattle.table.specs.Rows.{rowsOf}
 use Rattle.rule_references.proofs.Found.{shape-found}
 use Rattle.spell.proofs.Nodes.{node-none, node-from}
 use borrow.Author.Needs.{needs}
@@ -10,7 +10,7 @@ use Rattle.spell.proofs.node_at.Tie as tie
 pub node-at-spec : {M : Type 1} → statement M
 node-at-spec = tie.close (tie.spec
     (λ c κs. search needs)
-    (λ c. let a = c .before .before .before .args in c .leaf .ensures ∙ node-none (tableOf (a .words .now)) (a .primed) (a .n) (c .before .if1 .taken))
+    (λ c. let a = c .before .before .before .args in c .leaf .ensures ∙ node-none (rowsOf (a .words .now)) (a .primed) (a .n) (c .before .if1 .taken))
     (λ c κs. search needs)
     (λ c κs. search needs)
     (λ c κs. search needs)
@@ -23,4 +23,4 @@ node-at-spec = tie.close (tie.spec
     let s = f .before .before .before .before .before .before in
     c .shaped-node .ensures
     ∙ (simp (shape-found (f .find-operator .result) (f .before .before .before .node-field .result) (f .find-operator .ensures), c .before .operand2 .ensures, c .before .before .operand .ensures, c .before .before .before .is-variable .ensures, f .before .node-field3 .ensures, f .before .before .node-field2 .ensures, f .before .before .before .node-field .ensures))
-    ∙ node-from (tableOf (s .args .words .now)) (s .args .primed) (s .args .n) (f .before .before .before .before .if1 .left)))
+    ∙ node-from (rowsOf (s .args .words .now)) (s .args .primed) (s .args .n) (f .before .before .before .before .if1 .left)))

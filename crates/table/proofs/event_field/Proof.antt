@@ -1,5 +1,5 @@
 -- The section starts where the counts say.
-use Rattle.table.specs.Table.{tableOf}
+use Rattle.table.specs.Rows.{rowsOf}
 use Rattle.table.proofs.Counts.{starts-events, section-inside, section-field}
 use Rattle.table.proofs.event_field.Statement.{statement}
 use Rattle.table.proofs.event_field.Tie as tie
@@ -8,7 +8,7 @@ pub event-field-spec : {M : Type 1} → statement M
 event-field-spec = tie.close (tie.spec
     (λ c κs. let s = c .before in
     let ws = s .args .words .now in
-    (s .pre .1, section-inside ws 40 _ (starts-events (tableOf ws) (s .args .table) (s .pre .0))))
+    (s .pre .1, section-inside ws 40 _ (starts-events (rowsOf ws) (s .args .table) (s .pre .0))))
     (λ c. let s = c .before .before in
     let ws = s .args .words .now in
-    section-field ws 40 _ (starts-events (tableOf ws) (s .args .table) (s .pre .0)) _ (s .args .e) (s .args .column) (c .field .ensures)))
+    section-field ws 40 _ (starts-events (rowsOf ws) (s .args .table) (s .pre .0)) _ (s .args .e) (s .args .column) (c .field .ensures)))

@@ -1,9 +1,9 @@
 -- By checks 1 and 2; then by what the filled part of the words holds, the numbers of all rows (Rows).
 use mathlib.Core.Path.{ap, sym, _∙_}
-use Rattle.table.specs.Table.{tableOf}
+use Rattle.table.specs.Rows.{rowsOf}
 use Rattle.rules.specs.Verdict.{judge}
 use Rattle.verdict.specs.Loaded.{judged}
-use Rattle.verdict.proofs.Rows.{verdict-judged, filled}
+use Rattle.verdict.proofs.Filled.{verdict-judged, filled}
 use borrow.Author.Needs.{needs}
 use Rattle.verdict.proofs.check.Statement.{statement}
 use Rattle.verdict.proofs.check.Tie as tie
@@ -29,4 +29,4 @@ check-spec = tie.close (tie.spec
     (λ c. let told = c .before .before .before in
     let b = told .before .before .before .before .before .before .args .bytes .now in
     let words = sym (told .before .before .before .load .ensures .0) ∙ told .n .given .1 in
-    c .judge .ensures ∙ ap (λ ws. judge (tableOf ws)) (told .before .before .before .load .ensures .1 (told .n .given .0 .0) words) ∙ sym (verdict-judged b ∙ ap (judged b) words)))
+    c .judge .ensures ∙ ap (λ ws. judge (rowsOf ws)) (told .before .before .before .load .ensures .1 (told .n .given .0 .0) words) ∙ sym (verdict-judged b ∙ ap (judged b) words)))

@@ -2,7 +2,7 @@
 use mathlib.Core.Path.{_≡_, ap, ap₂, sym, _∙_}
 use Prim.Native.Nat.{_+_}
 use native.Mathlib.Omega.{arith}
-use Rattle.table.specs.Table.{tableOf}
+use Rattle.table.specs.Rows.{rowsOf}
 use Rattle.rules.specs.declared.Verdict.the-variants.{Accepted, Refused}
 use Rattle.rules.specs.Verdict.{firstRow}
 use Rattle.rules.proofs.Cases.{judge-row, judge-missing, judge-accepted, row-at-most}
@@ -17,20 +17,20 @@ judge-spec = tie.close (tie.spec
     (λ c κs. search needs)
     (λ c. let checked = c .before .before in
     let a = checked .before .before .before .args in
-    let t = tableOf (a .words .now) in
+    let t = rowsOf (a .words .now) in
     omega (arith, c .first-row .ensures, row-at-most t (checked .first-check .result)))
     (λ c. let checked = c .before .before in
     let a = checked .before .before .before .args in
-    let t = tableOf (a .words .now) in
+    let t = rowsOf (a .words .now) in
     ap₂ (λ k r. Refused k (r + 1)) (checked .first-check .ensures) (c .first-row .ensures ∙ ap (firstRow t) (checked .first-check .ensures))
     ∙ sym (judge-row t (omega (arith, checked .first-check .ensures, c .before .if1 .taken))))
     (λ c κs. search needs)
     (λ c. let checked = c .before .before .before in
     let a = checked .before .before .before .args in
-    let t = tableOf (a .words .now) in
+    let t = rowsOf (a .words .now) in
     sym (judge-missing t (omega (arith, checked .first-check .ensures, c .before .before .if1 .left)) (sym (c .before .missing .ensures) ∙ c .if2 .taken)))
     (λ c κs. search needs)
     (λ c. let checked = c .before .before .before .before in
     let a = checked .before .before .before .args in
-    let t = tableOf (a .words .now) in
+    let t = rowsOf (a .words .now) in
     ap Accepted (c .count .ensures) ∙ sym (judge-accepted t (omega (arith, checked .first-check .ensures, c .before .before .before .if1 .left)) (sym (c .before .before .missing .ensures) ∙ c .before .if2 .left))))

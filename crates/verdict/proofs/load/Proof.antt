@@ -1,8 +1,8 @@
 -- By the two tests of the frame; then what decoding says (Rows).
 use mathlib.Core.Path.{_≡_, ap, sym, _∙_}
 use native.Mathlib.Omega.{arith}
-use Rattle.verdict.specs.Loaded.{rowOf, loadedRows}
-use Rattle.verdict.proofs.Rows.{too-long, torn, whole, decoded-row, holds-none, holds-rows}
+use Rattle.verdict.specs.Loaded.{endRow, loadedRows}
+use Rattle.verdict.proofs.Filled.{too-long, torn, whole, decoded-row, holds-none, holds-rows}
 use borrow.Author.Needs.{needs}
 use Rattle.verdict.proofs.load.Statement.{statement}
 use Rattle.verdict.proofs.load.Tie as tie
@@ -17,7 +17,7 @@ load-spec = tie.close (tie.spec
     (sym refused, holds-none b 1 0 _ refused))
     (λ c κs. search needs)
     (λ c κs. let b = c .before .before .before .before .before .before .before .before .args .bytes .now in
-    omega (arith, ap rowOf (c .before .before .decode .ensures .0), decoded-row b, c .before .before .before .before .before .if1 .left))
+    omega (arith, ap endRow (c .before .before .decode .ensures .0), decoded-row b, c .before .before .before .before .before .if1 .left))
     (λ c. search needs)
     (λ c. let decoding = c .before .before .before in
     let s = decoding .before .before .before .before .before .before in

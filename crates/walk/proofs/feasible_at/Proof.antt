@@ -1,6 +1,6 @@
 -- By whether the row stands for a variable of the event's machine (Tests).
 use native.Mathlib.Omega.{arith}
-use Rattle.table.specs.Table.{tableOf}
+use Rattle.table.specs.Rows.{rowsOf}
 use Rattle.walk.proofs.Tests.{own-within, own-tested, own-none}
 use borrow.Author.Needs.{needs}
 use Rattle.walk.proofs.feasible_at.Statement.{statement}
@@ -11,11 +11,11 @@ feasible-at-spec = tie.close (tie.spec
     (λ c κs. search needs)
     (λ c. let found = c .before in
     let a = found .before .before .args in
-    omega (arith, own-within (tableOf (a .words .now)) (a .event) (a .i) (found .own-variable-at .ensures) (c .if1 .taken)))
+    omega (arith, own-within (rowsOf (a .words .now)) (a .event) (a .i) (found .own-variable-at .ensures) (c .if1 .taken)))
     (λ c κs. search needs)
     (λ c. let found = c .before .before in
     let a = found .before .before .args in
-    own-tested (tableOf (a .words .now)) (a .event) (a .i) (found .own-variable-at .ensures) _ _ (c .before .if1 .taken) (c .becomes-such .ensures))
+    own-tested (rowsOf (a .words .now)) (a .event) (a .i) (found .own-variable-at .ensures) _ _ (c .before .if1 .taken) (c .becomes-such .ensures))
     (λ c. let found = c .before in
     let a = found .before .before .args in
-    own-none (tableOf (a .words .now)) (a .event) (a .i) (found .own-variable-at .ensures) _ (c .if1 .left)))
+    own-none (rowsOf (a .words .now)) (a .event) (a .i) (found .own-variable-at .ensures) _ (c .if1 .left)))

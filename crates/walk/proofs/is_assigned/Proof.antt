@@ -1,7 +1,7 @@
 -- The row found is the action's, as the actions stand in their span (Tests).
 use mathlib.Core.Path.{ap₂}
 use lib.Dec.{ltb}
-use Rattle.table.specs.Table.{tableOf}
+use Rattle.table.specs.Rows.{rowsOf}
 use Rattle.walk.proofs.Tests.{assigns-span}
 use borrow.Author.Needs.{needs}
 use Rattle.sequent.specs.Walk.{actionRow}
@@ -11,6 +11,6 @@ use Rattle.walk.proofs.is_assigned.Tie as tie
 pub is-assigned-spec : {M : Type 1} → statement M
 unfolding actionRow
 is-assigned-spec = tie.close (tie.spec
-    (λ c κs. let s = c .before in assigns-span (tableOf (s .args .words .now)) (s .args .event) (s .args .target) (s .pre))
+    (λ c κs. let s = c .before in assigns-span (rowsOf (s .args .words .now)) (s .args .event) (s .args .target) (s .pre))
     (λ c κs. search needs)
     (λ c. ap₂ ltb (c .before .find-within .ensures) (c .size .ensures)))

@@ -5,7 +5,7 @@ use mathlib.Core.List.{List, _++_}
 use native.Mathlib.Omega.{arith}
 use lib.ListN.{length, length-append}
 use Rattle.lists.proofs.Over.{over-tail, over-set, over-length}
-use Rattle.number.specs.Number.{written, textOf}
+use Rattle.number.specs.Number.{columnsOf, textOf}
 use Rattle.number.proofs.Columns.{written-length}
 use Rattle.row.specs.Row.{rowBytes}
 use Rattle.row.proofs.Form.{row-length}
@@ -21,11 +21,11 @@ bytes c =
     let c2 = c3 .before .before .before .before in
     let c1 = c2 .before .before .before .before in
     let a = c1 .before .before .before .args in
-    let t : List ℕ = written 4 (textOf (a .self .tag)) in
-    let ta : List ℕ = t ++ written 11 (textOf (a .self .a)) in
-    let tab : List ℕ = ta ++ written 11 (textOf (a .self .b)) in
+    let t : List ℕ = columnsOf 4 (textOf (a .self .tag)) in
+    let ta : List ℕ = t ++ columnsOf 11 (textOf (a .self .a)) in
+    let tab : List ℕ = ta ++ columnsOf 11 (textOf (a .self .b)) in
     let xs : List ℕ = a .out .now in
-    over-set (tab ++ written 11 (textOf (a .self .c))) xs _ 37 10 (simp (length-append, written-length))
+    over-set (tab ++ columnsOf 11 (textOf (a .self .c))) xs _ 37 10 (simp (length-append, written-length))
     (over-tail tab _ xs _ _ 26 (simp (length-append, written-length))
     (over-tail ta _ xs _ _ 15 (simp (length-append, written-length))
     (over-tail t _ xs _ _ 4 (simp written-length) (c1 .write-number .ensures) (c2 .write-number2 .ensures))

@@ -5,10 +5,10 @@ use mathlib.Core.List.{List, [], _∷_, _++_, map}
 use lib.Dec.{ltb, leb, eqb}
 use lib.ListN.{length, getD}
 use Rattle.lists.specs.Choice.{pick}
-use Rattle.lists.specs.Rows.{countBelow, numbers, keep}
+use Rattle.lists.specs.Below.{countBelow, numbers, keep}
 
 -- The rows, counted from 0: a tag and numbers a, b, c, each a word of 64 bits.
-pub record Table : Type 0 where
+pub record Rows : Type 0 where
   pub size : ℕ
   pub tag : ℕ → ℕ
   pub a : ℕ → ℕ
@@ -16,8 +16,8 @@ pub record Table : Type 0 where
   pub c : ℕ → ℕ
 
 -- the table of a list of words, four a row
-abbrev pub tableOf : List ℕ → Table
-tableOf ws = record {
+abbrev pub rowsOf : List ℕ → Rows
+rowsOf ws = record {
   size = length ws / 4;
   tag = λ i. getD ws (4 * i) 0;
   a = λ i. getD ws (4 * i + 1) 0;
@@ -29,7 +29,7 @@ tableOf ws = record {
 abbrev pub operandNode : ℕ → ℕ → ℕ
 operandNode n x = pick (ltb 0 x && ltb x n) x 0
 
-module _ (t : Table) where
+module _ (t : Rows) where
   abbrev pub tagged : ℕ → ℕ → Bool
   tagged k i = eqb (t .tag i) k
 

@@ -8,7 +8,7 @@ use Rattle.lists.proofs.Flat.{flat-join}
 use Rattle.row.specs.declared.Row.{Row}
 use Rattle.row.specs.Row.{rowBytes, width}
 use Rattle.row.proofs.Form.{row-length}
-use Rattle.service.specs.Printed.{rowsBytes}
+use Rattle.reply.specs.Printed.{rowsBytes}
 
 pub rows-length : (rs : List Row) → length (rowsBytes rs) ≡ 38 * length rs
 unfolding rowsBytes flatMap

@@ -15,10 +15,10 @@ use Rattle.sequent.specs.Listed.{sequent, sequents}
 use Rattle.rules.specs.declared.Verdict.{Verdict}
 use Rattle.rules.specs.declared.Verdict.the-variants as verdict
 use Rattle.rules.specs.Verdict.{verdict as verdictOf, machine}
-use Rattle.service.specs.declared.Reply.{Reply}
-use Rattle.service.specs.declared.Reply.the-variants as reply
-use Rattle.service.specs.Printed.{row, sequentRows, rowsBytes}
-use Rattle.service.specs.Spelled.{spell}
+use Rattle.reply.specs.declared.Reply.{Reply}
+use Rattle.reply.specs.declared.Reply.the-variants as reply
+use Rattle.reply.specs.Printed.{row, sequentRows, rowsBytes}
+use Rattle.reply.specs.Spelled.{spell}
 
 -- a reply, and what the caller's buffer holds afterwards
 pub record Outcome : Type 0 where

@@ -9,7 +9,7 @@ use native.Mathlib.Nat.{eq-or-lt-of-le}
 use native.Mathlib.Numerals.{add-one}
 use lib.Dec.{T, ltb→lt, lt→ltb}
 use Rattle.lists.specs.All.{In, here, there}
-use Rattle.lists.specs.Rows.{oneIf, countBelow, someBelow, numbers, keep}
+use Rattle.lists.specs.Below.{oneIf, countBelow, someBelow, numbers, keep}
 use Rattle.lists.proofs.All.{in-nil, in-cons}
 
 -- a test adds one where it passes

@@ -24,7 +24,7 @@ use Rattle.decode.specs.Decode.{firstBad, wordsTo, decodedOf}
 use Rattle.decode.proofs.Words.{words-none, words-more}
 use Rattle.verdict.specs.declared.Loaded.{Loaded}
 use Rattle.verdict.specs.declared.Loaded.the-variants.{Words, Refused}
-use Rattle.verdict.specs.Loaded.{rowOf, loadedRows, loadedOf, judged, HoldsRows}
+use Rattle.verdict.specs.Loaded.{endRow, loadedRows, loadedOf, judged, HoldsRows}
 
 take-length : (n : ℕ) (xs : List ℕ) → n ≤ length xs → length (take n xs) ≡ n
 take-length n xs h = length-take n xs ∙ omega arith
@@ -66,10 +66,10 @@ module _ (bytes : List ℕ) where
   pub whole : length bytes ≤ 65536 → length bytes % 38 ≡ 0 → loadedOf bytes ≡ loadedRows (decodedOf (firstBad bytes rows) rows)
   whole h e = frame-true (ap (λ b. b && eqb (length bytes % 38) 0) (le-leb (length bytes) 65536 h) ∙ ap (λ n. eqb n 0) e)
 
-  pub decoded-row : rowOf (decodedOf (firstBad bytes rows) rows) ≤ rows
+  pub decoded-row : endRow (decodedOf (firstBad bytes rows) rows) ≤ rows
   decoded-row = by-test (ltb (firstBad bytes rows) rows) refl
     where
-      by-test : (b : Bool) → ltb (firstBad bytes rows) rows ≡ b → rowOf (decodedOf (firstBad bytes rows) rows) ≤ rows
+      by-test : (b : Bool) → ltb (firstBad bytes rows) rows ≡ b → endRow (decodedOf (firstBad bytes rows) rows) ≤ rows
       by-test true p = rw p bad-at-most
       by-test false p = rw p (omega arith)
 
@@ -77,8 +77,8 @@ module _ (bytes : List ℕ) where
   pub verdict-judged : verdict bytes ≡ judged bytes (loadedOf bytes)
   verdict-judged = by-tests (framed bytes) (ltb (firstBad bytes rows) rows) refl refl
     where
-      loaded : (c : Bool) → framed bytes ≡ true → ltb (firstBad bytes rows) rows ≡ c → loadedOf bytes ≡ loadedRows (pick c (decoding.Malformed (firstBad bytes rows)) (decoding.Rows rows))
-      loaded c p q = frame-true p ∙ ap (λ b. loadedRows (pick b (decoding.Malformed (firstBad bytes rows)) (decoding.Rows rows))) q
+      loaded : (c : Bool) → framed bytes ≡ true → ltb (firstBad bytes rows) rows ≡ c → loadedOf bytes ≡ loadedRows (pick c (decoding.Malformed (firstBad bytes rows)) (decoding.Complete rows))
+      loaded c p q = frame-true p ∙ ap (λ b. loadedRows (pick b (decoding.Malformed (firstBad bytes rows)) (decoding.Complete rows))) q
 
       by-tests : (b c : Bool) → framed bytes ≡ b → ltb (firstBad bytes rows) rows ≡ c → verdict bytes ≡ judged bytes (loadedOf bytes)
       by-tests false c p q = verdict-frame bytes p ∙ sym (ap (judged bytes) (frame-false p))
@@ -90,7 +90,7 @@ module _ (bytes : List ℕ) where
   holds-none number row words e n p = absurd (refused-not-words number row n (sym e ∙ p))
 
   -- all rows are in the row form
-  rows-words : (b : Bool) (n : ℕ) → ltb (firstBad bytes rows) rows ≡ b → loadedRows (pick b (decoding.Malformed (firstBad bytes rows)) (decoding.Rows rows)) ≡ Words n
+  rows-words : (b : Bool) (n : ℕ) → ltb (firstBad bytes rows) rows ≡ b → loadedRows (pick b (decoding.Malformed (firstBad bytes rows)) (decoding.Complete rows)) ≡ Words n
       → (firstBad bytes rows ≡ rows) × (4 * rows ≡ n)
   rows-words true n p e = absurd (refused-not-words 2 (firstBad bytes rows + 1) n e)
   rows-words false n p e = (omega (arith, ltb-false (firstBad bytes rows) rows p, bad-at-most), ap wordsIn e)
