@@ -71,5 +71,5 @@ pub none-bad : (bytes : List ℕ) (rows i : ℕ) → rows ≤ i → i ≤ rows �
     → firstBad bytes rows ≡ rows
 none-bad bytes rows i h g e = sym e ∙ first-end (λ i. notRow (lineOf bytes i)) rows i h ∙ omega arith
 
-pub reply-all : (bytes : List ℕ) (rows : ℕ) → firstBad bytes rows ≡ rows → Rows rows ≡ decodedOf (firstBad bytes rows) rows
+pub reply-all : (bytes : List ℕ) (rows : ℕ) → firstBad bytes rows ≡ rows → Complete rows ≡ decodedOf (firstBad bytes rows) rows
 reply-all bytes rows e = rw e (simp (le-ltb rows rows (omega arith)))

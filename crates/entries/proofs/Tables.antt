@@ -1,8 +1,9 @@
 -- The tables of kinds, items, goals, tests and entries, read at a known number and at one that is none of those that a match names.
 use Prim.Native.Nat.{ℕ}
 use mathlib.Core.Path.{_≡_, refl, sym, ap, _∙_}
-use mathlib.Core.Bool.{true, false, cond}
+use mathlib.Core.Bool.{true, false}
 use lib.ListN.{getD}
+use Rattle.lists.specs.Choice.{pick}
 use Rattle.lists.specs.All.{all-nil, all-cons}
 use Rattle.lists.specs.Below.{numbers}
 use Rattle.lists.proofs.Range.{table-rest}
@@ -15,11 +16,11 @@ use Rattle.sequent.specs.Segments.{kinds, isWFIS, headerKind, items, headerItem
 module _ (g w : ℕ) where
   pub kind-wfis : isWFIS g w ≡ true → WFIS ≡ headerKind g w
   unfolding headerKind
-  kind-wfis p = sym (ap (λ b. cond b WFIS (getD kinds g WD)) p)
+  kind-wfis p = sym (ap (λ b. pick b WFIS (getD kinds g WD)) p)
 
   pub kind-other : (k : ℕ) → isWFIS g w ≡ false → getD kinds g WD ≡ k → k ≡ headerKind g w
   unfolding headerKind
-  kind-other k p q = sym (ap (λ b. cond b WFIS (getD kinds g WD)) p ∙ q)
+  kind-other k p q = sym (ap (λ b. pick b WFIS (getD kinds g WD)) p ∙ q)
 
 pub kind-rest : (g : ℕ) → (g ≡ 4 → ⊥) → (g ≡ 6 → ⊥) → (g ≡ 7 → ⊥) → (g ≡ 8 → ⊥) → (g ≡ 9 → ⊥) → (g ≡ 10 → ⊥) → getD kinds g WD ≡ WD
 unfolding numbers
@@ -33,11 +34,11 @@ module _ (t : Rows) where
   module _ (e g i w : ℕ) where
     pub item-wfis : isWFIS g w ≡ true → t .b i ≡ headerItem t e g i w
     unfolding headerItem
-    item-wfis p = sym (ap (λ b. cond b (t .b i) (getD (items t) g (λ e i. t .a i) e i)) p)
+    item-wfis p = sym (ap (λ b. pick b (t .b i) (getD (items t) g (λ e i. t .a i) e i)) p)
 
     pub item-other : (x : ℕ) → isWFIS g w ≡ false → getD (items t) g (λ e i. t .a i) e i ≡ x → x ≡ headerItem t e g i w
     unfolding headerItem
-    item-other x p q = sym (ap (λ b. cond b (t .b i) (getD (items t) g (λ e i. t .a i) e i)) p ∙ q)
+    item-other x p q = sym (ap (λ b. pick b (t .b i) (getD (items t) g (λ e i. t .a i) e i)) p ∙ q)
 
   pub item-rest : (e g i : ℕ) → (g ≡ 2 → ⊥) → (g ≡ 3 → ⊥) → (g ≡ 4 → ⊥) → (g ≡ 5 → ⊥) → (g ≡ 6 → ⊥) → (g ≡ 7 → ⊥)
       → getD (items t) g (λ e i. t .a i) e i ≡ t .a i

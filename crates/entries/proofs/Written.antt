@@ -2,7 +2,7 @@
 -- So a writer that walks from entry to entry has written the rows of the entries before its place.
 use Prim.Native.Nat.{ℕ, _+_, _-_, _*_, _≤_, _<_}
 use mathlib.Core.Path.{_≡_, refl, sym, ap, ap₂, _∙_}
-use mathlib.Core.Bool.{true, cond}
+use mathlib.Core.Bool.{true}
 use mathlib.Core.List.{List, [], _∷_, _++_, map, flatMap, map-map, append-nil}
 use native.Mathlib.Omega.{arith}
 use native.Mathlib.Numerals.{add-one}
@@ -10,6 +10,7 @@ use lib.ListN.{length, getD, take, drop, length-take}
 use lib.Seq.{take-suc, take-all}
 use borrow.Author.Tests.{ne-eqb}
 use borrow.Rule.Slice.PartMut.{putMid}
+use Rattle.lists.specs.Choice.{pick}
 use Rattle.lists.specs.Over.{over}
 use Rattle.lists.specs.Below.{numbers, keep}
 use Rattle.lists.proofs.Below.{in-numbers}
@@ -63,7 +64,7 @@ module _ (t : Rows) (e g i w : ℕ) (h : i < t .size) where
 
       own-tag : (s : ℕ) → s < 7 → map (λ j. entryRow 81 (segmentEntry t e g i w s j)) (keep (segmentTest t e g i s) (numbers (t .size) 0)) ≡ part s
       own-tag s l =
-          ap (λ b. map (λ j. entryRow (cond b 82 81) (segmentEntry t e g i w s j)) (keep (segmentTest t e g i s) (numbers (t .size) 0))) (sym (ne-eqb s 7 (omega arith)))
+          ap (λ b. map (λ j. entryRow (pick b 82 81) (segmentEntry t e g i w s j)) (keep (segmentTest t e g i s) (numbers (t .size) 0))) (sym (ne-eqb s 7 (omega arith)))
 
   rows-count : length (entryRows t e g i w) ≡ entriesTo t e g i segments 0
   rows-count = ap length rows-made ∙ made-length t e g i (segmentRow t e g i w)

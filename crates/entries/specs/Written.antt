@@ -1,8 +1,8 @@
 -- 01, Sequents: "rows 81 (hypotheses), row 82 (goal)" of a slot's sequent.
 use Prim.Native.Nat.{ℕ}
-use mathlib.Core.Bool.{cond}
 use mathlib.Core.List.{List, [], _∷_, _++_, map}
 use lib.Dec.{eqb}
+use Rattle.lists.specs.Choice.{pick}
 use Rattle.row.specs.declared.Row.{Row}
 use Rattle.table.specs.Rows.{Rows}
 use Rattle.sequent.specs.declared.Entry.{Entry as Numbers}
@@ -11,7 +11,7 @@ use Rattle.reply.specs.Printed.{row, entryRow}
 
 -- the tag of a segment's rows
 abbrev pub segmentTag : ℕ → ℕ
-segmentTag s = cond (eqb s 7) 82 81
+segmentTag s = pick (eqb s 7) 82 81
 
 -- the row of an entry as the code holds it
 abbrev pub numbersRow : ℕ → Numbers → Row

@@ -1,9 +1,10 @@
 -- A formula with every variable at its after value says what the formula says where the variables have those values: by
 -- induction on the tree, for its value, its reading and what it mentions.
 use mathlib.Core.Path.{_≡_, refl, sym, ap, ap₂, _∙_}
-use mathlib.Core.Bool.{Bool, true, false, cond, _&&_}
+use mathlib.Core.Bool.{Bool, true, false, _&&_}
 use mathlib.Core.Option.{none, some}
 use Prim.Native.Nat.{ℕ}
+use Rattle.lists.specs.Choice.{pick}
 use Rattle.formula.specs.Values.{ValueType, truth, wrap, asTruth}
 use Rattle.formula.specs.Tree.{top, and, or, implies, Division, quotient, remainder, Tree, constant, identifier, after, unary, binary, division}
 use Rattle.formula.specs.Tree.{connective}
@@ -16,7 +17,7 @@ use Rattle.formula.proofs.WellDefined.{read-where-well-defined}
 module _ (isVariable : ℕ → Bool) where
   -- the environment whose variables have their after values
   abbrev pub advance : {type : ℕ → ValueType} → Env type → Env type
-  advance ρ = record { present = λ x. cond (isVariable x) (ρ .after x) (ρ .present x); after = ρ .after }
+  advance ρ = record { present = λ x. pick (isVariable x) (ρ .after x) (ρ .present x); after = ρ .after }
 
   condition-at-after : (o : Division) (t u : Tree) →
       divisionCondition o (atAfter isVariable t) (atAfter isVariable u) ≡ atAfter isVariable (divisionCondition o t u)
@@ -29,7 +30,7 @@ module _ (isVariable : ℕ → Bool) where
   well-defined-at-after (constant c) = refl
   well-defined-at-after (identifier x) = go (isVariable x)
     where
-      go : (b : Bool) → wellDefined (cond b (after x) (identifier x)) ≡ constant top
+      go : (b : Bool) → wellDefined (pick b (after x) (identifier x)) ≡ constant top
       go true = refl
       go false = refl
   well-defined-at-after (after x) = refl
@@ -46,12 +47,12 @@ module _ (isVariable : ℕ → Bool) where
   well-defined-at-after (connective implies t u) =
       ap₂ (λ a b. connective and a (connective implies (atAfter isVariable t) b)) (well-defined-at-after t) (well-defined-at-after u)
 
-  pub mentions-at-after : (P Q : ℕ → Bool) (t : Tree) → mentions P Q (atAfter isVariable t) ≡ mentions (λ x. cond (isVariable x) (Q x) (P x)) Q t
+  pub mentions-at-after : (P Q : ℕ → Bool) (t : Tree) → mentions P Q (atAfter isVariable t) ≡ mentions (λ x. pick (isVariable x) (Q x) (P x)) Q t
   unfolding mentions atAfter
   mentions-at-after P Q (constant c) = refl
   mentions-at-after P Q (identifier x) = go (isVariable x)
     where
-      go : (b : Bool) → mentions P Q (cond b (after x) (identifier x)) ≡ cond b (Q x) (P x)
+      go : (b : Bool) → mentions P Q (pick b (after x) (identifier x)) ≡ pick b (Q x) (P x)
       go true = refl
       go false = refl
   mentions-at-after P Q (after x) = refl
@@ -66,7 +67,7 @@ module _ (isVariable : ℕ → Bool) where
     evaluate-at-after (constant c) = refl
     evaluate-at-after (identifier x) = go (isVariable x)
       where
-        go : (b : Bool) → evaluate ρ (cond b (after x) (identifier x)) ≡ wrap (type x) (cond b (ρ .after x) (ρ .present x))
+        go : (b : Bool) → evaluate ρ (pick b (after x) (identifier x)) ≡ wrap (type x) (pick b (ρ .after x) (ρ .present x))
         go true = refl
         go false = refl
     evaluate-at-after (after x) = refl
@@ -79,5 +80,5 @@ module _ (isVariable : ℕ → Bool) where
     pub read-at-after : (t : Tree) → readTree ρ (atAfter isVariable t) ≡ readTree (advance ρ) t
     read-at-after t =
         read-where-well-defined ρ (atAfter isVariable t)
-        ∙ ap₂ (λ w v. cond (asTruth w) (some v) none) (ap (evaluate ρ) (well-defined-at-after t) ∙ evaluate-at-after (wellDefined t)) (evaluate-at-after t)
+        ∙ ap₂ (λ w v. pick (asTruth w) (some v) none) (ap (evaluate ρ) (well-defined-at-after t) ∙ evaluate-at-after (wellDefined t)) (evaluate-at-after t)
         ∙ sym (read-where-well-defined (advance ρ) t)

@@ -1,11 +1,12 @@
 -- A formula turns only on what it mentions: environments that agree there give it one value, by induction on the tree, and one
 -- reading, since its well-definedness formula mentions nothing more.
 use mathlib.Core.Path.{_≡_, refl, sym, ap, ap₂, _∙_}
-use mathlib.Core.Bool.{Bool, cond, _&&_}
+use mathlib.Core.Bool.{Bool, _&&_}
 use mathlib.Core.Option.{none, some}
 use Prim.Native.Nat.{ℕ}
 use lib.Dec.{T}
 use lib.IntN.{pos}
+use Rattle.lists.specs.Choice.{pick}
 use Rattle.formula.specs.Values.{ValueType, truth, wrap, asTruth}
 use Rattle.formula.specs.Tree.{literal, Connective, and, or, implies, Division, quotient, remainder, Tree, constant, identifier, after, unary}
 use Rattle.formula.specs.Tree.{binary, division, connective}
@@ -81,7 +82,7 @@ module _ {type : ℕ → ValueType} {P Q : ℕ → Bool} (ρ σ : Env type) (h :
   pub read-agree : (t : Tree) → T (mentions P Q t) → readTree ρ t ≡ readTree σ t
   read-agree t s =
       read-where-well-defined ρ t
-      ∙ ap₂ (λ w v. cond (asTruth w) (some v) none) (evaluate-agree (wellDefined t) (mentions-well-defined P Q t s)) (evaluate-agree t s)
+      ∙ ap₂ (λ w v. pick (asTruth w) (some v) none) (evaluate-agree (wellDefined t) (mentions-well-defined P Q t s)) (evaluate-agree t s)
       ∙ sym (read-where-well-defined σ t)
 
 -- `mentions` follows its tests: weaker tests, and two pairs of tests together

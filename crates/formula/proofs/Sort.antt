@@ -1,7 +1,8 @@
 -- A tree's value has the tree's type, whatever its operands are: by cases on the operator.
 use mathlib.Core.Path.{_≡_, refl, sym, ap}
-use mathlib.Core.Bool.{Bool, true, false, cond}
+use mathlib.Core.Bool.{Bool, true, false}
 use Prim.Native.Nat.{ℕ}
+use Rattle.lists.specs.Choice.{pick}
 use Rattle.formula.specs.Values.{ValueType, integer, Value, AnyValue, wrap, asValue}
 use Rattle.formula.specs.Tree.{Constant, literal, TRUE, FALSE, top, bottom, Unary, bool, negation, logicalNot, Binary, plus, minus, times}
 use Rattle.formula.specs.Tree.{equal, less, atMost, iff, Division, quotient, remainder, Tree, constant, identifier, after, unary, binary}
@@ -45,7 +46,7 @@ division-type o v w = either (divisionDefined o v w) (divisionValue o v w) _ (va
     value quotient = refl
     value remainder = refl
 
-    either : (d : Bool) (x y : AnyValue) → HasType integer x → HasType integer y → HasType integer (cond d x y)
+    either : (d : Bool) (x y : AnyValue) → HasType integer x → HasType integer y → HasType integer (pick d x y)
     either true x y e f = e
     either false x y e f = f
 

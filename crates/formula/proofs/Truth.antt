@@ -4,6 +4,7 @@ use mathlib.Core.Bool.{Bool, true, false, true≢false, not, _&&_, _||_}
 use mathlib.Core.Logic.{_⊎_, inl, inr}
 use Prim.Native.Nat.{ℕ}
 use lib.Dec.{T, eqb, eqb-refl}
+use Rattle.lists.specs.Choice.{pick}
 
 pub and-split : (a b : Bool) → T (a && b) → T a × T b
 and-split true b t = (tt, t)
@@ -71,10 +72,10 @@ eq→eqb m n e = subst (λ x. T (eqb m x)) e (eqb-refl m)
 
 -- a choice whose test is known
 module _ {A : Type 0} where
-  pub choice-true : (b : Bool) (x y : A) → T b → _≡_ {A = A} (elim b [ true ↦ x | false ↦ y ]) x
+  pub choice-true : (b : Bool) (x y : A) → T b → _≡_ {A = A} (pick b x y) x
   choice-true true x y t = refl
   choice-true false x y t = absurd t
 
-  pub choice-false : (b : Bool) (x y : A) → T (not b) → _≡_ {A = A} (elim b [ true ↦ x | false ↦ y ]) y
+  pub choice-false : (b : Bool) (x y : A) → T (not b) → _≡_ {A = A} (pick b x y) y
   choice-false true x y t = absurd t
   choice-false false x y t = refl

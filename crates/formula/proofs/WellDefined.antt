@@ -1,10 +1,11 @@
 -- Reading in order gives the total value where the well-definedness formula is true, and nothing elsewhere: one equation, by
 -- induction on the tree, in which each node only asks for the truth values of its parts' conditions.
 use mathlib.Core.Path.{_≡_, refl, sym, ap, ap₂, _∙_, subst}
-use mathlib.Core.Bool.{Bool, true, false, not, cond, _&&_, _||_}
+use mathlib.Core.Bool.{Bool, true, false, not, _&&_, _||_}
 use mathlib.Core.Option.{Option, none, some, Option·map, Option·some-injective, Option·none-ne-some}
 use Prim.Native.Nat.{ℕ}
 use lib.Dec.{T}
+use Rattle.lists.specs.Choice.{pick}
 use Rattle.formula.specs.Values.{ValueType, AnyValue, number, truth, asTruth}
 use Rattle.formula.specs.Tree.{Connective, and, or, implies, Division, quotient, remainder, Tree, constant, identifier, after, unary, binary}
 use Rattle.formula.specs.Tree.{division, connective}
@@ -15,7 +16,7 @@ use Rattle.formula.proofs.Truth.{test-true}
 
 -- a value that is read where the test passes
 abbrev readWhere : Bool → AnyValue → Option AnyValue
-readWhere w v = cond w (some v) none
+readWhere w v = pick w (some v) none
 
 map-where : (f : AnyValue → AnyValue) (w : Bool) (v : AnyValue) → Option·map f (readWhere w v) ≡ readWhere w (f v)
 map-where f true v = refl
@@ -30,7 +31,7 @@ division-where : (o : Division) (a b : Bool) (v w : AnyValue) →
     andThen (readWhere a v) (λ x. andThen (readWhere b w) (readDivision o x)) ≡ readWhere (a && b && divisionDefined o v w) (totalDivision o v w)
 division-where o true true v w = where-defined (divisionDefined o v w) (divisionValue o v w) _
   where
-    where-defined : (d : Bool) (x y : AnyValue) → readWhere d x ≡ readWhere d (cond d x y)
+    where-defined : (d : Bool) (x y : AnyValue) → readWhere d x ≡ readWhere d (pick d x y)
     where-defined true x y = refl
     where-defined false x y = refl
 division-where o true false v w = refl
@@ -48,7 +49,7 @@ connective-where : (o : Connective) (a b : Bool) (v w : AnyValue) →
 connective-where o true b v w = right o (asTruth v)
   where
     right : (o : Connective) (p : Bool) →
-        cond (readsRight o p) (Option·map (λ x. truth (connectiveValue o p (asTruth x))) (readWhere b w)) (some (truth (connectiveValue o p false)))
+        pick (readsRight o p) (Option·map (λ x. truth (connectiveValue o p (asTruth x))) (readWhere b w)) (some (truth (connectiveValue o p false)))
         ≡ readWhere (rightCondition o p b) (truth (connectiveValue o p (asTruth w)))
     right and true = map-where (λ x. truth (asTruth x)) b w
     right and false = refl
@@ -74,7 +75,7 @@ module _ {type : ℕ → ValueType} (ρ : Env type) where
   connective-defined or t u = refl
   connective-defined implies t u = refl
 
-  pub read-where-well-defined : (t : Tree) → readTree ρ t ≡ cond (asTruth (evaluate ρ (wellDefined t))) (some (evaluate ρ t)) none
+  pub read-where-well-defined : (t : Tree) → readTree ρ t ≡ pick (asTruth (evaluate ρ (wellDefined t))) (some (evaluate ρ t)) none
   unfolding evaluate readTree wellDefined
   read-where-well-defined (constant c) = refl
   read-where-well-defined (identifier x) = refl

@@ -1,9 +1,10 @@
 -- What a formula says at given values: its total value, as sequents have it, and its reading in order, as a run has it.
-use mathlib.Core.Bool.{Bool, true, false, not, cond, _&&_, _||_, Bool·beq}
+use mathlib.Core.Bool.{Bool, true, false, not, _&&_, _||_, Bool·beq}
 use mathlib.Core.Option.{Option, none, some, Option·map}
 use Prim.Native.Nat.{ℕ}
 use lib.Dec.{T, eqb}
 use lib.IntN.{pos, negℤ, _+ℤ_, _-ℤ_, _*ℤ_}
+use Rattle.lists.specs.Choice.{pick}
 use Rattle.formula.specs.Values.{ValueType, Value, AnyValue, number, truth, wrap, asNumber, asTruth, asValue, atMostℤ, lessℤ, equalValue}
 use Rattle.formula.specs.Values.{wholeNumber, quotientℤ, remainderℤ}
 use Rattle.formula.specs.Tree.{Constant, literal, TRUE, FALSE, top, bottom, Unary, bool, negation, logicalNot, Binary, plus, minus, times}
@@ -21,7 +22,7 @@ pub record Env (type : ℕ → ValueType) : Type 0 where
 
 -- the valuation with the value of x replaced by v, which at y = x is a value of y's type
 unfoldable pub override : (type : ℕ → ValueType) → Valuation type → (x : ℕ) → Value (type x) → Valuation type
-override type f x v y = cond (eqb y x) (asValue (type y) (wrap (type x) v)) (f y)
+override type f x v y = pick (eqb y x) (asValue (type y) (wrap (type x) v)) (f y)
 
 module _ {type : ℕ → ValueType} (ρ : Env type) (x : ℕ) (v : Value (type x)) where
   -- the environment with the value of x replaced
@@ -77,16 +78,16 @@ readsRight implies p = p
 
 -- 01, Rows: "sequents read such a term as 0"
 abbrev pub totalDivision : Division → AnyValue → AnyValue → AnyValue
-totalDivision o v w = cond (divisionDefined o v w) (divisionValue o v w) (number (pos 0))
+totalDivision o v w = pick (divisionDefined o v w) (divisionValue o v w) (number (pos 0))
 
 -- an undefined division has no value
 abbrev pub readDivision : Division → AnyValue → AnyValue → Option AnyValue
-readDivision o v w = cond (divisionDefined o v w) (some (divisionValue o v w)) none
+readDivision o v w = pick (divisionDefined o v w) (some (divisionValue o v w)) none
 
 -- a left side read as v, and what reading the right side would give
 abbrev pub readConnective : Connective → AnyValue → Option AnyValue → Option AnyValue
 readConnective o v r =
-    cond
+    pick
     (readsRight o (asTruth v))
     (Option·map (λ w. truth (connectiveValue o (asTruth v) (asTruth w))) r)
     (some (truth (connectiveValue o (asTruth v) false)))

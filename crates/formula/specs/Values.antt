@@ -1,8 +1,9 @@
 -- The values of formulas: whole numbers and truth values, their order, and division that rounds toward zero.
-use mathlib.Core.Bool.{Bool, true, false, not, cond, Bool·beq}
+use mathlib.Core.Bool.{Bool, true, false, not, Bool·beq}
 use Prim.Native.Nat.{ℕ, suc, _-_, _/_, _^_}
 use lib.Dec.{leb, ltb, eqb}
 use lib.IntN.{ℤ, pos, negsuc, negℤ, _-ℤ_, _*ℤ_}
+use Rattle.lists.specs.Choice.{pick}
 
 -- 01, Rows: "type: 1 integer, 2 boolean"
 pub data ValueType : Type 0 where
@@ -15,7 +16,7 @@ Value boolean = Bool
 
 -- the whole number of a table's number, which is a word of 64 bits, a negative one in two's complement
 abbrev pub wholeNumber : ℕ → ℤ
-wholeNumber w = cond (ltb w (2 ^ 63)) (pos w) (negℤ (pos (2 ^ 64 - w)))
+wholeNumber w = pick (ltb w (2 ^ 63)) (pos w) (negℤ (pos (2 ^ 64 - w)))
 
 -- the value of an integer expression, or the truth of a boolean expression or a predicate
 pub data AnyValue : Type 0 where

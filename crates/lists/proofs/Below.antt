@@ -1,13 +1,14 @@
 -- Laws of the counts, searches and lists over the numbers below a bound, each by recursion on the bound or on the list.
 use Prim.Native.Nat.{ℕ, zero, suc, _+_, _≤_, _<_}
 use mathlib.Core.Path.{_≡_, refl, ap, ap₂, sym, subst}
-use mathlib.Core.Bool.{Bool, true, false, cond}
+use mathlib.Core.Bool.{Bool, true, false}
 use mathlib.Core.List.{List, [], _∷_}
 use mathlib.Core.Logic.{_⊎_, inl, inr, ⊎-elim}
 use native.Mathlib.Omega.{arith}
 use native.Mathlib.Nat.{eq-or-lt-of-le}
 use native.Mathlib.Numerals.{add-one}
 use lib.Dec.{T, ltb→lt, lt→ltb}
+use Rattle.lists.specs.Choice.{pick}
 use Rattle.lists.specs.All.{In, here, there}
 use Rattle.lists.specs.Below.{oneIf, countBelow, someBelow, numbers, keep}
 use Rattle.lists.proofs.All.{in-nil, in-cons}
@@ -150,12 +151,12 @@ module _ {A : Type 0} (P : A → Bool) where
   unfolding keep
   keep-in {x} (here {x = y} {xs = ys} e) p = go (P y) (subst (λ z. T (P z)) e p)
     where
-      go : (b : Bool) → T b → In x (cond b (y ∷ keep P ys) (keep P ys))
+      go : (b : Bool) → T b → In x (pick b (y ∷ keep P ys) (keep P ys))
       go true q = here e
       go false q = absurd q
   keep-in {x} (there {x = y} {xs = ys} i) p = go (P y) (keep-in i p)
     where
-      go : (b : Bool) → In x (keep P ys) → In x (cond b (y ∷ keep P ys) (keep P ys))
+      go : (b : Bool) → In x (keep P ys) → In x (pick b (y ∷ keep P ys) (keep P ys))
       go true k = there k
       go false k = k
 
@@ -167,7 +168,7 @@ module _ {A : Type 0} (P : A → Bool) where
       later : (In x (keep P ys) → In x ys × T (P x)) → In x (keep P ys) → In x (y ∷ ys) × T (P x)
       later ih k = let r = ih k in (there (r .0), r .1)
 
-      go : (b : Bool) → P y ≡ b → In x (cond b (y ∷ keep P ys) (keep P ys)) → (In x (keep P ys) → In x ys × T (P x)) → In x (y ∷ ys) × T (P x)
+      go : (b : Bool) → P y ≡ b → In x (pick b (y ∷ keep P ys) (keep P ys)) → (In x (keep P ys) → In x ys × T (P x)) → In x (y ∷ ys) × T (P x)
       go true q i ih =
           ⊎-elim (λ (e : x ≡ y). (here e, subst (λ z. T (P z)) (sym e) (subst T (sym q) tt))) (λ (k : In x (keep P ys)). later ih k) (in-cons i)
       go false q i ih = later ih i

@@ -1,6 +1,6 @@
 -- How "every member and each later one" goes through ++, map, flatMap and keep, each by recursion on the list or the derivation, and what it says of places.
 use mathlib.Core.Path.{_≡_, refl, sym, subst}
-use mathlib.Core.Bool.{Bool, true, false, cond}
+use mathlib.Core.Bool.{Bool, true, false}
 use mathlib.Core.List.{List, [], _∷_, _++_, map, flatMap}
 use mathlib.Core.Logic.{⊎-elim}
 use Prim.Native.Nat.{ℕ, zero, suc, _≤_, _<_}
@@ -8,6 +8,7 @@ use native.Mathlib.Nat.{not-suc-le-zero}
 use native.Mathlib.Decide.{decLt}
 use native.Mathlib.Omega.{arith}
 use lib.ListN.{length, getD}
+use Rattle.lists.specs.Choice.{pick}
 use Rattle.lists.specs.All.{All, all-nil, In, here, there}
 use Rattle.lists.specs.Distinct.{Pairwise, pairwise-nil, pairwise-cons, Distinct}
 use Rattle.lists.specs.Below.{numbers, keep}
@@ -18,7 +19,7 @@ unfolding keep
 in-kept P [] i = i
 in-kept {A} P (x ∷ xs) {a} i = by-test (P x) i (in-kept P xs)
   where
-    by-test : (b : Bool) → In a (cond b (x ∷ keep P xs) (keep P xs)) → (In a (keep P xs) → In a xs) → In a (x ∷ xs)
+    by-test : (b : Bool) → In a (pick b (x ∷ keep P xs) (keep P xs)) → (In a (keep P xs) → In a xs) → In a (x ∷ xs)
     by-test true i rest = ⊎-elim here (λ j. there (rest j)) (in-cons i)
     by-test false i rest = there (rest i)
 
@@ -65,7 +66,7 @@ module _ {A : Type 0} {R : A → A → Type 0} where
   pairwise-keep P pairwise-nil = pairwise-nil
   pairwise-keep P (pairwise-cons {x = x} {xs = xs} h hs) = by-test (P x) (pairwise-keep P hs)
     where
-      by-test : (b : Bool) → Pairwise R (keep P xs) → Pairwise R (cond b (x ∷ keep P xs) (keep P xs))
+      by-test : (b : Bool) → Pairwise R (keep P xs) → Pairwise R (pick b (x ∷ keep P xs) (keep P xs))
       by-test true k = pairwise-cons (all-in (keep P xs) (λ y j. all-at h (in-kept P xs j))) k
       by-test false k = k
 

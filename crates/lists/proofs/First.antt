@@ -8,6 +8,7 @@ use native.Mathlib.Nat.{eq-or-lt-of-le}
 use native.Mathlib.Numerals.{add-one}
 use lib.Dec.{ltb}
 use borrow.Author.Tests.{ltb-true, ltb-false}
+use Rattle.lists.specs.Choice.{pick}
 use Rattle.lists.specs.Below.{first}
 use Rattle.lists.proofs.Choice.{chosen, not-chosen}
 
@@ -22,7 +23,7 @@ unfolding first
 first-least P zero i = record { from = omega arith; to = omega arith; before = λ j h l. absurd (omega arith); passes = λ h. absurd (omega arith) }
 first-least P (suc n) i = go (P i) refl (first-least P n (suc i))
   where
-    go : (b : Bool) → P i ≡ b → Least P n (suc i) (first P n (suc i)) → Least P (suc n) i (elim b [ true ↦ i | false ↦ first P n (suc i) ])
+    go : (b : Bool) → P i ≡ b → Least P n (suc i) (first P n (suc i)) → Least P (suc n) i (pick b i (first P n (suc i)))
     go true e h = record { from = omega arith; to = omega arith; before = λ j g l. absurd (omega arith); passes = λ l. e }
     go false e h = record {
       from = omega (arith, h .from);

@@ -2,7 +2,7 @@
 -- recursion on the list or on the bound.
 use Prim.Native.Nat.{ℕ, zero, suc, _+_, _-_, _*_, _≤_, _<_}
 use mathlib.Core.Path.{_≡_, refl, sym, ap, ap₂, _∙_, subst, fun-ext}
-use mathlib.Core.Bool.{Bool, true, false, cond, _&&_, _||_}
+use mathlib.Core.Bool.{Bool, true, false, _&&_, _||_}
 use mathlib.Core.List.{List, [], _∷_, _++_, map, flatMap, map-id, map-append, append-assoc, append-nil}
 use mathlib.Core.Logic.{⊎-elim}
 use native.Mathlib.Nat.{eq-or-lt-of-le, suc-mul}
@@ -11,14 +11,15 @@ use lib.Dec.{T, ltb, eqb}
 use lib.ListN.{length, getD, length-append, length-map, List·getD-append}
 use lib.Seq.{getD-append-add}
 use borrow.Author.Tests.{lt-ltb, le-ltb, eq-eqb, ne-eqb}
+use Rattle.lists.specs.Choice.{pick}
 use Rattle.lists.specs.All.{In, here, there}
 use Rattle.lists.specs.Below.{oneIf, countBelow, sumBelow, numbers, keep}
 use Rattle.lists.proofs.Below.{in-numbers}
 
 -- a choice by two tests
-pub cond-and : {A : Type 0} (p q : Bool) (xs : List A) → cond (p && q) xs [] ≡ cond p (cond q xs []) []
-cond-and true q xs = refl
-cond-and false q xs = refl
+pub pick-and : {A : Type 0} (p q : Bool) (xs : List A) → pick (p && q) xs [] ≡ pick p (pick q xs []) []
+pick-and true q xs = refl
+pick-and false q xs = refl
 
 module _ {A B : Type 0} where
   pub flat-none : (xs : List A) → flatMap {A = A} {B = B} (λ x. []) xs ≡ []
@@ -37,15 +38,15 @@ module _ {A B : Type 0} where
   flat-same f g (x ∷ xs) h = rw (h x (here refl), flat-same f g xs (λ y i. h y (there i)))
 
   -- a list as the members that pass, each by itself
-  pub flat-keep : (P : A → Bool) (f : A → List B) (xs : List A) → flatMap f (keep P xs) ≡ flatMap (λ x. cond (P x) (f x) []) xs
+  pub flat-keep : (P : A → Bool) (f : A → List B) (xs : List A) → flatMap f (keep P xs) ≡ flatMap (λ x. pick (P x) (f x) []) xs
   unfolding flatMap keep
   flat-keep P f [] = refl
   flat-keep P f (x ∷ xs) = by-test (P x) (flat-keep P f xs)
     where
       rest : List B
-      rest = flatMap (λ x. cond (P x) (f x) []) xs
+      rest = flatMap (λ x. pick (P x) (f x) []) xs
 
-      by-test : (b : Bool) → flatMap f (keep P xs) ≡ rest → flatMap f (cond b (x ∷ keep P xs) (keep P xs)) ≡ cond b (f x) [] ++ rest
+      by-test : (b : Bool) → flatMap f (keep P xs) ≡ rest → flatMap f (pick b (x ∷ keep P xs) (keep P xs)) ≡ pick b (f x) [] ++ rest
       by-test true e = ap (λ r. f x ++ r) e
       by-test false e = e
 
@@ -69,21 +70,21 @@ module _ {A B : Type 0} where
 
   -- a test that does not turn on the member, and lists of one member or none
   pub flat-when : (b : Bool) (P : A → Bool) (f : A → List B) (xs : List A)
-      → cond b (flatMap (λ x. cond (P x) (f x) []) xs) [] ≡ flatMap (λ x. cond (b && P x) (f x) []) xs
+      → pick b (flatMap (λ x. pick (P x) (f x) []) xs) [] ≡ flatMap (λ x. pick (b && P x) (f x) []) xs
   flat-when true P f xs = refl
   flat-when false P f xs = sym (flat-none xs)
 
-  pub flat-single : (b : Bool) (f : A → List B) (x : A) → flatMap f (cond b (x ∷ []) []) ≡ cond b (f x) []
+  pub flat-single : (b : Bool) (f : A → List B) (x : A) → flatMap f (pick b (x ∷ []) []) ≡ pick b (f x) []
   unfolding flatMap
   flat-single true f x = append-nil (f x)
   flat-single false f x = refl
 
 -- lists made of the members that pass, through one map or two
 module _ {A B C : Type 0} (P : A → Bool) (g : A → B) (xs : List A) where
-  pub flat-kept : (f : B → List C) → flatMap f (map g (keep P xs)) ≡ flatMap (λ x. cond (P x) (f (g x)) []) xs
+  pub flat-kept : (f : B → List C) → flatMap f (map g (keep P xs)) ≡ flatMap (λ x. pick (P x) (f (g x)) []) xs
   flat-kept f = flat-map f g (keep P xs) ∙ flat-keep P (λ x. f (g x)) xs
 
-  pub map-kept : (f : B → C) → map f (map g (keep P xs)) ≡ flatMap (λ x. cond (P x) (f (g x) ∷ []) []) xs
+  pub map-kept : (f : B → C) → map f (map g (keep P xs)) ≡ flatMap (λ x. pick (P x) (f (g x) ∷ []) []) xs
   map-kept f = flat-one f (map g (keep P xs)) ∙ flat-kept (λ b. f b ∷ [])
 
 module _ {A : Type 0} where
@@ -95,7 +96,7 @@ module _ {A : Type 0} where
       both : List A
       both = keep (λ x. Q x && P x) xs
 
-      by-test : (b : Bool) → keep P (keep Q xs) ≡ both → keep P (cond b (x ∷ keep Q xs) (keep Q xs)) ≡ cond (b && P x) (x ∷ both) both
+      by-test : (b : Bool) → keep P (keep Q xs) ≡ both → keep P (pick b (x ∷ keep Q xs) (keep Q xs)) ≡ pick (b && P x) (x ∷ both) both
       by-test true e = rw e
       by-test false e = e
 
@@ -105,7 +106,7 @@ module _ {A : Type 0} where
   keep-join P (x ∷ xs) ys = by-test (P x) (keep-join P xs ys)
     where
       by-test : (b : Bool) → keep P (xs ++ ys) ≡ keep P xs ++ keep P ys
-          → cond b (x ∷ keep P (xs ++ ys)) (keep P (xs ++ ys)) ≡ cond b (x ∷ keep P xs) (keep P xs) ++ keep P ys
+          → pick b (x ∷ keep P (xs ++ ys)) (keep P (xs ++ ys)) ≡ pick b (x ∷ keep P xs) (keep P xs) ++ keep P ys
       by-test true e = ap (λ r. x ∷ r) e
       by-test false e = e
 
@@ -114,12 +115,12 @@ module _ {A : Type 0} where
   keep-none P [] h = refl
   keep-none P (x ∷ xs) h = rw (h x (here refl)) (keep-none P xs (λ y i. h y (there i)))
 
-  pub keep-flat : (P : A → Bool) (xs : List A) → keep P xs ≡ flatMap (λ x. cond (P x) (x ∷ []) []) xs
+  pub keep-flat : (P : A → Bool) (xs : List A) → keep P xs ≡ flatMap (λ x. pick (P x) (x ∷ []) []) xs
   keep-flat P xs = sym (map-id (keep P xs)) ∙ flat-one (λ x. x) (keep P xs) ∙ flat-keep P (λ x. x ∷ []) xs
 
   -- a test that does not turn on the member
   pub map-when : {B : Type 0} (f : A → B) (b : Bool) (P : A → Bool) (xs : List A)
-      → map f (keep (λ x. b && P x) xs) ≡ cond b (map f (keep P xs)) []
+      → map f (keep (λ x. b && P x) xs) ≡ pick b (map f (keep P xs)) []
   map-when f true P xs = refl
   map-when f false P xs = ap (map f) (keep-none (λ x. false) xs (λ x i. refl))
 
@@ -131,7 +132,7 @@ module _ {A : Type 0} where
       ys : List A
       ys = keep (λ x. P (f x)) xs
 
-      by-test : (b : Bool) → keep P (map f xs) ≡ map f ys → cond b (f x ∷ keep P (map f xs)) (keep P (map f xs)) ≡ map f (cond b (x ∷ ys) ys)
+      by-test : (b : Bool) → keep P (map f xs) ≡ map f ys → pick b (f x ∷ keep P (map f xs)) (keep P (map f xs)) ≡ map f (pick b (x ∷ ys) ys)
       by-test true e = ap (λ r. f x ∷ r) e
       by-test false e = e
 
@@ -160,7 +161,7 @@ numbers-next n =
     let q : 0 + n ≡ n = omega arith in
     ap (λ m. numbers m 0) p ∙ numbers-join n 1 0 ∙ ap (λ j. numbers n 0 ++ (j ∷ [])) q
 
-pub keep-next : (P : ℕ → Bool) (n : ℕ) → keep P (numbers (suc n) 0) ≡ keep P (numbers n 0) ++ cond (P n) (n ∷ []) []
+pub keep-next : (P : ℕ → Bool) (n : ℕ) → keep P (numbers (suc n) 0) ≡ keep P (numbers n 0) ++ pick (P n) (n ∷ []) []
 unfolding keep
 keep-next P n = ap (keep P) (numbers-next n) ∙ keep-join P (numbers n 0) (n ∷ [])
 
@@ -175,7 +176,7 @@ numbers-suc (suc n) i = ap (λ r. suc i ∷ r) (numbers-suc n (suc i))
 
 -- the numbers below n are those below a greater bound that pass this test
 pub flat-below : {B : Type 0} (f : ℕ → List B) (n m : ℕ) → n ≤ m
-    → flatMap f (numbers n 0) ≡ flatMap (λ i. cond (ltb i n) (f i) []) (numbers m 0)
+    → flatMap f (numbers n 0) ≡ flatMap (λ i. pick (ltb i n) (f i) []) (numbers m 0)
 flat-below {B} f n m h =
     sym
     (ap (flatMap g) split
@@ -184,7 +185,7 @@ flat-below {B} f n m h =
     ∙ append-nil (flatMap f (numbers n 0)))
   where
     g : ℕ → List B
-    g i = cond (ltb i n) (f i) []
+    g i = pick (ltb i n) (f i) []
 
     split : numbers m 0 ≡ numbers n 0 ++ numbers (m - n) (0 + n)
     split = let p : m ≡ n + (m - n) = omega arith in ap (λ k. numbers k 0) p ∙ numbers-join n (m - n) 0
@@ -199,8 +200,8 @@ flat-below {B} f n m h =
 pub keep-below : (P : ℕ → Bool) (n m : ℕ) → n ≤ m → keep P (numbers n 0) ≡ keep (λ i. ltb i n && P i) (numbers m 0)
 keep-below P n m h =
     keep-flat P (numbers n 0)
-    ∙ flat-below (λ i. cond (P i) (i ∷ []) []) n m h
-    ∙ flat-ext _ _ (numbers m 0) (λ i. sym (cond-and (ltb i n) (P i) (i ∷ [])))
+    ∙ flat-below (λ i. pick (P i) (i ∷ []) []) n m h
+    ∙ flat-ext _ _ (numbers m 0) (λ i. sym (pick-and (ltb i n) (P i) (i ∷ [])))
     ∙ sym (keep-flat (λ i. ltb i n && P i) (numbers m 0))
 
 -- the numbers that are one number
@@ -210,7 +211,7 @@ keep-only n i h =
     ap (keep P) (numbers-split n i h)
     ∙ keep-join P (numbers i 0) (i ∷ later)
     ∙ ap₂ (λ (xs : List ℕ) (ys : List ℕ). xs ++ ys) (keep-none P (numbers i 0) (λ j k. ne-eqb j i (omega (arith, in-numbers i 0 j k .1))))
-    (ap (λ b. cond b (i ∷ keep P later) (keep P later)) (eq-eqb i i refl)
+    (ap (λ b. pick b (i ∷ keep P later) (keep P later)) (eq-eqb i i refl)
     ∙ ap (λ xs. i ∷ xs) (keep-none P later (λ j k. ne-eqb j i (omega (arith, in-numbers (n - suc i) (suc i) j k .0)))))
   where
     P : ℕ → Bool
@@ -240,7 +241,7 @@ keep-either P Q (suc n) i h = by-tests (P i) (Q i) refl refl (keep-either P Q n 
     fails false f = refl
 
     by-tests : (p q : Bool) → P i ≡ p → Q i ≡ q → ps ++ qs ≡ both
-        → cond p (i ∷ ps) ps ++ cond q (i ∷ qs) qs ≡ cond (p || q) (i ∷ both) both
+        → pick p (i ∷ ps) ps ++ pick q (i ∷ qs) qs ≡ pick (p || q) (i ∷ both) both
     by-tests true true d e r = absurd (h i i (omega arith) (omega arith) (subst T (sym e) tt) (subst T (sym d) tt))
     by-tests true false d e r = ap (λ xs. i ∷ xs) r
     by-tests false true d e r =
@@ -254,9 +255,9 @@ pub keep-length : (P : ℕ → Bool) (n : ℕ) → length (keep P (numbers n 0))
 unfolding numbers keep countBelow
 keep-length P zero = refl
 keep-length P (suc n) =
-    ap length (keep-next P n) ∙ length-append (keep P (numbers n 0)) (cond (P n) (n ∷ []) []) ∙ ap₂ (λ a b. a + b) (keep-length P n) (one (P n))
+    ap length (keep-next P n) ∙ length-append (keep P (numbers n 0)) (pick (P n) (n ∷ []) []) ∙ ap₂ (λ a b. a + b) (keep-length P n) (one (P n))
   where
-    one : (b : Bool) → length (cond b (n ∷ []) []) ≡ oneIf b
+    one : (b : Bool) → length (pick b (n ∷ []) []) ≡ oneIf b
     one true = refl
     one false = refl
 
@@ -314,7 +315,7 @@ kept-at {B} P f n i d h p =
     split =
         ap (keep P) (numbers-split n i h)
         ∙ keep-join P (numbers i 0) (i ∷ numbers (n - suc i) (suc i))
-        ∙ ap (λ b. front ++ cond b (i ∷ later) later) p
+        ∙ ap (λ b. front ++ pick b (i ∷ later) later) p
 
     place : countBelow P i ≡ length (map f front) + 0
     place = sym (length-map front f ∙ keep-length P i) ∙ omega arith

@@ -1,8 +1,9 @@
 -- Notions over the numbers below a bound, as a table's rows are numbered: how many pass a test, a sum, the first that passes, and the list of those that do.
 use Prim.Native.Nat.{ℕ, zero, suc, _+_}
-use mathlib.Core.Bool.{Bool, true, false, cond}
+use mathlib.Core.Bool.{Bool, true, false}
 use mathlib.Core.List.{List, [], _∷_}
 use lib.Dec.{ltb}
+use Rattle.lists.specs.Choice.{pick}
 
 -- one where a test passes, else none
 abbrev pub oneIf : Bool → ℕ
@@ -26,7 +27,7 @@ someBelow P n = ltb 0 (countBelow P n)
 -- the first of the n numbers from i on that passes, or i + n
 unfoldable pub first : (ℕ → Bool) → ℕ → ℕ → ℕ
 first P zero i = i
-first P (suc n) i = elim (P i) [ true ↦ i | false ↦ first P n (suc i) ]
+first P (suc n) i = pick (P i) i (first P n (suc i))
 
 -- the n numbers from i on
 unfoldable pub numbers : ℕ → ℕ → List ℕ
@@ -36,4 +37,4 @@ numbers (suc n) i = i ∷ numbers n (suc i)
 -- those that pass
 unfoldable pub keep : {A : Type 0} → (A → Bool) → List A → List A
 keep P [] = []
-keep P (x ∷ xs) = cond (P x) (x ∷ keep P xs) (keep P xs)
+keep P (x ∷ xs) = pick (P x) (x ∷ keep P xs) (keep P xs)

@@ -99,21 +99,21 @@ module _ (t : Rows) where
           let target = and-split (eqb (t .a f) e) (eqb (t .b f) x) (and-split (isAction t f) _ s .1) in
           record { inside = h; tagIs = q; eventIs = eqb→eq (t .a f) e (target .0); variableIs = eqb→eq (t .b f) x (target .1) }
 
-      kind : (b : Bool) → tagged t 51 f ≡ b → f < t .size → T (sets t e x f) → P (elim b [ true ↦ becomesEqual (t .c f) | false ↦ becomesSuchThat (t .c f) ])
+      kind : (b : Bool) → tagged t 51 f ≡ b → f < t .size → T (sets t e x f) → P (pick b (becomesEqual (t .c f)) (becomesSuchThat (t .c f)))
       kind true q h s = equal f (by 51 h s (eqb→eq (t .tag f) 51 (true-test _ q)))
       kind false q h s =
           such f (by 52 h s (eqb→eq (t .tag f) 52 (subst (λ b. T (b || tagged t 52 f)) q (and-split (isAction t f) _ s .0))))
 
       within : (b : Bool) → ltb f (t .size) ≡ b
-          → P (elim b [ true ↦ elim (tagged t 51 f) [ true ↦ becomesEqual (t .c f) | false ↦ becomesSuchThat (t .c f) ] | false ↦ unassigned ])
+          → P (pick b (pick (tagged t 51 f) (becomesEqual (t .c f)) (becomesSuchThat (t .c f))) unassigned)
       within true q = let h = ltb-true f (t .size) q in kind (tagged t 51 f) refl h (true-test _ (least .passes (omega arith)))
       within false q = none (λ i h s. true≢false (sym (test-true _ s) ∙ least .before i (omega arith) (omega (arith, ltb-false f (t .size) q))))
 
   -- an operand's tree, as its node has it, to a depth
   abbrev operandTo : ℕ → ℕ → ℕ → Tree
-  operandTo d n m = elim (earlier n m) [ true ↦ treeTo t d m | false ↦ constant bottom ]
+  operandTo d n m = pick (earlier n m) (treeTo t d m) (constant bottom)
 
-  either-tree : (b : Bool) (u v : Tree) → (T b → u ≡ v) → _≡_ {A = Tree} (elim b [ true ↦ u | false ↦ constant bottom ]) (elim b [ true ↦ v | false ↦ constant bottom ])
+  either-tree : (b : Bool) (u v : Tree) → (T b → u ≡ v) → _≡_ {A = Tree} (pick b u (constant bottom)) (pick b v (constant bottom))
   either-tree true u v f = f tt
   either-tree false u v f = refl
 
@@ -133,7 +133,7 @@ module _ (t : Rows) where
   unfolding treeOf treeTo
   operand-tree d m = go (earlier (suc d) m) (earlier-bounds (suc d) m)
     where
-      go : (b : Bool) → (T b → (1 ≤ m) × (m < suc d)) → _≡_ {A = Tree} (elim b [ true ↦ treeTo t d m | false ↦ constant bottom ]) (treeOf t (pick b m 0))
+      go : (b : Bool) → (T b → (1 ≤ m) × (m < suc d)) → _≡_ {A = Tree} (pick b (treeTo t d m) (constant bottom)) (treeOf t (pick b m 0))
       go true f = tree-depth d m m (f tt .0) (omega (arith, f tt .1)) (omega arith)
       go false f = refl
 

@@ -6,6 +6,7 @@ use mathlib.Core.Logic.{_⊎_, inl, inr}
 use native.Mathlib.Omega.{arith}
 use lib.Dec.{eqb}
 use borrow.Author.Tests.{eqb-true, eqb-false}
+use Rattle.lists.specs.Choice.{pick}
 use Rattle.machine.specs.Machine.{Role, abstractInitialisation, abstractOrdinary, concreteInitialisation, refining, convergent}
 use Rattle.machine.specs.Described.{roleNumbered}
 
@@ -30,10 +31,7 @@ role-says machine class refined ok = go (eqb machine 1) (eqb class 0) (eqb class
     low = ok .classIs
 
     go : (m c d : Bool) → eqb machine 1 ≡ m → eqb class 0 ≡ c → eqb class 1 ≡ d → (machine ≡ 1) ⊎ (machine ≡ 2)
-        → RoleSays machine class refined (elim m [
-          | true ↦ elim c [ true ↦ abstractInitialisation | false ↦ abstractOrdinary ]
-          | false ↦ elim c [ true ↦ concreteInitialisation 1 | false ↦ elim d [ true ↦ refining refined | false ↦ convergent ] ]
-        ])
+        → RoleSays machine class refined (pick m (pick c abstractInitialisation abstractOrdinary) (pick c (concreteInitialisation 1) (pick d (refining refined) convergent)))
     go true true d p q r k = (eqb-true machine 1 p, eqb-true class 0 q)
     go true false d p q r k = let e = eqb-true machine 1 p in (e, omega (arith, eqb-false class 0 q))
     go false c d p q r (inl k) = absurd (eqb-false machine 1 p k)

@@ -5,6 +5,7 @@ use mathlib.Core.Bool.{Bool, true, false, _||_}
 use native.Mathlib.Omega.{arith}
 use lib.Dec.{eqb}
 use borrow.Author.Tests.{eqb-true, ne-eqb}
+use Rattle.lists.specs.Choice.{pick}
 use Rattle.table.specs.Rows.{Rows, kindOf, isVariableNumber}
 use Rattle.machine.specs.Machine.{Kind, isVariable, constantKind, abstractVariable, concreteVariable, abstractParameter, concreteParameter}
 use Rattle.machine.specs.Described.{kindNumbered, machineOf}
@@ -16,14 +17,7 @@ variable-kind n =
   where
     by-tests : Bool → Bool → Bool → Bool → Kind
     by-tests a b c d =
-        elim a [
-          | true ↦ constantKind
-          | false ↦
-              elim b [
-                | true ↦ abstractVariable
-                | false ↦ elim c [ true ↦ concreteVariable | false ↦ elim d [ true ↦ abstractParameter | false ↦ concreteParameter ] ]
-              ]
-        ]
+        pick a constantKind (pick b abstractVariable (pick c concreteVariable (pick d abstractParameter concreteParameter)))
 
     go : (a b c d : Bool) → (a ≡ true → b ≡ false) → (a ≡ true → c ≡ false) → isVariable (by-tests a b c d) ≡ (b || c)
     go true b c d f g = sym (ap₂ _||_ (f refl) (g refl))

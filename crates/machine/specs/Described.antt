@@ -1,8 +1,9 @@
 -- The machines that a table describes.
-use mathlib.Core.Bool.{Bool, true, false, cond, _&&_}
+use mathlib.Core.Bool.{Bool, true, false, _&&_}
 use mathlib.Core.List.{List, map}
 use Prim.Native.Nat.{ℕ, zero, suc}
 use lib.Dec.{ltb, eqb}
+use Rattle.lists.specs.Choice.{pick}
 use Rattle.lists.specs.Below.{first, numbers, keep}
 use Rattle.table.specs.Rows.{Rows, tagged, section, count, kindOf, typeOf, operatorOf, leftOf, rightOf, machineNumber, classOf, refinedBy, isAction}
 use Rattle.formula.specs.Values.{ValueType, integer, boolean}
@@ -14,32 +15,23 @@ use Rattle.machine.specs.Operator.{Operator, literalOf, identifierOf, af
 
 -- 01: "type: 1 integer, 2 boolean"
 unfoldable pub typeNumbered : ℕ → ValueType
-typeNumbered n = elim (eqb n 2) [ true ↦ boolean | false ↦ integer ]
+typeNumbered n = pick (eqb n 2) boolean integer
 
 -- 01: "kind: 1 constant, 2 abstract variable, 3 concrete variable, 4 abstract parameter, 5 concrete parameter"
 unfoldable pub kindNumbered : ℕ → Kind
 kindNumbered n =
-    elim (eqb n 1) [
-      | true ↦ constantKind
-      | false ↦
-          elim (eqb n 2) [
-            | true ↦ abstractVariable
-            | false ↦
-                elim (eqb n 3) [
-                  | true ↦ concreteVariable
-                  | false ↦
-                      elim (eqb n 4) [ true ↦ abstractParameter | false ↦ concreteParameter ]
-                ]
-          ]
-    ]
+    pick (eqb n 1) constantKind
+    (pick (eqb n 2) abstractVariable
+    (pick (eqb n 3) concreteVariable
+    (pick (eqb n 4) abstractParameter concreteParameter)))
 
 -- 01: "machine: 1 abstract, 2 concrete; class: 0 initialisation, 1 ordinary, 2 convergent"; the abstract initialisation is event 1
 unfoldable pub roleNumbered : ℕ → ℕ → ℕ → Role
 roleNumbered machine class refined =
-    elim (eqb machine 1) [
-      | true ↦ elim (eqb class 0) [ true ↦ abstractInitialisation | false ↦ abstractOrdinary ]
-      | false ↦ elim (eqb class 0) [ true ↦ concreteInitialisation 1 | false ↦ elim (eqb class 1) [ true ↦ refining refined | false ↦ convergent ] ]
-    ]
+    pick (eqb machine 1)
+    (pick (eqb class 0) abstractInitialisation abstractOrdinary)
+    (pick (eqb class 0) (concreteInitialisation 1)
+    (pick (eqb class 1) (refining refined) convergent))
 
 -- a node of an operator, its column b and the trees of its operands
 abbrev pub node : Operator → ℕ → Tree → Tree → Tree
@@ -62,8 +54,8 @@ module _ (t : Rows) where
   unfoldable pub treeTo : ℕ → ℕ → Tree
   treeTo zero n = constant bottom
   treeTo (suc depth) n =
-      let l : Tree = elim (earlier n (leftOf t n)) [ true ↦ treeTo depth (leftOf t n) | false ↦ constant bottom ] in
-      let r : Tree = elim (earlier n (rightOf t n)) [ true ↦ treeTo depth (rightOf t n) | false ↦ constant bottom ] in
+      let l : Tree = pick (earlier n (leftOf t n)) (treeTo depth (leftOf t n)) (constant bottom) in
+      let r : Tree = pick (earlier n (rightOf t n)) (treeTo depth (rightOf t n)) (constant bottom) in
       node (operatorNumbered (operatorOf t n)) (leftOf t n) l r
 
   unfoldable pub treeOf : ℕ → Tree
@@ -76,7 +68,7 @@ module _ (t : Rows) where
   unfoldable pub actionOf : ℕ → ℕ → Action
   actionOf e x =
       let i = first (sets e x) (t .size) 0 in
-      elim (ltb i (t .size)) [ true ↦ elim (tagged t 51 i) [ true ↦ becomesEqual (t .c i) | false ↦ becomesSuchThat (t .c i) ] | false ↦ unassigned ]
+      pick (ltb i (t .size)) (pick (tagged t 51 i) (becomesEqual (t .c i)) (becomesSuchThat (t .c i))) unassigned
 
   -- the rows of a section that belong to an event
   unfoldable pub belonging : ℕ → ℕ → List ℕ

@@ -1,8 +1,9 @@
 -- 01, Rows: the operators by their numbers.
-use mathlib.Core.Bool.{Bool, true, false, cond}
+use mathlib.Core.Bool.{Bool, true, false}
 use mathlib.Core.List.{List, [], _∷_}
 use Prim.Native.Nat.{ℕ}
 use lib.Dec.{eqb}
+use Rattle.lists.specs.Choice.{pick}
 use Rattle.formula.specs.Tree.{Constant, TRUE, FALSE, top, bottom, Unary, bool, negation, logicalNot, Binary, plus, minus, times, equal, less, atMost, iff}
 use Rattle.formula.specs.Tree.{Division, quotient, remainder, Connective, and, or, implies}
 
@@ -32,7 +33,7 @@ operators =
 
 abbrev pub find : List Numbered → ℕ → Operator
 find [] n = unknown
-find (o ∷ os) n = elim (eqb (o .number) n) [ true ↦ o .operator | false ↦ find os n ]
+find (o ∷ os) n = pick (eqb (o .number) n) (o .operator) (find os n)
 
 unfoldable pub operatorNumbered : ℕ → Operator
 operatorNumbered n = find operators n

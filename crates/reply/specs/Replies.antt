@@ -5,6 +5,7 @@ use mathlib.Core.Bool.{Bool, true, false, _&&_}
 use mathlib.Core.List.{List, [], _∷_, _++_, flatMap}
 use lib.Dec.{leb, ltb}
 use lib.ListN.{length, getD}
+use Rattle.lists.specs.Choice.{pick}
 use Rattle.lists.specs.Over.{over}
 use Rattle.row.specs.declared.Row.{Row}
 use Rattle.row.specs.Row.{rowBytes, width}
@@ -32,11 +33,7 @@ refused number at out = record { reply = reply.Refused number at; buffer = out }
 -- "on success bytes past the written rows keep their values"; refusal 15, room: "buffer shorter than the rows"
 unfoldable pub writeRows : List Row → List ℕ → Outcome
 writeRows rs out =
-    elim (ltb (length out) (length (rowsBytes rs))) [
-      | true ↦ refused 15 0 out
-      | false ↦
-          record { reply = reply.Written (length rs); buffer = over (rowsBytes rs) out }
-    ]
+    pick (ltb (length out) (length (rowsBytes rs))) (refused 15 0 out) (record { reply = reply.Written (length rs); buffer = over (rowsBytes rs) out })
 
 -- k is one of 1 to n
 abbrev pub among : ℕ → ℕ → Bool
@@ -53,7 +50,7 @@ module _ (m : Machine) where
   -- refusal 13, sequent: "k not in 1 to the count"
   abbrev pub withSequent : Verdict → ℕ → List ℕ → (Sequent → Outcome) → Outcome
   withSequent (verdict.Refused number at) k out f = refused number at out
-  withSequent (verdict.Accepted n) k out f = elim (among k n) [ true ↦ f (sequentAt (sequents m) k) | false ↦ refused 13 0 out ]
+  withSequent (verdict.Accepted n) k out f = pick (among k n) (f (sequentAt (sequents m) k)) (refused 13 0 out)
 
   -- write sequent k, by the verdict
   abbrev pub writeBy : Verdict → ℕ → List ℕ → Outcome
@@ -62,10 +59,7 @@ module _ (m : Machine) where
   -- refusal 14, entry: "j not in 1 to the entries"
   abbrev pub spellAt : Sequent → ℕ → List ℕ → Outcome
   spellAt s j out =
-      elim (among j (length (entries s))) [
-        | true ↦ writeRows (spell (formula m (getD (entries s) (j - 1) (written 0)))) out
-        | false ↦ refused 14 0 out
-      ]
+      pick (among j (length (entries s))) (writeRows (spell (formula m (getD (entries s) (j - 1) (written 0)))) out) (refused 14 0 out)
 
   -- spell entry j of sequent k, by the verdict
   abbrev pub spellBy : Verdict → ℕ → ℕ → List ℕ → Outcome

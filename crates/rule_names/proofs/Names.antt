@@ -5,6 +5,7 @@ use mathlib.Core.Bool.{Bool, true, false, _&&_}
 use native.Mathlib.Omega.{arith}
 use borrow.Author.Tests.{eq-eqb, ne-eqb}
 use lib.Dec.{eqb}
+use Rattle.lists.specs.Choice.{pick}
 use Rattle.lists.proofs.Choice.{chosen, not-chosen}
 use Rattle.table.specs.Rows.{Rows}
 use Rattle.rules.specs.Rules.{abstractOrdinaryEvent, goodRefined, ownerEvent, goodOwner}
@@ -18,7 +19,7 @@ module _ (t : Rows) (i : ℕ) where
 
   -- of an identifier that is no abstract parameter
   abbrev otherOwner : Bool
-  otherOwner = elim (eqb (t .a i) 5) [ true ↦ ownerEvent t 2 (t .c i) | false ↦ eqb (t .c i) 0 ]
+  otherOwner = pick (eqb (t .a i) 5) (ownerEvent t 2 (t .c i)) (eqb (t .c i) 0)
 
   pub owner-abstract : t .a i ≡ 4 → goodOwner t i ≡ ownerEvent t 1 (t .c i)
   owner-abstract e = chosen (eqb (t .a i) 4) (ownerEvent t 1 (t .c i)) otherOwner (eq-eqb (t .a i) 4 e)

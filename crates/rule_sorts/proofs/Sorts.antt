@@ -9,6 +9,7 @@ use native.Mathlib.Decide.{decLt}
 use lib.Dec.{eqb, ltb}
 use lib.ListN.{length, List·getD-eq-default}
 use borrow.Author.Tests.{ne-eqb, eqb-false}
+use Rattle.lists.specs.Choice.{pick}
 use Rattle.lists.specs.Below.{oneIf}
 use Rattle.table.specs.Rows.{Rows, rowsOf, tagged, isAction, typeOf, operatorOf, leftOf}
 use Rattle.rules.specs.Sorts.{shapeOf, resultSort, operandSort, operandCount, namesIdentifier, sortOf, fitting}
@@ -18,9 +19,9 @@ use Rattle.rule_sorts.specs.Uses.{mayUse}
 
 module _ (t : Rows) where
   pub sort-when : (n r : ℕ) (b : Bool) → b ≡ namesIdentifier (shapeOf (operatorOf t n))
-      → r ≡ elim b [ true ↦ typeOf t (leftOf t n) | false ↦ resultSort (operatorOf t n) ] → r ≡ sortOf t n
+      → r ≡ pick b (typeOf t (leftOf t n)) (resultSort (operatorOf t n)) → r ≡ sortOf t n
   unfolding sortOf
-  sort-when n r b e h = subst (λ b. r ≡ elim b [ true ↦ typeOf t (leftOf t n) | false ↦ resultSort (operatorOf t n) ]) e h
+  sort-when n r b e h = subst (λ b. r ≡ pick b (typeOf t (leftOf t n)) (resultSort (operatorOf t n))) e h
 
   pub operands-none : (n i : ℕ) → n ≡ 0 → true ≡ goodOperands t n i
   operands-none zero i e = refl
@@ -44,10 +45,7 @@ module _ (t : Rows) where
 
   abbrev pub usesOf : ℕ → ℕ → ℕ → ℕ
   usesOf tag n i =
-      elim (eqb tag 20) [
-        | true ↦ oneIf (ltb 0 (operandCount (shapeOf (t .a i))) && eqb (t .b i) n) + oneIf (ltb 1 (operandCount (shapeOf (t .a i))) && eqb (t .c i) n)
-        | false ↦ oneIf (namesRoot t i && eqb (rootAt t i) n)
-      ]
+      pick (eqb tag 20) (oneIf (ltb 0 (operandCount (shapeOf (t .a i))) && eqb (t .b i) n) + oneIf (ltb 1 (operandCount (shapeOf (t .a i))) && eqb (t .c i) n)) (oneIf (namesRoot t i && eqb (rootAt t i) n))
 
   pub uses-when : (n i tag r : ℕ) → tag ≡ t .tag i → r ≡ usesOf tag n i → r ≡ usesAt t n i
   uses-when n i tag r e h = subst (λ k. r ≡ usesOf k n i) e h
@@ -57,14 +55,14 @@ module _ (t : Rows) where
   unfolding rootAt
   root-unheld n i z a b c = by-tag (tagged t 30 i || (tagged t 31 i || (tagged t 32 i || tagged t 70 i))) (tagged t 50 i) (isAction t i || tagged t 60 i)
     where
-      by-tag : (p q r : Bool) → eqb (elim p [ true ↦ t .a i | false ↦ elim q [ true ↦ t .b i | false ↦ elim r [ true ↦ t .c i | false ↦ 0 ] ] ]) n ≡ false
+      by-tag : (p q r : Bool) → eqb (pick p (t .a i) (pick q (t .b i) (pick r (t .c i) 0))) n ≡ false
       by-tag true q r = a
       by-tag false true r = b
       by-tag false false true = c
       by-tag false false false = ne-eqb 0 n (λ e. eqb-false n 0 z (sym e))
 
   none-counted : (d p q r : Bool) {x y z : Bool} → x ≡ false → y ≡ false → z ≡ false
-      → _≡_ {A = ℕ} 0 (elim d [ true ↦ oneIf (p && x) + oneIf (q && y) | false ↦ oneIf (r && z) ])
+      → _≡_ {A = ℕ} 0 (pick d (oneIf (p && x) + oneIf (q && y)) (oneIf (r && z)))
   none-counted true p q r ex ey ez = simp (ex, ey, and-false)
   none-counted false p q r ex ey ez = simp (ez, and-false)
 

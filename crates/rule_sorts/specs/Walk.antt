@@ -1,6 +1,6 @@
 -- The sort check as a walk down the rows, in which rows of expressions and of predicates are judged by two functions that call each other.
 use Prim.Native.Nat.{ℕ, zero, suc}
-use mathlib.Core.Bool.{Bool, not, cond, _||_}
+use mathlib.Core.Bool.{Bool, not, _||_}
 use lib.Dec.{leb}
 use Rattle.lists.specs.Choice.{pick}
 use Rattle.table.specs.Rows.{Rows, tagged}
@@ -12,4 +12,4 @@ firstBefore P (suc i) found = firstBefore P i (pick (P i) i found)
 
 -- a row of a predicate: a node of an operator from 20 on, or a row whose root is a predicate (01: "but 51 takes the variable's type and 70 an integer")
 abbrev pub ofPredicate : Rows → ℕ → Bool
-ofPredicate t i = cond (tagged t 20 i) (leb 20 (t .a i)) (not (tagged t 51 i || tagged t 70 i))
+ofPredicate t i = pick (tagged t 20 i) (leb 20 (t .a i)) (not (tagged t 51 i || tagged t 70 i))

@@ -4,6 +4,7 @@ use mathlib.Core.Path.{_≡_, subst₂}
 use mathlib.Core.Bool.{Bool, true, false, not, _&&_, _||_}
 use native.Mathlib.Omega.{arith}
 use lib.Dec.{T, leb, eqb, eqb→eq}
+use Rattle.lists.specs.Choice.{pick}
 use Rattle.formula.proofs.Truth.{and-split, or-cases, rule-met}
 use Rattle.table.specs.Rows.{Rows, tagged, named, rowOf, kindOf, typeOf, ownerOf, machineNumber, classOf}
 use Rattle.table.proofs.Sections.{named-row}
@@ -32,11 +33,7 @@ module _ (t : Rows) (ok : Obeys t) where
 
   abbrev ownerTest : ℕ → ℕ → Bool
   ownerTest kind e =
-      elim (eqb kind 4) [
-        | true ↦ ownerEvent t 1 e
-        | false ↦
-            elim (eqb kind 5) [ true ↦ ownerEvent t 2 e | false ↦ eqb e 0 ]
-      ]
+      pick (eqb kind 4) (ownerEvent t 1 e) (pick (eqb kind 5) (ownerEvent t 2 e) (eqb e 0))
 
   -- "owner: own machine, class not 0": a parameter of an event has the kind of the event's machine, and the event is no initialisation
   pub parameter-owner : (e x : ℕ) → T (named t 10 x) → T (ownParameter t e x) → (kindOf t x ≡ 3 + machineNumber t e) × T (not (eqb (classOf t e) 0))

@@ -5,6 +5,7 @@ use mathlib.Core.Path.{_≡_, refl, sym, ap, _∙_}
 use mathlib.Core.Bool.{Bool, true, false}
 use mathlib.Core.List.{List, [], _∷_, map}
 use lib.Dec.{eqb}
+use Rattle.lists.specs.Choice.{pick}
 use Rattle.formula.specs.Values.{ValueType, integer, boolean}
 use Rattle.formula.specs.Sort.{constantType, unaryType, binaryType}
 use Rattle.machine.specs.Operator as meaning
@@ -16,13 +17,13 @@ module _ {X : Type 0} where
   -- what a list of numbers and values gives for a number
   abbrev look : X → List (ℕ × X) → ℕ → X
   look d [] n = d
-  look d (p ∷ ps) n = elim (eqb (p .0) n) [ true ↦ p .1 | false ↦ look d ps n ]
+  look d (p ∷ ps) n = pick (eqb (p .0) n) (p .1) (look d ps n)
 
-  look-step : (b : Bool) (x y z : X) → y ≡ z → _≡_ {A = X} (elim b [ true ↦ x | false ↦ y ]) (elim b [ true ↦ x | false ↦ z ])
+  look-step : (b : Bool) (x y z : X) → y ≡ z → _≡_ {A = X} (pick b x y) (pick b x z)
   look-step true x y z e = refl
   look-step false x y z e = e
 
-  choice : {A : Type 0} (f : A → X) (b : Bool) (x y : A) → _≡_ {A = X} (f (elim b [ true ↦ x | false ↦ y ])) (elim b [ true ↦ f x | false ↦ f y ])
+  choice : {A : Type 0} (f : A → X) (b : Bool) (x y : A) → _≡_ {A = X} (f (pick b x y)) (pick b (f x) (f y))
   choice f true x y = refl
   choice f false x y = refl
 
@@ -77,7 +78,7 @@ operatorType (connectiveOf o) = boolean
 operatorType meaning.unknown = boolean
 
 abbrev pub sortType : ℕ → ValueType
-sortType s = elim (eqb s 1) [ true ↦ integer | false ↦ boolean ]
+sortType s = pick (eqb s 1) integer boolean
 
 pub type-agrees : (n : ℕ) → sortType (resultSort n) ≡ operatorType (operatorNumbered n)
 unfolding resultSort operatorNumbered

@@ -4,6 +4,7 @@ use mathlib.Core.Path.{_≡_, refl, sym, subst}
 use mathlib.Core.Bool.{Bool, true, false, not, _&&_, _||_}
 use native.Mathlib.Omega.{arith}
 use lib.Dec.{T, ltb, leb, eqb, leb→le, ltb→lt}
+use Rattle.lists.specs.Choice.{pick}
 use Rattle.formula.specs.Tree.{bottom, Tree, constant}
 use Rattle.formula.specs.Mentions.{mentions}
 use Rattle.formula.proofs.Truth.{and-split, and-join, or-neither, rule-met}
@@ -33,28 +34,14 @@ module _ (t : Rows) where
   -- the root that a row of a tag names: in column a of axioms, invariants and the variant, b of guards, c of actions and witnesses
   abbrev pub rootOf : ℕ → ℕ → ℕ
   rootOf k i =
-      elim (formulaTag k) [
-        | true ↦ t .a i
-        | false ↦
-            elim (eqb k 50) [
-              | true ↦ t .b i
-              | false ↦
-                  elim (actionTag k || eqb k 60) [ true ↦ t .c i | false ↦ 0 ]
-            ]
-      ]
+      pick (formulaTag k) (t .a i) (pick (eqb k 50) (t .b i) (pick (actionTag k || eqb k 60) (t .c i) 0))
 
   -- what its event and its target have to meet
   abbrev pub targetTest : ℕ → ℕ → Bool
   targetTest k i =
-      elim (eqb k 50) [
-        | true ↦ guardEvent t (t .a i)
-        | false ↦
-            elim (actionTag k) [
-              | true ↦ actionTarget t (t .a i) (t .b i)
-              | false ↦
-                  elim (eqb k 60) [ true ↦ witnessTarget t (t .a i) (t .b i) | false ↦ true ]
-            ]
-      ]
+      pick (eqb k 50) (guardEvent t (t .a i))
+      (pick (actionTag k) (actionTarget t (t .a i) (t .b i))
+      (pick (eqb k 60) (witnessTarget t (t .a i) (t .b i)) true))
 
   pub names-root : (k i : ℕ) → t .tag i ≡ k → T (rootTag k) → T (namesRoot t i)
   names-root k i e h = subst (λ k. T (rootTag k)) (sym e) h
@@ -115,7 +102,7 @@ module _ (t : Rows) where
     abbrev Named : Tree → Type 0
     Named u = T (names u)
 
-    operand-named : (b : Bool) (u : Tree) → Named u → Named (elim b [ true ↦ u | false ↦ constant bottom ])
+    operand-named : (b : Bool) (u : Tree) → Named u → Named (pick b u (constant bottom))
     unfolding mentions
     operand-named true u h = h
     operand-named false u h = tt
@@ -138,7 +125,7 @@ module _ (t : Rows) where
     tree-to-named zero n h = tt
     tree-to-named (suc d) n h =
         let o = operands-good (operatorNumbered (operatorOf t n)) (rowOf t 20 n) (node-row n h) in
-        let operand : (m : ℕ) → T (earlierNode t (rowOf t 20 n) m) → Named (elim (earlier n m) [ true ↦ treeTo t d m | false ↦ constant bottom ]) = λ m e.
+        let operand : (m : ℕ) → T (earlierNode t (rowOf t 20 n) m) → Named (pick (earlier n m) (treeTo t d m) (constant bottom)) = λ m e.
         operand-named (earlier n m) (treeTo t d m) (tree-to-named d m (earlier-operand n m h e .0)) in
         node-named (operatorNumbered (operatorOf t n)) (rowOf t 20 n) _ _ (node-row n h) (λ u. operand (leftOf t n) (o .0 u)) (λ u. operand (rightOf t n) (o .1 u))
 

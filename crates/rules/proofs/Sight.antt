@@ -3,6 +3,7 @@ use Prim.Native.Nat.{ℕ, _<_}
 use mathlib.Core.Path.{_≡_, subst}
 use mathlib.Core.Bool.{Bool, true, false, _&&_, _||_}
 use lib.Dec.{T, eqb}
+use Rattle.lists.specs.Choice.{pick}
 use Rattle.formula.specs.Mentions.{mentions}
 use Rattle.formula.proofs.Mentions.{mentions-and}
 use Rattle.formula.proofs.Truth.{rule-met}
@@ -17,35 +18,15 @@ module _ (t : Rows) where
   -- what the formula of a row of a tag may mention
   abbrev pub seen : ℕ → ℕ → ℕ → Bool
   seen k i x =
-      elim (eqb k 30) [
-        | true ↦ hasKind t 1 x
-        | false ↦
-            elim (eqb k 31) [
-              | true ↦ hasKind t 1 x || hasKind t 2 x
-              | false ↦
-                  elim (eqb k 32) [
-                    | true ↦ hasKind t 1 x || (hasKind t 2 x || hasKind t 3 x)
-                    | false ↦
-                        elim (eqb k 70) [
-                          | true ↦ hasKind t 1 x || hasKind t 3 x
-                          | false ↦
-                              elim (eqb k 60) [
-                                | true ↦ eventSees t (t .a i) x || (hasKind t 4 x && eqb x (t .b i))
-                                | false ↦
-                                    eventSees t (t .a i) x
-                              ]
-                        ]
-                  ]
-            ]
-      ]
+      pick (eqb k 30) (hasKind t 1 x)
+      (pick (eqb k 31) (hasKind t 1 x || hasKind t 2 x)
+      (pick (eqb k 32) (hasKind t 1 x || (hasKind t 2 x || hasKind t 3 x))
+      (pick (eqb k 70) (hasKind t 1 x || hasKind t 3 x)
+      (pick (eqb k 60) (eventSees t (t .a i) x || (hasKind t 4 x && eqb x (t .b i))) (eventSees t (t .a i) x)))))
 
   abbrev pub seenAfter : ℕ → ℕ → ℕ → Bool
   seenAfter k i x =
-      elim (eqb k 52) [
-        | true ↦ eqb x (t .b i)
-        | false ↦
-            elim (eqb k 60) [ true ↦ hasKind t 2 (t .b i) && (hasKind t 3 x || eqb x (t .b i)) | false ↦ false ]
-      ]
+      pick (eqb k 52) (eqb x (t .b i)) (pick (eqb k 60) (hasKind t 2 (t .b i) && (hasKind t 3 x || eqb x (t .b i))) false)
 
   pub root-seen : Obeys t → (k i : ℕ) → i < t .size → t .tag i ≡ k → T (rootTag k)
       → T (mentions (λ x. named t 10 x && seen k i x) (λ x. namedVariable t x && seenAfter k i x) (treeOf t (rootOf t k i)))

@@ -5,6 +5,7 @@ use mathlib.Core.Path.{_≡_, refl, sym, _∙_, subst}
 use mathlib.Core.Bool.{true, false, not, _&&_}
 use native.Mathlib.Omega.{arith}
 use lib.Dec.{T, eqb, eqb→eq}
+use Rattle.lists.specs.Choice.{pick}
 use Rattle.formula.specs.Values.{ValueType}
 use Rattle.formula.specs.Tree.{Tree}
 use Rattle.formula.specs.Sort.{treeType}
@@ -34,7 +35,7 @@ module _ (t : Rows) where
 
   -- the sort of a node of an operator: its identifier's type, or the operator's own sort
   abbrev nodeSort : Operator → ℕ → ℕ → ℕ
-  nodeSort o b s = elim (namesIdentifier (shapeFor o)) [ true ↦ typeOf t b | false ↦ s ]
+  nodeSort o b s = pick (namesIdentifier (shapeFor o)) (typeOf t b) s
 
   node-type : (o : Operator) (b s : ℕ) (l r : Tree) → sortType s ≡ operatorType o → T (isType (nodeSort o b s))
       → treeType types (node o b l r) ≡ typeNumbered (nodeSort o b s)
@@ -53,14 +54,14 @@ module _ (t : Rows) where
   sort-type zero l = absurd (omega arith)
   sort-type (suc d) l =
       let n = suc d in
-      subst (λ s. T (isType (elim (namesIdentifier s) [ true ↦ typeOf t (leftOf t n) | false ↦ resultSort (operatorOf t n) ]))
-      → treeType types (treeOf t n) ≡ typeNumbered (elim (namesIdentifier s) [ true ↦ typeOf t (leftOf t n) | false ↦ resultSort (operatorOf t n) ]))
+      subst (λ s. T (isType (pick (namesIdentifier s) (typeOf t (leftOf t n)) (resultSort (operatorOf t n))))
+      → treeType types (treeOf t n) ≡ typeNumbered (pick (namesIdentifier s) (typeOf t (leftOf t n)) (resultSort (operatorOf t n))))
       (sym (shape-agrees (operatorOf t n)))
       (node-type (operatorNumbered (operatorOf t n)) (leftOf t n) (resultSort (operatorOf t n)) _ _ (type-agrees (operatorOf t n)))
 
   -- "Roots are predicates, but 51 takes the variable's type and 70 an integer."
   abbrev pub rootSortOf : ℕ → ℕ → ℕ
-  rootSortOf k i = elim (eqb k 51) [ true ↦ typeOf t (t .b i) | false ↦ elim (eqb k 70) [ true ↦ 1 | false ↦ 3 ] ]
+  rootSortOf k i = pick (eqb k 51) (typeOf t (t .b i)) (pick (eqb k 70) 1 3)
 
   pub root-sort : Obeys t → (k i : ℕ) → i < t .size → t .tag i ≡ k → T (rootTag k) → sortOf t (rootOf t k i) ≡ rootSortOf k i
   unfolding sortOffends rootAt rootSort

@@ -2,6 +2,7 @@
 use Prim.Native.Nat.{ℕ, zero, suc, _+_, _-_}
 use mathlib.Core.Bool.{Bool, true, false, not, _&&_, _||_, Bool·beq}
 use lib.Dec.{ltb, leb, eqb}
+use Rattle.lists.specs.Choice.{pick}
 use Rattle.lists.specs.Below.{oneIf, countBelow, someBelow}
 use Rattle.table.specs.Rows.{Rows, tagged, count, named, rowOf, numberIn, isAction, kindOf, typeOf, ownerOf, machineNumber, classOf, refinedBy}
 use Rattle.rules.specs.Tags.{columnsUsed, mostRows}
@@ -41,7 +42,7 @@ module _ (t : Rows) where
 
   abbrev pub goodRefined : ℕ → Bool
   goodRefined i =
-      elim (eqb (t .a i) 2 && eqb (t .b i) 1) [ true ↦ abstractOrdinaryEvent (t .c i) | false ↦ eqb (t .c i) 0 ]
+      pick (eqb (t .a i) 2 && eqb (t .b i) 1) (abstractOrdinaryEvent (t .c i)) (eqb (t .c i) 0)
 
   -- an abstract event after a concrete one; an initialisation after another event of its machine
   abbrev pub outOfOrder : ℕ → Bool
@@ -56,11 +57,7 @@ module _ (t : Rows) where
 
   abbrev pub goodOwner : ℕ → Bool
   goodOwner i =
-      elim (eqb (t .a i) 4) [
-        | true ↦ ownerEvent 1 (t .c i)
-        | false ↦
-            elim (eqb (t .a i) 5) [ true ↦ ownerEvent 2 (t .c i) | false ↦ eqb (t .c i) 0 ]
-      ]
+      pick (eqb (t .a i) 4) (ownerEvent 1 (t .c i)) (pick (eqb (t .a i) 5) (ownerEvent 2 (t .c i)) (eqb (t .c i) 0))
 
   unfoldable pub identifierOffends : ℕ → Bool
   identifierOffends i =
@@ -100,30 +97,18 @@ module _ (t : Rows) where
   -- the root that a row names; 0 where it names none
   unfoldable pub rootAt : ℕ → ℕ
   rootAt i =
-      elim (tagged t 30 i || (tagged t 31 i || (tagged t 32 i || tagged t 70 i))) [
-        | true ↦ t .a i
-        | false ↦
-            elim (tagged t 50 i) [
-              | true ↦ t .b i
-              | false ↦
-                  elim (isAction t i || tagged t 60 i) [ true ↦ t .c i | false ↦ 0 ]
-            ]
-      ]
+      pick (tagged t 30 i || (tagged t 31 i || (tagged t 32 i || tagged t 70 i))) (t .a i)
+      (pick (tagged t 50 i) (t .b i)
+      (pick (isAction t i || tagged t 60 i) (t .c i) 0))
 
   abbrev pub namesRoot : ℕ → Bool
   namesRoot i = ltb 20 (t .tag i) && not (tagged t 40 i)
 
   abbrev pub goodTarget : ℕ → Bool
   goodTarget i =
-      elim (tagged t 50 i) [
-        | true ↦ guardEvent (t .a i)
-        | false ↦
-            elim (isAction t i) [
-              | true ↦ actionTarget (t .a i) (t .b i)
-              | false ↦
-                  elim (tagged t 60 i) [ true ↦ witnessTarget (t .a i) (t .b i) | false ↦ true ]
-            ]
-      ]
+      pick (tagged t 50 i) (guardEvent (t .a i))
+      (pick (isAction t i) (actionTarget (t .a i) (t .b i))
+      (pick (tagged t 60 i) (witnessTarget (t .a i) (t .b i)) true))
 
   unfoldable pub referenceOffends : ℕ → Bool
   referenceOffends i =
@@ -140,7 +125,7 @@ module _ (t : Rows) where
 
   -- "Roots are predicates, but 51 takes the variable's type and 70 an integer."
   unfoldable pub rootSort : ℕ → ℕ
-  rootSort i = elim (tagged t 51 i) [ true ↦ typeOf t (t .b i) | false ↦ elim (tagged t 70 i) [ true ↦ 1 | false ↦ 3 ] ]
+  rootSort i = pick (tagged t 51 i) (typeOf t (t .b i)) (pick (tagged t 70 i) 1 3)
 
   unfoldable pub sortOffends : ℕ → Bool
   sortOffends i =
@@ -150,10 +135,7 @@ module _ (t : Rows) where
   -- 9 use: "a node without its one use", as an operand or a root
   abbrev pub usesAt : ℕ → ℕ → ℕ
   usesAt n i =
-      elim (tagged t 20 i) [
-        | true ↦ oneIf (ltb 0 (operandCount (shapeOf (t .a i))) && eqb (t .b i) n) + oneIf (ltb 1 (operandCount (shapeOf (t .a i))) && eqb (t .c i) n)
-        | false ↦ oneIf (namesRoot i && eqb (rootAt i) n)
-      ]
+      pick (tagged t 20 i) (oneIf (ltb 0 (operandCount (shapeOf (t .a i))) && eqb (t .b i) n) + oneIf (ltb 1 (operandCount (shapeOf (t .a i))) && eqb (t .c i) n)) (oneIf (namesRoot i && eqb (rootAt i) n))
 
   unfoldable pub usesTo : ℕ → ℕ → ℕ
   usesTo n zero = 0
@@ -176,39 +158,15 @@ module _ (t : Rows) where
   -- the row i offends against the check of a number from 3 to 11
   unfoldable pub offends : ℕ → ℕ → Bool
   offends check i =
-      elim (eqb check 3) [
-        | true ↦ tagOffends i
-        | false ↦
-            elim (eqb check 4) [
-              | true ↦ fullOffends i
-              | false ↦
-                  elim (eqb check 5) [
-                    | true ↦ eventOffends i
-                    | false ↦
-                        elim (eqb check 6) [
-                          | true ↦ identifierOffends i
-                          | false ↦
-                              elim (eqb check 7) [
-                                | true ↦ referenceOffends i
-                                | false ↦
-                                    elim (eqb check 8) [
-                                      | true ↦ sortOffends i
-                                      | false ↦
-                                          elim (eqb check 9) [
-                                            | true ↦ useOffends i
-                                            | false ↦
-                                                elim (eqb check 10) [
-                                                  | true ↦ sightOffends i
-                                                  | false ↦
-                                                      elim (eqb check 11) [ true ↦ twiceOffends i | false ↦ false ]
-                                                ]
-                                          ]
-                                    ]
-                              ]
-                        ]
-                  ]
-            ]
-      ]
+      pick (eqb check 3) (tagOffends i)
+      (pick (eqb check 4) (fullOffends i)
+      (pick (eqb check 5) (eventOffends i)
+      (pick (eqb check 6) (identifierOffends i)
+      (pick (eqb check 7) (referenceOffends i)
+      (pick (eqb check 8) (sortOffends i)
+      (pick (eqb check 9) (useOffends i)
+      (pick (eqb check 10) (sightOffends i)
+      (pick (eqb check 11) (twiceOffends i) false))))))))
 
   -- 12 missing
   -- "an initialisation of either machine"

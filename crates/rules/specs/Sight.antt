@@ -2,6 +2,7 @@
 use Prim.Native.Nat.{ℕ, _+_}
 use mathlib.Core.Bool.{Bool, true, false, not, _&&_, _||_}
 use lib.Dec.{eqb}
+use Rattle.lists.specs.Choice.{pick}
 use Rattle.formula.specs.Mentions.{mentions}
 use Rattle.table.specs.Rows.{Rows, tagged, isAction, kindOf, ownerOf, machineNumber, classOf}
 use Rattle.machine.specs.Described.{treeOf}
@@ -25,37 +26,17 @@ module _ (t : Rows) where
   -- the row's formula may mention the identifier x
   unfoldable pub mayMention : ℕ → ℕ → Bool
   mayMention i x =
-      elim (tagged t 30 i) [
-        | true ↦ hasKind 1 x
-        | false ↦
-            elim (tagged t 31 i) [
-              | true ↦ hasKind 1 x || hasKind 2 x
-              | false ↦
-                  elim (tagged t 32 i) [
-                    | true ↦ hasKind 1 x || (hasKind 2 x || hasKind 3 x)
-                    | false ↦
-                        elim (tagged t 70 i) [
-                          | true ↦ hasKind 1 x || hasKind 3 x
-                          | false ↦
-                              elim (tagged t 60 i) [
-                                | true ↦ eventSees (t .a i) x || (hasKind 4 x && eqb x (t .b i))
-                                | false ↦
-                                    eventSees (t .a i) x
-                              ]
-                        ]
-                  ]
-            ]
-      ]
+      pick (tagged t 30 i) (hasKind 1 x)
+      (pick (tagged t 31 i) (hasKind 1 x || hasKind 2 x)
+      (pick (tagged t 32 i) (hasKind 1 x || (hasKind 2 x || hasKind 3 x))
+      (pick (tagged t 70 i) (hasKind 1 x || hasKind 3 x)
+      (pick (tagged t 60 i) (eventSees (t .a i) x || (hasKind 4 x && eqb x (t .b i))) (eventSees (t .a i) x)))))
 
   -- the row's formula may mention the after value of x: "52 also the after value it sets"; "variable witness, the same with concrete after values, and its
   -- own after value in place of the identifier"
   unfoldable pub mayMentionAfter : ℕ → ℕ → Bool
   mayMentionAfter i x =
-      elim (tagged t 52 i) [
-        | true ↦ eqb x (t .b i)
-        | false ↦
-            elim (tagged t 60 i) [ true ↦ hasKind 2 (t .b i) && (hasKind 3 x || eqb x (t .b i)) | false ↦ false ]
-      ]
+      pick (tagged t 52 i) (eqb x (t .b i)) (pick (tagged t 60 i) (hasKind 2 (t .b i) && (hasKind 3 x || eqb x (t .b i))) false)
 
   -- the formula at a root mentions only that
   unfoldable pub seesOnly : ℕ → ℕ → Bool

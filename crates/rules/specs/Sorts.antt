@@ -3,6 +3,7 @@ use Prim.Native.Nat.{ℕ}
 use mathlib.Core.Bool.{Bool, true, false, _&&_, _||_}
 use mathlib.Core.List.{List, [], _∷_}
 use lib.Dec.{eqb, leb}
+use Rattle.lists.specs.Choice.{pick}
 use Rattle.table.specs.Rows.{Rows, operatorOf, leftOf, typeOf}
 
 -- How an operator uses its columns b and c: a literal's value, an identifier, a variable, none, one operand, two operands.
@@ -31,7 +32,7 @@ operators =
 
 abbrev pub find : List Operator → ℕ → Operator
 find [] n = is n unknown 0 0
-find (o ∷ os) n = elim (eqb (o .number) n) [ true ↦ o | false ↦ find os n ]
+find (o ∷ os) n = pick (eqb (o .number) n) o (find os n)
 
 unfoldable pub shapeOf : ℕ → Shape
 shapeOf n = find operators n .shape
@@ -64,8 +65,8 @@ operandCount unknown = 0
 module _ (t : Rows) where
   -- the sort of a node, from its operator, whatever its operands are
   unfoldable pub sortOf : ℕ → ℕ
-  sortOf n = elim (namesIdentifier (shapeOf (operatorOf t n))) [ true ↦ typeOf t (leftOf t n) | false ↦ resultSort (operatorOf t n) ]
+  sortOf n = pick (namesIdentifier (shapeOf (operatorOf t n))) (typeOf t (leftOf t n)) (resultSort (operatorOf t n))
 
   -- an operand of the wanted sort; of = (wanted 0) any that is no predicate
   abbrev pub fitting : ℕ → ℕ → Bool
-  fitting wanted n = elim (eqb wanted 0) [ true ↦ eqb (sortOf n) 1 || eqb (sortOf n) 2 | false ↦ eqb (sortOf n) wanted ]
+  fitting wanted n = pick (eqb wanted 0) (eqb (sortOf n) 1 || eqb (sortOf n) 2) (eqb (sortOf n) wanted)

@@ -3,6 +3,7 @@ use Prim.Native.Nat.{ℕ}
 use mathlib.Core.Bool.{Bool, true, false}
 use mathlib.Core.List.{List, [], _∷_}
 use lib.Dec.{eqb}
+use Rattle.lists.specs.Choice.{pick}
 
 pub record Tag : Type 0 where
   pub tag : ℕ
@@ -21,7 +22,7 @@ tags =
 -- an unknown tag uses no column and has no row
 abbrev pub tagNumbered : List Tag → ℕ → Tag
 tagNumbered [] n = is n 0 0
-tagNumbered (t ∷ ts) n = elim (eqb (t .tag) n) [ true ↦ t | false ↦ tagNumbered ts n ]
+tagNumbered (t ∷ ts) n = pick (eqb (t .tag) n) t (tagNumbered ts n)
 
 unfoldable pub columnsUsed : ℕ → ℕ
 columnsUsed n = tagNumbered tags n .columns

@@ -6,6 +6,7 @@ use mathlib.Core.List.{List}
 use mathlib.Core.Logic.{_⊎_}
 use lib.Dec.{ltb}
 use lib.ListN.{length}
+use Rattle.lists.specs.Choice.{pick}
 use Rattle.lists.specs.Below.{first}
 use Rattle.table.specs.Rows.{Rows}
 use Rattle.machine.specs.Machine.{Machine}
@@ -27,22 +28,14 @@ firstCheck t = first (λ check. ltb (firstRow t check) (t .size)) 9 3
 unfoldable pub judge : Rows → Verdict
 judge t =
     let check = firstCheck t in
-    elim (ltb check 12) [
-      | true ↦ Refused check (firstRow t check + 1)
-      | false ↦
-          elim (missing t) [ true ↦ Refused 12 0 | false ↦ Accepted (length (sequents (machineOf t))) ]
-    ]
+    pick (ltb check 12) (Refused check (firstRow t check + 1)) (pick (missing t) (Refused 12 0) (Accepted (length (sequents (machineOf t)))))
 
 -- what check answers
 unfoldable pub verdict : List ℕ → Verdict
 verdict bytes =
     let n = rowCount bytes in
     let row = first (λ i. notRow (lineOf bytes i)) n 0 in
-    elim (framed bytes) [
-      | false ↦ Refused 1 0
-      | true ↦
-          elim (ltb row n) [ true ↦ Refused 2 (row + 1) | false ↦ judge (decoded bytes) ]
-    ]
+    pick (framed bytes) (pick (ltb row n) (Refused 2 (row + 1)) (judge (decoded bytes))) (Refused 1 0)
 
 -- the machines that bytes describe
 abbrev pub machine : List ℕ → Machine

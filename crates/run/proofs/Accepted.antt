@@ -7,6 +7,7 @@ use mathlib.Core.Logic.{_⊎_, inl, inr}
 use native.Mathlib.Omega.{arith}
 use lib.Dec.{T, eqb, eqb→eq}
 use borrow.Author.Tests.{eqb-false}
+use Rattle.lists.specs.Choice.{pick}
 use Rattle.lists.specs.All.{In, here, there}
 use Rattle.lists.proofs.All.{all-in, all-map, in-nil, in-cons, in-map, in-unmap, in-none}
 use Rattle.table.specs.Rows.{Rows, named, section, kindOf, typeOf, machineNumber, classOf, refinedBy}
@@ -40,7 +41,7 @@ witness-root [] w i once = absurd (in-nil i)
 witness-root (v ∷ vs) w i once = go (eqb (v .target) (w .target)) refl (in-cons i) (λ j. witness-root vs w j (λ u k. once u (there k)))
   where
     go : (b : Bool) → eqb (v .target) (w .target) ≡ b → (w ≡ v) ⊎ In w vs → (In w vs → witnessRoot vs (w .target) ≡ w .root)
-        → _≡_ {A = ℕ} (elim b [ true ↦ v .root | false ↦ witnessRoot vs (w .target) ]) (w .root)
+        → _≡_ {A = ℕ} (pick b (v .root) (witnessRoot vs (w .target))) (w .root)
     go true q j rest = once v (here refl) (eqb→eq (v .target) (w .target) (true-test _ q))
     go false q (inl e) rest = absurd (eqb-false (v .target) (w .target) q (ap (λ u. u .target) (sym e)))
     go false q (inr j) rest = rest j

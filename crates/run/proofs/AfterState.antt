@@ -1,9 +1,10 @@
 -- Formulas with every variable at its after value (form 2), in the world of a step, say what the formulas say of the pair of states after it.
 use mathlib.Core.Path.{_≡_, refl, ap, _∙_, subst}
-use mathlib.Core.Bool.{Bool, cond}
+use mathlib.Core.Bool.{Bool}
 use mathlib.Core.List.{List}
 use Prim.Native.Nat.{ℕ}
 use lib.Dec.{T}
+use Rattle.lists.specs.Choice.{pick}
 use Rattle.lists.specs.All.{All}
 use Rattle.lists.proofs.All.{all-at, all-in}
 use Rattle.formula.specs.Values.{asTruth}
@@ -20,7 +21,7 @@ use Rattle.run.proofs.Reading.{AllTrue}
 
 by-kind-after : {A : Type 0} (S : Kind → Bool) (K : Kind) (z c a k q p a′ k′ a₂ k₂ : A) →
     (T (S abstractVariable) → a′ ≡ a₂) → (T (S concreteVariable) → k′ ≡ k₂) → (T (S abstractParameter) → ⊥) → (T (S concreteParameter) → ⊥) →
-    T (S K) → cond (isVariable K) (byKind K z a′ k′ z z) (byKind K c a k q p) ≡ byKind K c a₂ k₂ z z
+    T (S K) → pick (isVariable K) (byKind K z a′ k′ z z) (byKind K c a k q p) ≡ byKind K c a₂ k₂ z z
 by-kind-after S constantKind z c a k q p a′ k′ a₂ k₂ ha hk nq np t = refl
 by-kind-after S abstractVariable z c a k q p a′ k′ a₂ k₂ ha hk nq np t = ha t
 by-kind-after S concreteVariable z c a k q p a′ k′ a₂ k₂ ha hk nq np t = hk t

@@ -1,11 +1,12 @@
 -- Values of the abstract parameters and abstract after values that meet all witnesses of a concrete event at once. WFIS promises a value for each
 -- witness by itself; a witness mentions no hidden identifier but its own, so the values found one by one meet the witnesses together.
 use mathlib.Core.Path.{_≡_, refl, sym, _∙_, subst}
-use mathlib.Core.Bool.{Bool, true, false, not, cond, _||_}
+use mathlib.Core.Bool.{Bool, true, false, not, _||_}
 use mathlib.Core.List.{List, map}
 use mathlib.Core.Logic.{⊎-elim}
 use Prim.Native.Nat.{ℕ}
 use lib.Dec.{T, eqb, eqb→eq}
+use Rattle.lists.specs.Choice.{pick}
 use Rattle.lists.specs.All.{All, In}
 use Rattle.lists.proofs.All.{all-head, all-tail, all-at, all-in, all-imp, all-map, in-map}
 use Rattle.lists.proofs.Keep.{all-keep}
@@ -54,7 +55,7 @@ module _ (m : Machine) where
   put concreteParameter ρ x v = ρ
 
   put-value : (ρ : Env (m .type)) (x : ℕ) (t : Tree) (K : Kind) → T (kinds false true false true false K) →
-      Holds ρ (cond (isVariable K) (someAfterValue x t) (someValue x t)) → (v : Value (m .type x)) × True (put K ρ x v) t
+      Holds ρ (pick (isVariable K) (someAfterValue x t) (someValue x t)) → (v : Value (m .type x)) × True (put K ρ x v) t
   put-value ρ x t constantKind h z = absurd h
   put-value ρ x t abstractVariable h z = choose-after ρ x t z
   put-value ρ x t concreteVariable h z = absurd h
@@ -104,10 +105,10 @@ module _ (m : Machine) (c a k p k′ : State m) where
     hidden : All (λ x. T (kinds false true false true false (m .kind x))) (targets m e)
     hidden = all-map (λ w. w .target) (all-imp (λ w s. s .hidden) see)
 
-    promised : All (λ x. Valid m (sequent WFIS e x (cond (variable m x) (moved m ro e) (guarded m ro e)) (witnessed e x))) (targets m e)
+    promised : All (λ x. Valid m (sequent WFIS e x (pick (variable m x) (moved m ro e) (guarded m ro e)) (witnessed e x))) (targets m e)
     promised = all-map (λ w. w .target) (all-imp (λ w v. all-head (all-tail v)) (valid .witnesses))
 
-    under : (b : Bool) → All (Meets m unmatched) (cond b (moved m ro e) (guarded m ro e))
+    under : (b : Bool) → All (Meets m unmatched) (pick b (moved m ro e) (guarded m ro e))
     under true = mv
     under false = g
 

@@ -1,10 +1,11 @@
 -- A row passes no query whose tags lie all below or all above its own: by the query.
 use Prim.Native.Nat.{ℕ, _≤_}
 use mathlib.Core.Path.{_≡_, refl, sym, _∙_}
-use mathlib.Core.Bool.{Bool, true, false, not, cond, _&&_, _||_, and-false, true≢false}
+use mathlib.Core.Bool.{Bool, true, false, not, _&&_, _||_, and-false, true≢false}
 use native.Mathlib.Omega.{arith}
 use lib.Dec.{eqb, leb}
 use borrow.Author.Tests.{le-leb, eqb-true, ne-eqb}
+use Rattle.lists.specs.Choice.{pick}
 use Rattle.scan.specs.declared.Query.{Query}
 use Rattle.scan.specs.declared.Query.the-variants.{CountedWith, Event, SameTarget, Initialises, Assigns, Witnesses, Convergent, Tagged}
 use Rattle.scan.specs.Query.{actionTag, holds, lowestTag, highestTag}
@@ -17,10 +18,10 @@ module _ (low high tag : ℕ) (out : not (leb low tag && leb tag high) ≡ true)
   other-tag : (k : ℕ) → low ≤ k → k ≤ high → eqb tag k ≡ false
   other-tag k l h = ne-eqb tag k (λ e. beside (omega arith) (omega arith))
 
-counted-outside : (other tag : ℕ) → not (leb (cond (eqb other 52) 51 other) tag && leb tag (cond (eqb other 51) 52 other)) ≡ true → (eqb tag other || (actionTag other && actionTag tag)) ≡ false
+counted-outside : (other tag : ℕ) → not (leb (pick (eqb other 52) 51 other) tag && leb tag (pick (eqb other 51) 52 other)) ≡ true → (eqb tag other || (actionTag other && actionTag tag)) ≡ false
 counted-outside other tag out = by-other (eqb other 51) (eqb other 52) refl refl out
   where
-    by-other : (p q : Bool) → eqb other 51 ≡ p → eqb other 52 ≡ q → not (leb (cond q 51 other) tag && leb tag (cond p 52 other)) ≡ true
+    by-other : (p q : Bool) → eqb other 51 ≡ p → eqb other 52 ≡ q → not (leb (pick q 51 other) tag && leb tag (pick p 52 other)) ≡ true
         → (eqb tag other || ((p || q) && actionTag tag)) ≡ false
     by-other true true ep eq out = absurd (omega (arith, eqb-true other 51 ep, eqb-true other 52 eq))
     by-other true false ep eq out =

@@ -7,6 +7,7 @@ use native.Mathlib.Omega.{arith}
 use native.Mathlib.Nat.{eq-or-lt-of-le}
 use native.Mathlib.Numerals.{add-one}
 use native.Mathlib.Decide.{decLt}
+use Rattle.lists.specs.Choice.{pick}
 use Rattle.lists.specs.Below.{first}
 use Rattle.lists.proofs.Choice.{chosen, not-chosen}
 use Rattle.lists.proofs.First.{NoneBelow, first-least}
@@ -32,7 +33,7 @@ module _ (P : ℕ → Bool) where
   past-at-most zero = omega arith
   past-at-most (suc n) = go (P n) (past-at-most n)
     where
-      go : (b : Bool) → pastLast P n ≤ n → elim b [ true ↦ suc n | false ↦ pastLast P n ] ≤ suc n
+      go : (b : Bool) → pastLast P n ≤ n → pick b (suc n) (pastLast P n) ≤ suc n
       go true h = omega arith
       go false h = omega arith
 
@@ -41,7 +42,7 @@ module _ (P : ℕ → Bool) where
   past-above zero j h l = absurd (omega arith)
   past-above (suc n) j h l = go (P n) refl h (past-above n j)
     where
-      go : (b : Bool) → P n ≡ b → elim b [ true ↦ suc n | false ↦ pastLast P n ] ≤ j → (pastLast P n ≤ j → j < n → P j ≡ false) → P j ≡ false
+      go : (b : Bool) → P n ≡ b → pick b (suc n) (pastLast P n) ≤ j → (pastLast P n ≤ j → j < n → P j ≡ false) → P j ≡ false
       go true e g above = absurd (omega arith)
       go false e g above = ⊎-elim (λ (q : j ≡ n). subst (λ x. P x ≡ false) (sym q) e) (λ (q : j < n). above g q) (eq-or-lt-of-le (omega arith))
 

@@ -1,7 +1,8 @@
 -- The tests of rows that the checks count, each by the numbers that it compares with: a row passes by its tag and its columns a and b.
 use Prim.Native.Nat.{ℕ}
-use mathlib.Core.Bool.{Bool, cond, _&&_, _||_}
+use mathlib.Core.Bool.{Bool, _&&_, _||_}
 use lib.Dec.{eqb}
+use Rattle.lists.specs.Choice.{pick}
 use Rattle.table.specs.Rows.{Rows}
 use Rattle.scan.specs.declared.Query.{Query}
 use Rattle.scan.specs.declared.Query.the-variants.{CountedWith, Event, SameTarget, Initialises, Assigns, Witnesses, Convergent, Tagged}
@@ -22,7 +23,7 @@ holds (Tagged k) tag a b = eqb tag k
 
 -- the lowest and the highest tag of the rows that pass
 abbrev pub lowestTag : Query → ℕ
-lowestTag (CountedWith other) = cond (eqb other 52) 51 other
+lowestTag (CountedWith other) = pick (eqb other 52) 51 other
 lowestTag (Event machine) = 40
 lowestTag (SameTarget other event target) = 51
 lowestTag (Initialises machine) = 40
@@ -32,7 +33,7 @@ lowestTag Convergent = 40
 lowestTag (Tagged k) = k
 
 abbrev pub highestTag : Query → ℕ
-highestTag (CountedWith other) = cond (eqb other 51) 52 other
+highestTag (CountedWith other) = pick (eqb other 51) 52 other
 highestTag (Event machine) = 40
 highestTag (SameTarget other event target) = 60
 highestTag (Initialises machine) = 40

@@ -2,13 +2,14 @@
 use Prim.Native.Nat.{ℕ, zero, suc, _≤_, _<_}
 use mathlib.Core.Path.{_≡_}
 use mathlib.Core.Bool.{Bool, true, false}
+use Rattle.lists.specs.Choice.{pick}
 use Rattle.lists.specs.Below.{first}
 use Rattle.scan.specs.declared.Span.{Span}
 
 -- one more than the last number below n that passes, or 0
 unfoldable pub pastLast : (ℕ → Bool) → ℕ → ℕ
 pastLast P zero = 0
-pastLast P (suc n) = elim (P n) [ true ↦ suc n | false ↦ pastLast P n ]
+pastLast P (suc n) = pick (P n) (suc n) (pastLast P n)
 
 -- from the first to the last
 abbrev pub spanOf : (ℕ → Bool) → ℕ → Span

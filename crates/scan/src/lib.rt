@@ -7,7 +7,7 @@ use table::tag_at;
 ghost use mathlib.Core.Path.{_≡_};
 ghost use Rattle.lists.specs.Below.{countBelow, someBelow, first};
 ghost use Rattle.table.specs.Rows.{rowsOf};
-ghost use mathlib.Core.Bool.{cond};
+ghost use Rattle.lists.specs.Choice.{pick};
 ghost use lib.Dec.{eqb};
 ghost use Rattle.scan.specs.Query.{holds, lowestTag, highestTag, passesOf};
 ghost use Rattle.scan.specs.Span.{pastLast, spanOf, Spans};
@@ -61,13 +61,13 @@ fn passes(query: Query, tag: u64, a: u64, b: u64) -> bool
 
 // The lowest tag of a row that is counted together with those of a tag: 51 and 52 are.
 fn first_counted(tag: u64) -> u64
-    ensures { λ r. ⌜ r ≡ cond (eqb tag 52) 51 tag ⌝ }
+    ensures { λ r. ⌜ r ≡ pick (eqb tag 52) 51 tag ⌝ }
 {
     if tag == 52 { 51 } else { tag }
 }
 
 fn last_counted(tag: u64) -> u64
-    ensures { λ r. ⌜ r ≡ cond (eqb tag 51) 52 tag ⌝ }
+    ensures { λ r. ⌜ r ≡ pick (eqb tag 51) 52 tag ⌝ }
 {
     if tag == 51 { 52 } else { tag }
 }

@@ -8,6 +8,7 @@ use Prim.Native.Nat.{ℕ, suc, _≤_, _<_}
 use native.Mathlib.Omega.{arith}
 use lib.Dec.{eqb}
 use lib.ListN.{length, getD}
+use Rattle.lists.specs.Choice.{pick}
 use Rattle.lists.specs.All.{all-nil, all-cons, In}
 use Rattle.lists.specs.Distinct.{Pairwise, pairwise-nil, pairwise-cons, Distinct}
 use Rattle.lists.proofs.All.{in-nil, in-cons, in-left, in-right, in-either, in-map, in-unmap, in-unflat}
@@ -62,7 +63,7 @@ Different s t = ¬ SameHeader s t
 -- the place of a kind in the order of an event's sequents
 abbrev placeIn : List ℕ → ℕ → ℕ
 placeIn [] k = 0
-placeIn (x ∷ xs) k = elim (eqb k x) [ true ↦ 0 | false ↦ suc (placeIn xs k) ]
+placeIn (x ∷ xs) k = pick (eqb k x) 0 (suc (placeIn xs k))
 
 abbrev place : ℕ → ℕ
 place k = placeIn (WD ∷ FIS ∷ WFIS ∷ GRD ∷ SIM ∷ INV ∷ NAT ∷ VAR ∷ []) k

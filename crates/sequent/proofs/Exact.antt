@@ -1,7 +1,7 @@
 -- The list has exactly the required sequents, for every machine: each place of the list is traced to a row of the table, and each row to a place.
 -- The hypotheses of both are equal, role by role (`base-same` and the equations after it); the rest follows membership through ++, map and flatMap.
 use mathlib.Core.Path.{_≡_, refl, sym, ap, ap₂, subst, _∙_}
-use mathlib.Core.Bool.{Bool, true, false, cond}
+use mathlib.Core.Bool.{Bool, true, false}
 use mathlib.Core.List.{List, [], _∷_, _++_, map, append-nil, append-assoc}
 use mathlib.Core.Logic.{_⊎_, _↔_, inl, inr, ⊎-elim}
 use Prim.Native.Nat.{ℕ}
@@ -165,7 +165,7 @@ module _ (m : Machine) where
     witness-same : (w : Witness) → baseGuards m e ++ pick (variable m (w .target)) (movesOf m e) [] ≡ witnessHypotheses m role e w
     witness-same w = by-target (variable m (w .target))
       where
-        by-target : (v : Bool) → baseGuards m e ++ pick v (movesOf m e) [] ≡ cond v (moved m role e) (guarded m role e)
+        by-target : (v : Bool) → baseGuards m e ++ pick v (movesOf m e) [] ≡ pick v (moved m role e) (guarded m role e)
         by-target true = moved-same
         by-target false = append-nil (baseGuards m e) ∙ guarded-same
 

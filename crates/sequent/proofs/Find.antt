@@ -2,12 +2,13 @@
 -- counts. A loop over the slots that takes `slotCount` from k until k is less keeps `walkTo` + what is left of k equal to k, by the steps below.
 use Prim.Native.Nat.{ℕ, _+_, _-_, _*_, _≤_, _<_}
 use mathlib.Core.Path.{_≡_, refl, sym, ap, _∙_}
-use mathlib.Core.Bool.{Bool, true, false, cond}
+use mathlib.Core.Bool.{Bool, true, false}
 use mathlib.Core.List.{[]}
 use native.Mathlib.Omega.{arith}
 use native.Mathlib.Numerals.{add-one}
 use lib.Dec.{eqb}
 use lib.ListN.{getD}
+use Rattle.lists.specs.Choice.{pick}
 use Rattle.lists.specs.Below.{sumBelow}
 use Rattle.lists.proofs.Flat.{sum-reaches, sum-at-most, flat-at}
 use Rattle.table.specs.Rows.{Rows, count}
@@ -69,7 +70,7 @@ module _ (t : Rows) where
   unfolding slot slotCount
   counted-made e g i h = by-test (makes t e g i) refl h
     where
-      by-test : (b : Bool) → makes t e g i ≡ b → 0 < cond b (cond (eqb g 5) 2 1) 0 → (makes t e g i ≡ true) × (cond b (made t e g i) [] ≡ made t e g i)
+      by-test : (b : Bool) → makes t e g i ≡ b → 0 < pick b (pick (eqb g 5) 2 1) 0 → (makes t e g i ≡ true) × (pick b (made t e g i) [] ≡ made t e g i)
       by-test true p h = (p, refl)
       by-test false p h = absurd (omega arith)
 
@@ -78,7 +79,7 @@ module _ (t : Rows) where
   unfolding slotCount
   slot-at-most e g i = by-tests (makes t e g i) (eqb g 5)
     where
-      by-tests : (b c : Bool) → cond b (cond c 2 1) 0 ≤ 2
+      by-tests : (b c : Bool) → pick b (pick c 2 1) 0 ≤ 2
       by-tests true true = omega arith
       by-tests true false = omega arith
       by-tests false c = omega arith

@@ -2,16 +2,17 @@
 -- slots are these rows or identifiers with the test beside them. The role of an event, read from its row, tells which parts are empty.
 use Prim.Native.Nat.{ℕ, zero, suc, _+_, _≤_}
 use mathlib.Core.Path.{_≡_, refl, sym, ap, ap₂, _∙_, subst}
-use mathlib.Core.Bool.{Bool, true, false, not, cond, _&&_, _||_}
+use mathlib.Core.Bool.{Bool, true, false, not, _&&_, _||_}
 use mathlib.Core.List.{List, [], _∷_, _++_, map, flatMap, map-append, append-assoc, append-nil}
 use native.Mathlib.Omega.{arith}
 use native.Mathlib.Numerals.{add-one}
 use lib.Dec.{ltb, leb, eqb}
 use lib.ListN.{getD}
 use borrow.Author.Tests.{eqb-true, ne-eqb}
+use Rattle.lists.specs.Choice.{pick}
 use Rattle.lists.specs.Below.{numbers, keep}
 use Rattle.lists.proofs.Below.{count-at-most}
-use Rattle.lists.proofs.Flat.{cond-and, flat-none, flat-keep, flat-one, flat-map, flat-ext, flat-when, flat-single, flat-kept, map-kept, flat-below}
+use Rattle.lists.proofs.Flat.{pick-and, flat-none, flat-keep, flat-one, flat-map, flat-ext, flat-when, flat-single, flat-kept, map-kept, flat-below}
 use Rattle.lists.proofs.Flat.{keep-keep, keep-next, numbers-suc}
 use Rattle.table.specs.Rows.{Rows, tagged, section, count, kindOf, machineNumber, classOf, refinedBy}
 use Rattle.machine.specs.Machine.{Action, unassigned, becomesEqual, becomesSuchThat}
@@ -38,10 +39,7 @@ role-cases machine class refined P ai ao ci re co = go (eqb machine 1) (eqb clas
     initial : (o : Bool) → o ≡ false → P false true o (concreteInitialisation 1)
     initial o e = subst (λ o. P false true o (concreteInitialisation 1)) (sym e) ci
 
-    go : (a z o : Bool) → (z ≡ true → o ≡ false) → P a z o (elim a [
-      | true ↦ elim z [ true ↦ abstractInitialisation | false ↦ abstractOrdinary ]
-      | false ↦ elim z [ true ↦ concreteInitialisation 1 | false ↦ elim o [ true ↦ refining refined | false ↦ convergent ] ]
-    ])
+    go : (a z o : Bool) → (z ≡ true → o ≡ false) → P a z o (pick a (pick z abstractInitialisation abstractOrdinary) (pick z (concreteInitialisation 1) (pick o (refining refined) convergent)))
     go true true o h = ai o
     go true false o h = ao o
     go false true o h = initial o (h refl)
@@ -49,16 +47,16 @@ role-cases machine class refined P ai ao ci re co = go (eqb machine 1) (eqb clas
     go false false false h = co
 
 -- formulas that are each defined under those before them, over the rows that pass a test
-before-next : (P : ℕ → Bool) (root : ℕ → ℕ) (i : ℕ) → before P root (suc i) ≡ before P root i ++ cond (P i) (written (root i) ∷ []) []
-before-next P root i = ap (map (λ j. written (root j))) (keep-next P i) ∙ map-append _ (keep P (numbers i 0)) (cond (P i) (i ∷ []) []) ∙ last (P i)
+before-next : (P : ℕ → Bool) (root : ℕ → ℕ) (i : ℕ) → before P root (suc i) ≡ before P root i ++ pick (P i) (written (root i) ∷ []) []
+before-next P root i = ap (map (λ j. written (root j))) (keep-next P i) ∙ map-append _ (keep P (numbers i 0)) (pick (P i) (i ∷ []) []) ∙ last (P i)
   where
-    last : (b : Bool) → before P root i ++ map (λ j. written (root j)) (cond b (i ∷ []) []) ≡ before P root i ++ cond b (written (root i) ∷ []) []
+    last : (b : Bool) → before P root i ++ map (λ j. written (root j)) (pick b (i ∷ []) []) ≡ before P root i ++ pick b (written (root i) ∷ []) []
     last true = refl
     last false = refl
 
 module _ (e : ℕ) (hs : List Entry) (P : ℕ → Bool) (root : ℕ → ℕ) where
   abbrev inOrderAt : ℕ → List Sequent
-  inOrderAt i = cond (P i) (one WD e (root i) (hs ++ before P root i) (defined (root i))) []
+  inOrderAt i = pick (P i) (one WD e (root i) (hs ++ before P root i) (defined (root i))) []
 
   in-order-from : (n i : ℕ) → inOrder e (hs ++ before P root i) (map root (keep P (numbers n i))) ≡ flatMap inOrderAt (numbers n i)
   unfolding inOrder keep numbers flatMap
@@ -68,13 +66,13 @@ module _ (e : ℕ) (hs : List Entry) (P : ℕ → Bool) (root : ℕ → ℕ) whe
       ks : List ℕ
       ks = keep P (numbers n (suc i))
 
-      later : (b : Bool) → P i ≡ b → hs ++ before P root (suc i) ≡ (hs ++ before P root i) ++ cond b (written (root i) ∷ []) []
-      later b p = ap (λ xs. hs ++ xs) (before-next P root i ∙ ap (λ b. before P root i ++ cond b (written (root i) ∷ []) []) p)
-          ∙ sym (append-assoc hs (before P root i) (cond b (written (root i) ∷ []) []))
+      later : (b : Bool) → P i ≡ b → hs ++ before P root (suc i) ≡ (hs ++ before P root i) ++ pick b (written (root i) ∷ []) []
+      later b p = ap (λ xs. hs ++ xs) (before-next P root i ∙ ap (λ b. before P root i ++ pick b (written (root i) ∷ []) []) p)
+          ∙ sym (append-assoc hs (before P root i) (pick b (written (root i) ∷ []) []))
 
       by-test : (b : Bool) → P i ≡ b → inOrder e (hs ++ before P root (suc i)) (map root ks) ≡ flatMap inOrderAt (numbers n (suc i))
-          → inOrder e (hs ++ before P root i) (map root (cond b (i ∷ ks) ks))
-          ≡ cond b (one WD e (root i) (hs ++ before P root i) (defined (root i))) [] ++ flatMap inOrderAt (numbers n (suc i))
+          → inOrder e (hs ++ before P root i) (map root (pick b (i ∷ ks) ks))
+          ≡ pick b (one WD e (root i) (hs ++ before P root i) (defined (root i))) [] ++ flatMap inOrderAt (numbers n (suc i))
       by-test true p h =
           ap (λ r. sequent WD e (root i) (hs ++ before P root i) (defined (root i)) ∷ r) (ap (λ gs. inOrder e gs (map root ks)) (sym (later true p)) ∙ h)
       by-test false p h = ap (λ gs. inOrder e gs (map root ks)) (sym (later false p ∙ append-nil (hs ++ before P root i))) ∙ h
@@ -89,14 +87,14 @@ module _ (t : Rows) where
 
   -- the slots of a group that an event has, and of one that it has not
   pub group-slots : (e g : ℕ) → hasGroup e g ≡ true
-      → groupSlots t e g ≡ flatMap (λ i. cond (getD (groupTests t) g (λ e i. false) e i) (getD (groupSequents t) g (λ e i. []) e i) []) rows
+      → groupSlots t e g ≡ flatMap (λ i. pick (getD (groupTests t) g (λ e i. false) e i) (getD (groupSequents t) g (λ e i. []) e i) []) rows
   unfolding slot makes made
-  group-slots e g p = ap (λ b. flatMap (λ i. cond (b && getD (groupTests t) g (λ e i. false) e i) (getD (groupSequents t) g (λ e i. []) e i) []) rows) p
+  group-slots e g p = ap (λ b. flatMap (λ i. pick (b && getD (groupTests t) g (λ e i. false) e i) (getD (groupSequents t) g (λ e i. []) e i) []) rows) p
 
   pub group-none : (e g : ℕ) → hasGroup e g ≡ false → groupSlots t e g ≡ []
   unfolding slot makes made
   group-none e g p =
-      ap (λ b. flatMap (λ i. cond (b && getD (groupTests t) g (λ e i. false) e i) (getD (groupSequents t) g (λ e i. []) e i) []) rows) p ∙ flat-none rows
+      ap (λ b. flatMap (λ i. pick (b && getD (groupTests t) g (λ e i. false) e i) (getD (groupSequents t) g (λ e i. []) e i) []) rows) p ∙ flat-none rows
 
   belonging-rows : (k e : ℕ) → belonging t k e ≡ keep (rowOfEvent t k e) rows
   unfolding belonging section
@@ -116,22 +114,22 @@ module _ (t : Rows) where
 
   -- a list over the identifiers of a kind
   identifiers-rows : {B : Type 0} (kind : ℕ) (f : ℕ → List B)
-      → flatMap f (identifiersOf t kind) ≡ flatMap (λ i. cond (identifierAt t kind i) (f (i + 1)) []) rows
+      → flatMap f (identifiersOf t kind) ≡ flatMap (λ i. pick (identifierAt t kind i) (f (i + 1)) []) rows
   unfolding identifiersOf count
   identifiers-rows {B} kind f =
       flat-keep (λ x. eqb (kindOf t x) kind) f (numbers (count t 10) 1)
       ∙ ap (flatMap g) (numbers-suc (count t 10) 0)
       ∙ flat-map g suc (numbers (count t 10) 0)
       ∙ flat-below (λ i. g (suc i)) (count t 10) (t .size) (count-at-most (tagged t 10) (t .size))
-      ∙ flat-ext (λ i. cond (ltb i (count t 10)) (g (suc i)) []) (λ i. cond (identifierAt t kind i) (f (i + 1)) []) rows each
+      ∙ flat-ext (λ i. pick (ltb i (count t 10)) (g (suc i)) []) (λ i. pick (identifierAt t kind i) (f (i + 1)) []) rows each
     where
       g : ℕ → List B
-      g x = cond (eqb (kindOf t x) kind) (f x) []
+      g x = pick (eqb (kindOf t x) kind) (f x) []
 
-      each : (i : ℕ) → cond (ltb i (count t 10)) (g (suc i)) [] ≡ cond (identifierAt t kind i) (f (i + 1)) []
-      each i = rw (add-one i) (sym (cond-and (ltb i (count t 10)) (eqb (kindOf t (suc i)) kind) (f (suc i))))
+      each : (i : ℕ) → pick (ltb i (count t 10)) (g (suc i)) [] ≡ pick (identifierAt t kind i) (f (i + 1)) []
+      each i = rw (add-one i) (sym (pick-and (ltb i (count t 10)) (eqb (kindOf t (suc i)) kind) (f (suc i))))
 
-  each-identifier : {B : Type 0} (kind : ℕ) (f : ℕ → B) → map f (identifiersOf t kind) ≡ flatMap (λ i. cond (identifierAt t kind i) (f (i + 1) ∷ []) []) rows
+  each-identifier : {B : Type 0} (kind : ℕ) (f : ℕ → B) → map f (identifiersOf t kind) ≡ flatMap (λ i. pick (identifierAt t kind i) (f (i + 1) ∷ []) []) rows
   each-identifier kind f = flat-one f (identifiersOf t kind) ∙ identifiers-rows kind (λ x. f x ∷ [])
 
   pub map-identifiers : {B : Type 0} (kind : ℕ) (f : ℕ → B) → map f (identifiersOf t kind) ≡ map (λ i. f (i + 1)) (keep (identifierAt t kind) rows)
@@ -149,19 +147,19 @@ module _ (t : Rows) where
       r : ℕ
       r = t .c (actionRow t e x)
 
-      go : (b d : Bool) → P b d (elim b [ true ↦ elim d [ true ↦ becomesEqual r | false ↦ becomesSuchThat r ] | false ↦ unassigned ])
+      go : (b d : Bool) → P b d (pick b (pick d (becomesEqual r) (becomesSuchThat r)) unassigned)
       go true true = equal
       go true false = such
       go false d = none d
 
   action-slot : (e x : ℕ) (hs : List Entry)
-      → actionWD e hs (actionOf t e x) ≡ cond (isAssigned t e x) (one WD e (t .c (actionRow t e x)) hs (defined (t .c (actionRow t e x)))) []
+      → actionWD e hs (actionOf t e x) ≡ pick (isAssigned t e x) (one WD e (t .c (actionRow t e x)) hs (defined (t .c (actionRow t e x)))) []
   action-slot e x hs =
       let r = t .c (actionRow t e x) in
-      action-cases e x (λ b d a. actionWD e hs a ≡ cond b (one WD e r hs (defined r)) []) refl refl (λ d. refl)
+      action-cases e x (λ b d a. actionWD e hs a ≡ pick b (one WD e r hs (defined r)) []) refl refl (λ d. refl)
 
-  feasible-slot : (e x : ℕ) (hs : List Entry) → actionFIS e x hs (actionOf t e x) ≡ cond (becomesSuch t e x) (one FIS e x hs (feasible e x)) []
-  feasible-slot e x hs = action-cases e x (λ b d a. actionFIS e x hs a ≡ cond (b && not d) (one FIS e x hs (feasible e x)) []) refl refl (λ d. refl)
+  feasible-slot : (e x : ℕ) (hs : List Entry) → actionFIS e x hs (actionOf t e x) ≡ pick (becomesSuch t e x) (one FIS e x hs (feasible e x)) []
+  feasible-slot e x hs = action-cases e x (λ b d a. actionFIS e x hs a ≡ pick (b && not d) (one FIS e x hs (feasible e x)) []) refl refl (λ d. refl)
 
   -- groups 0 and 1, of no event; the formulas are here in row order, whatever their tags
   pub formula-group : inOrder 0 [] (map (t .a) (keep (isFormula t) rows)) ≡ groupSlots t 0 0
@@ -183,25 +181,25 @@ module _ (t : Rows) where
 
     pub variables-own : variables (machineOf t) (roleOf t e) ≡ identifiersOf t (ownKind t e)
     unfolding machineOf
-    variables-own = by-role (λ a z o r. variables (machineOf t) r ≡ identifiersOf t (cond a 2 3)) (λ o. refl) (λ o. refl) refl refl refl
+    variables-own = by-role (λ a z o r. variables (machineOf t) r ≡ identifiersOf t (pick a 2 3)) (λ o. refl) (λ o. refl) refl refl refl
 
     invariants-own : invariants (machineOf t) (roleOf t e) ≡ map (t .a) (section t (ownInvariantTag t e))
     unfolding machineOf
-    invariants-own = by-role (λ a z o r. invariants (machineOf t) r ≡ map (t .a) (section t (cond a 31 32))) (λ o. refl) (λ o. refl) refl refl refl
+    invariants-own = by-role (λ a z o r. invariants (machineOf t) r ≡ map (t .a) (section t (pick a 31 32))) (λ o. refl) (λ o. refl) refl refl refl
 
-    refined-own : refined (roleOf t e) ≡ cond (isRefining t e) (refinedBy t e ∷ []) []
-    refined-own = by-role (λ a z o r. refined r ≡ cond (not a && o) (refinedBy t e ∷ []) []) (λ o. refl) (λ o. refl) refl refl refl
+    refined-own : refined (roleOf t e) ≡ pick (isRefining t e) (refinedBy t e ∷ []) []
+    refined-own = by-role (λ a z o r. refined r ≡ pick (not a && o) (refinedBy t e ∷ []) []) (λ o. refl) (λ o. refl) refl refl refl
 
-    matching-own : matching (roleOf t e) ≡ cond (isMatched t e) (matchedBy t e ∷ []) []
+    matching-own : matching (roleOf t e) ≡ pick (isMatched t e) (matchedBy t e ∷ []) []
     matching-own =
-        by-role (λ a z o r. matching r ≡ cond (not a && (z || o)) (cond z 1 (refinedBy t e) ∷ []) []) (λ o. refl) (λ o. refl) refl refl refl
+        by-role (λ a z o r. matching r ≡ pick (not a && (z || o)) (pick z 1 (refinedBy t e) ∷ []) []) (λ o. refl) (λ o. refl) refl refl refl
 
     variants-own : variantSequents (machineOf t) (roleOf t e) e
-        ≡ cond (isConvergent t e) (nats (machineOf t) (roleOf t e) e) [] ++ cond (isConvergent t e) (vars (machineOf t) (roleOf t e) e) []
+        ≡ pick (isConvergent t e) (nats (machineOf t) (roleOf t e) e) [] ++ pick (isConvergent t e) (vars (machineOf t) (roleOf t e) e) []
     variants-own =
         by-role
         (λ a z o r. variantSequents (machineOf t) r e
-        ≡ cond (not a && not (z || o)) (nats (machineOf t) r e) [] ++ cond (not a && not (z || o)) (vars (machineOf t) r e) [])
+        ≡ pick (not a && not (z || o)) (nats (machineOf t) r e) [] ++ pick (not a && not (z || o)) (vars (machineOf t) r e) [])
         (λ o. refl) (λ o. refl) refl refl refl
 
   -- the groups of an event
@@ -217,13 +215,13 @@ module _ (t : Rows) where
         ∙ sym (group-slots e 2 (there-is 2 refl))
 
     -- a list over the variables of the event's machine, of which each makes its part where a test passes
-    variables-rows : (f : ℕ → List Sequent) (Q : ℕ → Bool) (s : ℕ → List Sequent) → ((x : ℕ) → f x ≡ cond (Q x) (s x) [])
-        → flatMap f (variables (machineOf t) (roleOf t e)) ≡ flatMap (λ i. cond (identifierAt t (ownKind t e) i && Q (i + 1)) (s (i + 1)) []) rows
+    variables-rows : (f : ℕ → List Sequent) (Q : ℕ → Bool) (s : ℕ → List Sequent) → ((x : ℕ) → f x ≡ pick (Q x) (s x) [])
+        → flatMap f (variables (machineOf t) (roleOf t e)) ≡ flatMap (λ i. pick (identifierAt t (ownKind t e) i && Q (i + 1)) (s (i + 1)) []) rows
     variables-rows f Q s h =
         ap (flatMap f) (variables-own e)
         ∙ identifiers-rows (ownKind t e) f
         ∙ flat-ext _ _ rows
-        (λ i. ap (λ xs. cond (identifierAt t (ownKind t e) i) xs []) (h (i + 1)) ∙ sym (cond-and (identifierAt t (ownKind t e) i) (Q (i + 1)) (s (i + 1))))
+        (λ i. ap (λ xs. pick (identifierAt t (ownKind t e) i) xs []) (h (i + 1)) ∙ sym (pick-and (identifierAt t (ownKind t e) i) (Q (i + 1)) (s (i + 1))))
 
     pub action-group : actionWDs (machineOf t) (roleOf t e) e ≡ groupSlots t e 3
     unfolding machineOf
@@ -248,11 +246,11 @@ module _ (t : Rows) where
     grd-group =
         ap (flatMap (grd (machineOf t) (roleOf t e) e)) (refined-own e)
         ∙ flat-single (isRefining t e) (grd (machineOf t) (roleOf t e) e) (refinedBy t e)
-        ∙ ap (λ xs. cond (isRefining t e) xs []) (ap (map _) (guards-rows (refinedBy t e)) ∙ map-kept (rowOfEvent t 50 (refinedBy t e)) (t .b) rows _)
+        ∙ ap (λ xs. pick (isRefining t e) xs []) (ap (map _) (guards-rows (refinedBy t e)) ∙ map-kept (rowOfEvent t 50 (refinedBy t e)) (t .b) rows _)
         ∙ flat-when (isRefining t e) (rowOfEvent t 50 (refinedBy t e)) _ rows
         ∙ sym (group-slots e 6 (there-is 6 refl))
 
-    abstract-rows : {B : Type 0} (f : ℕ → B) → map f (machineOf t .abstractVariables) ≡ flatMap (λ i. cond (identifierAt t 2 i) (f (i + 1) ∷ []) []) rows
+    abstract-rows : {B : Type 0} (f : ℕ → B) → map f (machineOf t .abstractVariables) ≡ flatMap (λ i. pick (identifierAt t 2 i) (f (i + 1) ∷ []) []) rows
     unfolding machineOf
     abstract-rows f = each-identifier 2 f
 
@@ -260,7 +258,7 @@ module _ (t : Rows) where
     sim-group =
         ap (flatMap (sim (machineOf t) (roleOf t e) e)) (matching-own e)
         ∙ flat-single (isMatched t e) (sim (machineOf t) (roleOf t e) e) (matchedBy t e)
-        ∙ ap (λ xs. cond (isMatched t e) xs []) (abstract-rows _)
+        ∙ ap (λ xs. pick (isMatched t e) xs []) (abstract-rows _)
         ∙ flat-when (isMatched t e) (identifierAt t 2) _ rows
         ∙ sym (group-slots e 7 (there-is 7 refl))
 
@@ -269,10 +267,10 @@ module _ (t : Rows) where
     inv-group = ap (map _) (invariants-own e) ∙ map-kept (tagged t (ownInvariantTag t e)) (t .a) rows _ ∙ sym (group-slots e 8 (there-is 8 refl))
 
     -- NAT and VAR alike
-    convergent-rows : (s : ℕ → Sequent) → cond (isConvergent t e) (map s (machineOf t .variants)) []
-        ≡ flatMap (λ i. cond (isConvergent t e && tagged t 70 i) (s (t .a i) ∷ []) []) rows
+    convergent-rows : (s : ℕ → Sequent) → pick (isConvergent t e) (map s (machineOf t .variants)) []
+        ≡ flatMap (λ i. pick (isConvergent t e && tagged t 70 i) (s (t .a i) ∷ []) []) rows
     convergent-rows s =
-        ap (λ xs. cond (isConvergent t e) xs []) (ap (map s) variants-rows ∙ map-kept (tagged t 70) (t .a) rows s)
+        ap (λ xs. pick (isConvergent t e) xs []) (ap (map s) variants-rows ∙ map-kept (tagged t 70) (t .a) rows s)
         ∙ flat-when (isConvergent t e) (tagged t 70) (λ i. s (t .a i) ∷ []) rows
 
     pub variant-groups : variantSequents (machineOf t) (roleOf t e) e ≡ groupSlots t e 9 ++ (groupSlots t e 10 ++ [])

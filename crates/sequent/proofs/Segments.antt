@@ -3,12 +3,13 @@
 -- turn on the order of tags.
 use Prim.Native.Nat.{ℕ, zero, suc, _+_, _≤_, _<_}
 use mathlib.Core.Path.{_≡_, refl, sym, ap, ap₂, _∙_, subst, fun-ext}
-use mathlib.Core.Bool.{Bool, true, false, not, cond, _&&_, _||_, and-comm}
+use mathlib.Core.Bool.{Bool, true, false, not, _&&_, _||_, and-comm}
 use mathlib.Core.List.{List, [], _∷_, _++_, map, flatMap, map-map, map-append, append-assoc, append-nil}
 use native.Mathlib.Omega.{arith}
 use lib.Dec.{ltb, leb, eqb}
 use lib.ListN.{getD}
 use borrow.Author.Tests.{eqb-true}
+use Rattle.lists.specs.Choice.{pick}
 use Rattle.lists.specs.All.{All, all-nil, all-cons}
 use Rattle.lists.specs.Below.{numbers, keep}
 use Rattle.lists.proofs.All.{all-at}
@@ -42,12 +43,12 @@ module _ (t : Rows) where
   -- the hypotheses as their segments, before whatever follows them
   walk-then : (e g i w : ℕ) (rest : List Entry) → hypothesisWalk t e g i w ++ rest
       ≡ rooted (t .a) (λ j. beforeIn 0 g i j && tagged t 30 j)
-      ++ (cond (hasAbstract t e g) (rooted (t .a) (λ j. beforeIn 0 g i j && tagged t 31 j)) []
-      ++ (cond (hasConcrete t e g) (rooted (t .a) (λ j. beforeIn 0 g i j && tagged t 32 j)) []
-      ++ (cond (leb 2 g) (rooted (t .b) (λ j. beforeIn 2 g i j && rowOfEvent t 50 e j)) []
-      ++ (cond (hasMoves t g i) (moving e (ownKind t e)) []
-      ++ (cond (hasWitnesses t e g) (rooted (t .c) (λ j. witnessIn t g j && rowOfEvent t 60 e j)) []
-      ++ (cond (hasAbstractMoves t e g) (moving e 2) []
+      ++ (pick (hasAbstract t e g) (rooted (t .a) (λ j. beforeIn 0 g i j && tagged t 31 j)) []
+      ++ (pick (hasConcrete t e g) (rooted (t .a) (λ j. beforeIn 0 g i j && tagged t 32 j)) []
+      ++ (pick (leb 2 g) (rooted (t .b) (λ j. beforeIn 2 g i j && rowOfEvent t 50 e j)) []
+      ++ (pick (hasMoves t g i) (moving e (ownKind t e)) []
+      ++ (pick (hasWitnesses t e g) (rooted (t .c) (λ j. witnessIn t g j && rowOfEvent t 60 e j)) []
+      ++ (pick (hasAbstractMoves t e g) (moving e 2) []
       ++ rest))))))
   unfolding hypothesisWalk segmentTest segmentEntry flatMap numbers
   walk-then e g i w rest =
@@ -120,16 +121,16 @@ module _ (t : Rows) where
   abbrev basic : ℕ → List Entry → List Entry
   basic e rest =
       rooted (t .a) (tagged t 30)
-      ++ (cond (not (isInitial t e)) (rooted (t .a) (tagged t 31)) [] ++ (cond (not (isInitial t e) && not (isAbstract t e)) (rooted (t .a) (tagged t 32)) [] ++ rest))
+      ++ (pick (not (isInitial t e)) (rooted (t .a) (tagged t 31)) [] ++ (pick (not (isInitial t e) && not (isAbstract t e)) (rooted (t .a) (tagged t 32)) [] ++ rest))
 
   base-then : (e : ℕ) (rest : List Entry) → base (machineOf t) (roleOf t e) ++ rest ≡ basic e rest
   unfolding machineOf
   base-then e rest =
       by-role t e
-      (λ a z o r. base (machineOf t) r ++ rest ≡ A 30 ++ (cond (not z) (A 31) [] ++ (cond (not z && not a) (A 32) [] ++ rest)))
+      (λ a z o r. base (machineOf t) r ++ rest ≡ A 30 ++ (pick (not z) (A 31) [] ++ (pick (not z && not a) (A 32) [] ++ rest)))
       (λ o. refl) (λ o. append-assoc (A 30) (A 31) rest) refl three three
       ∙ ap₂ (λ (xs : List Entry) (ys : List Entry). xs ++ ys) (section-written 30)
-      (ap₂ (λ (xs : List Entry) (ys : List Entry). cond (not (isInitial t e)) xs [] ++ (cond (not (isInitial t e) && not (isAbstract t e)) ys [] ++ rest))
+      (ap₂ (λ (xs : List Entry) (ys : List Entry). pick (not (isInitial t e)) xs [] ++ (pick (not (isInitial t e) && not (isAbstract t e)) ys [] ++ rest))
       (section-written 31) (section-written 32))
     where
       A : ℕ → List Entry
@@ -186,37 +187,37 @@ module _ (t : Rows) where
 
   -- "moves for a variable witness"
   witness-then : (e i : ℕ) (rest : List Entry)
-      → cond (variable (machineOf t) (t .b i)) (moved (machineOf t) (roleOf t e) e) (guarded (machineOf t) (roleOf t e) e) ++ rest
-      ≡ basic e (rooted (t .b) (rowOfEvent t 50 e) ++ (cond (isVariableNumber t (t .b i)) (moving e (ownKind t e)) [] ++ rest))
+      → pick (variable (machineOf t) (t .b i)) (moved (machineOf t) (roleOf t e) e) (guarded (machineOf t) (roleOf t e) e) ++ rest
+      ≡ basic e (rooted (t .b) (rowOfEvent t 50 e) ++ (pick (isVariableNumber t (t .b i)) (moving e (ownKind t e)) [] ++ rest))
   witness-then e i rest =
-      ap (λ b. cond b (moved (machineOf t) (roleOf t e) e) (guarded (machineOf t) (roleOf t e) e) ++ rest) (variable-numbered t (t .b i)) ∙ by-test (isVariableNumber t (t .b i))
+      ap (λ b. pick b (moved (machineOf t) (roleOf t e) e) (guarded (machineOf t) (roleOf t e) e) ++ rest) (variable-numbered t (t .b i)) ∙ by-test (isVariableNumber t (t .b i))
     where
-      by-test : (b : Bool) → cond b (moved (machineOf t) (roleOf t e) e) (guarded (machineOf t) (roleOf t e) e) ++ rest
-          ≡ basic e (rooted (t .b) (rowOfEvent t 50 e) ++ (cond b (moving e (ownKind t e)) [] ++ rest))
+      by-test : (b : Bool) → pick b (moved (machineOf t) (roleOf t e) e) (guarded (machineOf t) (roleOf t e) e) ++ rest
+          ≡ basic e (rooted (t .b) (rowOfEvent t 50 e) ++ (pick b (moving e (ownKind t e)) [] ++ rest))
       by-test true = moved-then e rest
       by-test false = guarded-then e rest
 
   -- "for a convergent event form 4 of each abstract variable instead of witnesses"
   invariant-own : (e : ℕ) → invHypotheses (machineOf t) (roleOf t e) e ≡ moved (machineOf t) (roleOf t e) e
-      ++ cond (isConvergent t e) (map (moves e) (machineOf t .abstractVariables)) (witnessEntries (machineOf t) (machineOf t .witnesses e))
+      ++ pick (isConvergent t e) (map (moves e) (machineOf t .abstractVariables)) (witnessEntries (machineOf t) (machineOf t .witnesses e))
   invariant-own e =
       by-role t e
       (λ a z o r. invHypotheses (machineOf t) r e ≡ moved (machineOf t) r e
-      ++ cond (not a && not (z || o)) (map (moves e) (machineOf t .abstractVariables)) (witnessEntries (machineOf t) (machineOf t .witnesses e)))
+      ++ pick (not a && not (z || o)) (map (moves e) (machineOf t .abstractVariables)) (witnessEntries (machineOf t) (machineOf t .witnesses e)))
       (λ o. refl) (λ o. refl) refl refl refl
 
   invariant-then : (e : ℕ) (rest : List Entry) → invHypotheses (machineOf t) (roleOf t e) e ++ rest
       ≡ basic e (rooted (t .b) (rowOfEvent t 50 e) ++ (moving e (ownKind t e)
-      ++ (cond (not (isConvergent t e)) (rooted (t .c) (rowOfEvent t 60 e)) [] ++ (cond (isConvergent t e) (moving e 2) [] ++ rest))))
+      ++ (pick (not (isConvergent t e)) (rooted (t .c) (rowOfEvent t 60 e)) [] ++ (pick (isConvergent t e) (moving e 2) [] ++ rest))))
   invariant-then e rest =
       ap (λ xs. xs ++ rest)
-      (invariant-own e ∙ ap₂ (λ (xs : List Entry) (ys : List Entry). moved (machineOf t) (roleOf t e) e ++ cond (isConvergent t e) xs ys) (moves-abstract e) (witnesses-written e))
-      ∙ append-assoc (moved (machineOf t) (roleOf t e) e) (cond (isConvergent t e) (moving e 2) (rooted (t .c) (rowOfEvent t 60 e))) rest
-      ∙ moved-then e (cond (isConvergent t e) (moving e 2) (rooted (t .c) (rowOfEvent t 60 e)) ++ rest)
+      (invariant-own e ∙ ap₂ (λ (xs : List Entry) (ys : List Entry). moved (machineOf t) (roleOf t e) e ++ pick (isConvergent t e) xs ys) (moves-abstract e) (witnesses-written e))
+      ∙ append-assoc (moved (machineOf t) (roleOf t e) e) (pick (isConvergent t e) (moving e 2) (rooted (t .c) (rowOfEvent t 60 e))) rest
+      ∙ moved-then e (pick (isConvergent t e) (moving e 2) (rooted (t .c) (rowOfEvent t 60 e)) ++ rest)
       ∙ ap (λ xs. basic e (rooted (t .b) (rowOfEvent t 50 e) ++ (moving e (ownKind t e) ++ xs))) (by-test (isConvergent t e))
     where
-      by-test : (b : Bool) → cond b (moving e 2) (rooted (t .c) (rowOfEvent t 60 e)) ++ rest
-          ≡ cond (not b) (rooted (t .c) (rowOfEvent t 60 e)) [] ++ (cond b (moving e 2) [] ++ rest)
+      by-test : (b : Bool) → pick b (moving e 2) (rooted (t .c) (rowOfEvent t 60 e)) ++ rest
+          ≡ pick (not b) (rooted (t .c) (rowOfEvent t 60 e)) [] ++ (pick b (moving e 2) [] ++ rest)
       by-test true = refl
       by-test false = refl
 
@@ -281,7 +282,7 @@ module _ (t : Rows) where
   unfolding slotCount
   slot-segmented rising e g i w d l h k = by-tests (makes t e g i) (eqb g 5) refl w k
     where
-      by-tests : (b c : Bool) → eqb g 5 ≡ c → (w : ℕ) → w < cond b (cond c 2 1) 0 → getD (made t e g i) w d ≡ slotSequent t e g i w
+      by-tests : (b c : Bool) → eqb g 5 ≡ c → (w : ℕ) → w < pick b (pick c 2 1) 0 → getD (made t e g i) w d ≡ slotSequent t e g i w
       by-tests false c p w k = absurd (omega arith)
       by-tests true c p zero k = first-segmented rising e i h d g l
       by-tests true false p (suc w) k = absurd (omega arith)

@@ -2,13 +2,14 @@
 -- (Groups); only the axioms and invariants turn on the order of tags, and only in their order.
 use Prim.Native.Nat.{ℕ, suc, _+_, _≤_}
 use mathlib.Core.Path.{_≡_, refl, sym, ap, ap₂, _∙_}
-use mathlib.Core.Bool.{Bool, true, false, cond, _&&_, _||_}
+use mathlib.Core.Bool.{Bool, true, false, _&&_, _||_}
 use mathlib.Core.List.{List, [], _∷_, _++_, map, flatMap, map-append, append-assoc, append-nil}
 use native.Mathlib.Omega.{arith}
 use native.Mathlib.Numerals.{add-one}
 use lib.Dec.{T, ltb, eqb, eqb→eq}
 use lib.ListN.{length, length-append, length-map, List·getD-eq-default}
 use borrow.Author.Tests.{ltb-true, ltb-false, eqb-true, ne-eqb, le-ltb, lt-leb}
+use Rattle.lists.specs.Choice.{pick}
 use Rattle.lists.specs.All.{All, all-nil, all-cons, In}
 use Rattle.lists.specs.Below.{oneIf, countBelow, numbers, keep}
 use Rattle.lists.proofs.All.{all-at}
@@ -31,12 +32,12 @@ pub slot-count : (t : Rows) (e g i : ℕ) → length (slot t e g i) ≡ slotCoun
 unfolding slot slotCount makes made numbers
 slot-count t e g i = by-group (ltb g groups) refl
   where
-    each : All (λ g. length (made t e g i) ≡ cond (eqb g 5) 2 1) (numbers groups 0)
+    each : All (λ g. length (made t e g i) ≡ pick (eqb g 5) 2 1) (numbers groups 0)
     each =
         all-cons refl (all-cons refl (all-cons refl (all-cons refl (all-cons refl (all-cons refl (all-cons refl (all-cons refl (all-cons refl
         (all-cons refl (all-cons refl all-nil))))))))))
 
-    by-test : (b : Bool) → length (made t e g i) ≡ cond (eqb g 5) 2 1 → length (cond b (made t e g i) []) ≡ cond b (cond (eqb g 5) 2 1) 0
+    by-test : (b : Bool) → length (made t e g i) ≡ pick (eqb g 5) 2 1 → length (pick b (made t e g i) []) ≡ pick b (pick (eqb g 5) 2 1) 0
     by-test true p = p
     by-test false p = refl
 
@@ -47,7 +48,7 @@ slot-count t e g i = by-group (ltb g groups) refl
     beyond : groups ≤ g → makes t e g i ≡ false
     beyond h = ap (λ P. hasGroup e g && P e i) (List·getD-eq-default (groupTests t) (λ e i. false) h) ∙ no-test (hasGroup e g)
 
-    by-group : (b : Bool) → ltb g groups ≡ b → length (cond (makes t e g i) (made t e g i) []) ≡ cond (makes t e g i) (cond (eqb g 5) 2 1) 0
+    by-group : (b : Bool) → ltb g groups ≡ b → length (pick (makes t e g i) (made t e g i) []) ≡ pick (makes t e g i) (pick (eqb g 5) 2 1) 0
     by-group true p = by-test (makes t e g i) (all-at each (numbers-in groups 0 g (omega arith) (omega (arith, ltb-true g groups p))))
     by-group false p = rw (beyond (ltb-false g groups p))
 

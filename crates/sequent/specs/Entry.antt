@@ -1,8 +1,9 @@
 -- 01, Sequents: "An entry has a form and two numbers", and the formula that it spells.
-use mathlib.Core.Bool.{Bool, true, false, cond}
+use mathlib.Core.Bool.{Bool, true, false}
 use mathlib.Core.List.{List, [], _∷_}
 use Prim.Native.Nat.{ℕ}
 use lib.Dec.{eqb}
+use Rattle.lists.specs.Choice.{pick}
 use Rattle.formula.specs.Tree.{literal, equal, less, atMost, Tree, constant, identifier, after, binary}
 use Rattle.formula.specs.WellDefined.{wellDefined}
 use Rattle.formula.specs.AfterValues.{atAfter}
@@ -31,7 +32,7 @@ pub data Entry : Type 0 where
 -- the root of the witness for a target; 0, which is no node, where there is none
 abbrev pub witnessRoot : List Witness → ℕ → ℕ
 witnessRoot [] x = 0
-witnessRoot (w ∷ ws) x = elim (eqb (w .target) x) [ true ↦ w .root | false ↦ witnessRoot ws x ]
+witnessRoot (w ∷ ws) x = pick (eqb (w .target) x) (w .root) (witnessRoot ws x)
 
 module _ (m : Machine) where
   abbrev pub variable : ℕ → Bool
@@ -52,6 +53,6 @@ module _ (m : Machine) where
   formula (defined r) = plain (wellDefined (m .tree r))
   formula (moves e x) = plain (actionTree (m .action e x) x)
   formula (feasible e x) = someAfterValue x (actionTree (m .action e x) x)
-  formula (witnessed e x) = cond (variable x) (someAfterValue x (witnessTree e x)) (someValue x (witnessTree e x))
+  formula (witnessed e x) = pick (variable x) (someAfterValue x (witnessTree e x)) (someValue x (witnessTree e x))
   formula (natural r) = plain (binary atMost (constant (literal 0)) (m .tree r))
   formula (decreases r) = plain (binary less (atAfter variable (m .tree r)) (m .tree r))

@@ -1,7 +1,8 @@
 -- 01, Sequents: the hypotheses and goals of each kind, and the order of the list.
-use mathlib.Core.Bool.{Bool, true, false, not, cond}
+use mathlib.Core.Bool.{Bool, true, false, not}
 use mathlib.Core.List.{List, [], _∷_, _++_, map, flatMap}
 use Prim.Native.Nat.{ℕ}
+use Rattle.lists.specs.Choice.{pick}
 use Rattle.lists.specs.Below.{keep}
 use Rattle.machine.specs.Machine.{Action, unassigned, becomesEqual, becomesSuchThat, Witness, Machine}
 use Rattle.machine.specs.Machine.{Role, abstractInitialisation, abstractOrdinary, concreteInitialisation, refining, convergent}
@@ -108,7 +109,7 @@ module _ (m : Machine) where
 
   -- "base, guards, and moves for a variable witness"
   abbrev pub witnessHypotheses : Role → ℕ → Witness → List Entry
-  witnessHypotheses ro e w = cond (variable m (w .target)) (moved ro e) (guarded ro e)
+  witnessHypotheses ro e w = pick (variable m (w .target)) (moved ro e) (guarded ro e)
 
   -- "each witness's WD then WFIS"
   abbrev pub witnessSequents : Role → ℕ → Witness → List Sequent

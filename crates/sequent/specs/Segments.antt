@@ -1,10 +1,11 @@
 -- The entries of a slot's sequent as a walk of segments: its hypotheses, "in tag order", then its goal. A segment is a test on rows and an entry for each row that
 -- passes. A slot is an event e, a group g and a row i; w says which of its sequents, 1 for the WFIS of a witness, else 0.
 use Prim.Native.Nat.{ℕ, _+_}
-use mathlib.Core.Bool.{Bool, false, not, cond, _&&_, _||_}
+use mathlib.Core.Bool.{Bool, false, not, _&&_, _||_}
 use mathlib.Core.List.{List, [], _∷_, map, flatMap}
 use lib.Dec.{ltb, leb, eqb}
 use lib.ListN.{getD}
+use Rattle.lists.specs.Choice.{pick}
 use Rattle.lists.specs.Below.{countBelow, sumBelow, numbers, keep}
 use Rattle.table.specs.Rows.{Rows, tagged, classOf, isVariableNumber}
 use Rattle.sequent.specs.Entry.{Entry, written, primed, defined, moves, feasible, witnessed, natural, decreases}
@@ -26,7 +27,7 @@ isWFIS g w = eqb g 5 && eqb w 1
 
 -- the kind of row 80
 unfoldable pub headerKind : ℕ → ℕ → ℕ
-headerKind g w = cond (isWFIS g w) WFIS (getD kinds g WD)
+headerKind g w = pick (isWFIS g w) WFIS (getD kinds g WD)
 
 -- "those before it": in a group, only rows before the slot's own
 abbrev pub beforeIn : ℕ → ℕ → ℕ → ℕ → Bool
@@ -41,7 +42,7 @@ module _ (t : Rows) where
 
   -- the item of row 80
   unfoldable pub headerItem : ℕ → ℕ → ℕ → ℕ → ℕ
-  headerItem e g i w = cond (isWFIS g w) (t .b i) (getD items g (λ e i. t .a i) e i)
+  headerItem e g i w = pick (isWFIS g w) (t .b i) (getD items g (λ e i. t .a i) e i)
 
   -- column "goal", kind by kind, of an event and an item; 0 is no kind and counts as 1
   abbrev pub goals : List (ℕ → ℕ → Entry)

@@ -1,10 +1,11 @@
 -- The list of sequents as a walk of slots: an event (0 for none), a group of 01's "Order" and a row. A slot makes no sequent, one or two. Whether it makes any
 -- is told by tests on the table's numbers, so that counting the sequents makes none of them.
 use Prim.Native.Nat.{ℕ, _+_}
-use mathlib.Core.Bool.{Bool, false, not, cond, _&&_, _||_}
+use mathlib.Core.Bool.{Bool, false, not, _&&_, _||_}
 use mathlib.Core.List.{List, [], _∷_, _++_, map, flatMap}
 use lib.Dec.{ltb, leb, eqb}
 use lib.ListN.{getD}
+use Rattle.lists.specs.Choice.{pick}
 use Rattle.lists.specs.Below.{sumBelow, first, numbers, keep}
 use Rattle.table.specs.Rows.{Rows, tagged, count, kindOf, machineNumber, classOf, refinedBy}
 use Rattle.machine.specs.Machine.{Role}
@@ -20,7 +21,7 @@ groups = 11
 
 -- groups 0 and 1 are of no event, the others of each event
 abbrev pub hasGroup : ℕ → ℕ → Bool
-hasGroup e g = cond (eqb e 0) (ltb g 2) (leb 2 g)
+hasGroup e g = pick (eqb e 0) (ltb g 2) (leb 2 g)
 
 -- "those before it": the roots of the rows before i that pass a test, as written
 abbrev pub before : (ℕ → Bool) → (ℕ → ℕ) → ℕ → List Entry
@@ -54,14 +55,14 @@ module _ (t : Rows) where
 
   -- the abstract event that a matched event's steps are matched by: the initialisation is event 1
   abbrev pub matchedBy : ℕ → ℕ
-  matchedBy e = cond (eqb (classOf t e) 0) 1 (refinedBy t e)
+  matchedBy e = pick (eqb (classOf t e) 0) 1 (refinedBy t e)
 
   -- the kind of the variables and the tag of the invariants of an event's own machine
   abbrev pub ownKind : ℕ → ℕ
-  ownKind e = cond (isAbstract e) 2 3
+  ownKind e = pick (isAbstract e) 2 3
 
   abbrev pub ownInvariantTag : ℕ → ℕ
-  ownInvariantTag e = cond (isAbstract e) 31 32
+  ownInvariantTag e = pick (isAbstract e) 31 32
 
   -- there is an identifier i + 1, of a kind
   abbrev pub identifierAt : ℕ → ℕ → Bool
@@ -162,10 +163,10 @@ module _ (t : Rows) where
 
   -- the sequents of a slot, and how many: of a witness two
   unfoldable pub slot : ℕ → ℕ → ℕ → List Sequent
-  slot e g i = cond (makes e g i) (made e g i) []
+  slot e g i = pick (makes e g i) (made e g i) []
 
   unfoldable pub slotCount : ℕ → ℕ → ℕ → ℕ
-  slotCount e g i = cond (makes e g i) (cond (eqb g 5) 2 1) 0
+  slotCount e g i = pick (makes e g i) (pick (eqb g 5) 2 1) 0
 
   -- the slots of a group, of an event, and all: "event by event", "table order otherwise"
   abbrev pub groupSlots : ℕ → ℕ → List Sequent

@@ -1,6 +1,6 @@
 // The three services for C and Rust (include/sifthorma.h): each answers 0 or a refusal's number, and puts the count or the row into `value`.
-use rules::Verdict;
 use reply::Reply;
+use rules::Verdict;
 use services::spell_entry;
 use services::write_sequent;
 use verdict::check;

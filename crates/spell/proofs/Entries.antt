@@ -1,7 +1,7 @@
 -- The rows of an entry by its form, from the rows of its root, its action or its witness.
 use Prim.Native.Nat.{ℕ, zero, suc, _≤_, _<_}
 use mathlib.Core.Path.{_≡_, refl, sym, ap, _∙_}
-use mathlib.Core.Bool.{Bool, true, false, cond}
+use mathlib.Core.Bool.{Bool, true, false}
 use mathlib.Core.List.{_∷_, _++_}
 use native.Mathlib.Omega.{arith}
 use lib.ListN.{getD, List·getD-eq-default}
@@ -23,7 +23,7 @@ other-form zero h = refl
 other-form (suc zero) h = refl
 other-form (suc (suc n)) h = sym (List·getD-eq-default forms (λ a b. written a) {n = suc (suc n)} (omega (arith, h (omega arith))))
 
-some-rows : (v : Bool) (x : ℕ) (a : Tree) → spelled (pick v 41 40) x ∷ spellTree a ≡ spell (cond v (someAfterValue x a) (someValue x a))
+some-rows : (v : Bool) (x : ℕ) (a : Tree) → spelled (pick v 41 40) x ∷ spellTree a ≡ spell (pick v (someAfterValue x a) (someValue x a))
 unfolding spell
 some-rows true x a = refl
 some-rows false x a = refl

@@ -5,6 +5,7 @@ use mathlib.Core.Bool.{Bool, true, false}
 use mathlib.Core.List.{[], _∷_, _++_}
 use lib.Dec.{ltb}
 use borrow.Author.Tests.{lt-ltb, le-ltb, eq-eqb, ne-eqb}
+use Rattle.lists.specs.Choice.{pick}
 use Rattle.lists.specs.Below.{first}
 use Rattle.table.specs.Rows.{Rows, tagged}
 use Rattle.machine.specs.Machine.{Action, unassigned, becomesEqual, becomesSuchThat}
@@ -16,7 +17,7 @@ use Rattle.spell.specs.Spell.{shownRows, movesRows}
 module _ (t : Rows) (e x i : ℕ) (found : i ≡ first (sets t e x) (t .size) 0) where
   -- the action by two tests of the row: that it is one, and its tag
   abbrev actionBy : Bool → Bool → ℕ → Action
-  actionBy b c i = elim b [ true ↦ elim c [ true ↦ becomesEqual (t .c i) | false ↦ becomesSuchThat (t .c i) ] | false ↦ unassigned ]
+  actionBy b c i = pick b (pick c (becomesEqual (t .c i)) (becomesSuchThat (t .c i))) unassigned
 
   action-by : (b c : Bool) → ltb i (t .size) ≡ b → tagged t 51 i ≡ c → actionBy b c i ≡ actionOf t e x
   unfolding actionOf

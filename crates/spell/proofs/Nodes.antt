@@ -2,7 +2,7 @@
 -- number the row shows. Its operands have smaller numbers.
 use Prim.Native.Nat.{ℕ, zero, suc, _-_, _≤_, _<_, max}
 use mathlib.Core.Path.{_≡_, refl, sym, ap, ap₂, _∙_, subst}
-use mathlib.Core.Bool.{Bool, true, false, cond, _&&_}
+use mathlib.Core.Bool.{Bool, true, false, _&&_}
 use mathlib.Core.List.{List, [], _∷_, _++_}
 use native.Mathlib.Omega.{arith}
 use native.Mathlib.Nat.{le-max-left, le-max-right, max-le}
@@ -54,7 +54,7 @@ find-numbered [] h n = tt
 find-numbered (o ∷ os) h n = go (eqb (o .number) n) refl (and-split (numberIs (o .operator) (o .number)) (allNumbered os) h) (λ h. find-numbered os h n)
   where
     go : (b : Bool) → eqb (o .number) n ≡ b → T (numberIs (o .operator) (o .number)) × T (allNumbered os) → (T (allNumbered os) → T (numberIs (meaning.find os n) n))
-        → T (numberIs (elim b [ true ↦ o .operator | false ↦ meaning.find os n ]) n)
+        → T (numberIs (pick b (o .operator) (meaning.find os n)) n)
     go true e h rest = subst (λ k. T (numberIs (o .operator) k)) (eqb-true (o .number) n e) (h .0)
     go false e h rest = rest (h .1)
 
@@ -111,7 +111,7 @@ module _ (v : ℕ → Bool) where
   unfolding spellTree atAfter
   shown-identifier true b = go (v b)
     where
-      go : (p : Bool) → spellTree (cond p (after b) (identifier b)) ≡ spelled (pick p 3 2) b ∷ []
+      go : (p : Bool) → spellTree (pick p (after b) (identifier b)) ≡ spelled (pick p 3 2) b ∷ []
       go true = refl
       go false = refl
   shown-identifier false b = refl

@@ -1,11 +1,12 @@
 -- The root of a witness is column c of the first row that witnesses, by recursion on the rows; where there is none, the row past the last has 0 there.
 use Prim.Native.Nat.{ℕ, zero, suc, _+_, _≤_}
 use mathlib.Core.Path.{_≡_, refl, sym, ap, _∙_}
-use mathlib.Core.Bool.{Bool, true, false, cond, _&&_}
+use mathlib.Core.Bool.{Bool, true, false, _&&_}
 use mathlib.Core.List.{List, _∷_, map}
 use native.Mathlib.Omega.{arith}
 use lib.Dec.{eqb}
 use lib.ListN.{List·getD-eq-default}
+use Rattle.lists.specs.Choice.{pick}
 use Rattle.lists.specs.Below.{first, numbers, keep}
 use Rattle.table.specs.Rows.{Rows, rowsOf, tagged, section}
 use Rattle.machine.specs.Described.{belonging, machineOf}
@@ -39,17 +40,17 @@ module _ (t : Rows) (e x : ℕ) (past : (i : ℕ) → t .size ≤ i → t .c i �
       found = first (witnesses t e x) n (suc i)
 
       by-target : (b : Bool) → rootIn t e x (keep (ofEvent t e x) rest) ≡ t .c found
-          → _≡_ {A = ℕ} (elim b [ true ↦ t .c i | false ↦ rootIn t e x (keep (ofEvent t e x) rest) ]) (t .c (elim b [ true ↦ i | false ↦ found ]))
+          → _≡_ {A = ℕ} (pick b (t .c i) (rootIn t e x (keep (ofEvent t e x) rest))) (t .c (pick b i found))
       by-target true ih = refl
       by-target false ih = ih
 
       by-event : (b : Bool) → rootIn t e x (keep (ofEvent t e x) rest) ≡ t .c found
-          → rootIn t e x (cond b (i ∷ keep (ofEvent t e x) rest) (keep (ofEvent t e x) rest)) ≡ t .c (elim (b && eqb (t .b i) x) [ true ↦ i | false ↦ found ])
+          → rootIn t e x (pick b (i ∷ keep (ofEvent t e x) rest) (keep (ofEvent t e x) rest)) ≡ t .c (pick (b && eqb (t .b i) x) i found)
       by-event true ih = by-target (eqb (t .b i) x) ih
       by-event false ih = ih
 
       by-tag : (b : Bool) → rootIn t e x (keep (ofEvent t e x) rest) ≡ t .c found
-          → rootIn t e x (keep (ofEvent t e x) (cond b (i ∷ rest) rest)) ≡ t .c (elim (b && (ofEvent t e x i && eqb (t .b i) x)) [ true ↦ i | false ↦ found ])
+          → rootIn t e x (keep (ofEvent t e x) (pick b (i ∷ rest) rest)) ≡ t .c (pick (b && (ofEvent t e x i && eqb (t .b i) x)) i found)
       by-tag true ih = by-event (ofEvent t e x i) ih
       by-tag false ih = ih
 

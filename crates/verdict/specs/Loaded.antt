@@ -4,6 +4,7 @@ use mathlib.Core.Path.{_≡_}
 use mathlib.Core.Bool.{true, false}
 use mathlib.Core.List.{List}
 use lib.ListN.{take}
+use Rattle.lists.specs.Choice.{pick}
 use Rattle.rules.specs.Decoded.{framed, rowCount, wordsOf, decoded}
 use Rattle.rules.specs.declared.Verdict.{Verdict}
 use Rattle.rules.specs.declared.Verdict.the-variants as verdict
@@ -24,7 +25,7 @@ loadedRows (decoding.Complete n) = Words (4 * n)
 loadedRows (decoding.Malformed i) = Refused 2 (i + 1)
 
 unfoldable pub loadedOf : List ℕ → Loaded
-loadedOf bytes = elim (framed bytes) [ false ↦ Refused 1 0 | true ↦ loadedRows (decodedOf (firstBad bytes (rowCount bytes)) (rowCount bytes)) ]
+loadedOf bytes = pick (framed bytes) (loadedRows (decodedOf (firstBad bytes (rowCount bytes)) (rowCount bytes))) (Refused 1 0)
 
 -- the verdict once the rows are read
 abbrev pub judged : List ℕ → Loaded → Verdict

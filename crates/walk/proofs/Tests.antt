@@ -1,11 +1,12 @@
 -- A row that stands for an identifier is a row of the table; and the groups' tests by the group's number.
 use Prim.Native.Nat.{ℕ, suc, _≤_, _<_}
 use mathlib.Core.Path.{_≡_, refl, sym, ap, subst, _∙_}
-use mathlib.Core.Bool.{Bool, true, false, _&&_, _||_, cond, true≢false}
+use mathlib.Core.Bool.{Bool, true, false, _&&_, _||_, true≢false}
 use native.Mathlib.Omega.{arith}
 use lib.Dec.{ltb, eqb}
 use lib.ListN.{getD, List·getD-eq-default}
 use borrow.Author.Tests.{ltb-true, eqb-true, eqb-false}
+use Rattle.lists.specs.Choice.{pick}
 use Rattle.lists.proofs.Below.{count-at-most}
 use Rattle.table.specs.Rows.{Rows, tagged, count}
 use Rattle.scan.specs.declared.Span.{Span}
@@ -40,10 +41,10 @@ pub tag-known : (k : ℕ) {tag read : ℕ} {b : Bool} → read ≡ tag → eqb r
 tag-known k e h = ap (λ n. eqb n k) (sym e) ∙ h
 
 -- a tag that is of neither machine's invariants is not of one's
-pub no-invariant : (b : Bool) (tag : ℕ) → (eqb tag 31 || eqb tag 32) ≡ false → false ≡ eqb tag (cond b 31 32)
+pub no-invariant : (b : Bool) (tag : ℕ) → (eqb tag 31 || eqb tag 32) ≡ false → false ≡ eqb tag (pick b 31 32)
 no-invariant b tag h = by-tag (eqb tag 31) (eqb tag 32) refl refl h b
   where
-    by-tag : (x y : Bool) → eqb tag 31 ≡ x → eqb tag 32 ≡ y → (x || y) ≡ false → (b : Bool) → false ≡ eqb tag (cond b 31 32)
+    by-tag : (x y : Bool) → eqb tag 31 ≡ x → eqb tag 32 ≡ y → (x || y) ≡ false → (b : Bool) → false ≡ eqb tag (pick b 31 32)
     by-tag true y ex ey h b = absurd (true≢false h)
     by-tag false true ex ey h b = absurd (true≢false h)
     by-tag false false ex ey h true = sym ex

@@ -1,7 +1,6 @@
 -- The slots of the walk in order, and where a search among them stands.
 use Prim.Native.Nat.{ℕ, _+_, _≤_, _<_}
 use mathlib.Core.Path.{_≡_}
-use mathlib.Core.Bool.{cond}
 use mathlib.Core.Logic.{_⊎_}
 use lib.Dec.{ltb}
 use Rattle.lists.specs.Choice.{pick}

@@ -11,7 +11,8 @@ use table::size;
 use table::tag_at;
 ghost use mathlib.Core.Path.{_≡_};
 ghost use Prim.Native.Nat.{_+_, _-_, _^_, _<_, _≤_};
-ghost use mathlib.Core.Bool.{_&&_, false, cond};
+ghost use mathlib.Core.Bool.{_&&_, false};
+ghost use Rattle.lists.specs.Choice.{pick};
 ghost use lib.ListN.{getD, length};
 ghost use Rattle.table.specs.Rows.{rowsOf, tagged, refinedBy};
 ghost use Rattle.table.specs.Counts.{countsOf};
@@ -73,7 +74,7 @@ pub fn is_convergent(words: &[u64], table: Table, event: u64) -> bool
 // By an event's machine: one number where it is abstract, the other where it is concrete.
 fn of_machine(words: &[u64], table: Table, event: u64, one: u64, other: u64) -> u64
     requires { ⌜ table ≡ countsOf (rowsOf (now words)) ⌝ }
-    ensures { λ r. ⌜ r ≡ cond (isAbstract (rowsOf (now (words .entry))) event) one other ⌝ }
+    ensures { λ r. ⌜ r ≡ pick (isAbstract (rowsOf (now (words .entry))) event) one other ⌝ }
 {
     if is_abstract(words, table, event) {
         return one;
