@@ -41,7 +41,7 @@ bytesTo t e g i w n = rowsBytes (take n (entryRows t e g i w))
 pub record Progress (t : Rows) (e g i w : ℕ) (start out : List ℕ) (c : Cursor) (at : ℕ) : Type 0 where
   pub stands : Stands t c
   pub found : c .segment < segments → segmentTest t e g i (c .segment) (c .row) ≡ true
-  pub cursorAt : at ≡ 38 * entriesBefore t e g i c
+  pub offset : at ≡ 38 * entriesBefore t e g i c
   pub size : length out ≡ length start
   pub bytes : out ≡ over (bytesTo t e g i w (entriesBefore t e g i c)) start
 
@@ -102,7 +102,7 @@ module _ (t : Rows) (e g i w : ℕ) (h : i < t .size) where
       record {
         stands = so .stands;
         found = λ l. so .found l .0;
-        cursorAt = omega (arith, none);
+        offset = omega (arith, none);
         size = refl;
         bytes = over-none start ∙ ap (λ ws. over ws start) (sym (ap (bytesTo t e g i w) none ∙ bytes-none));
       }
@@ -118,7 +118,7 @@ module _ {t : Rows} {e g i w : ℕ} {start out : List ℕ} {c : Cursor} {at : �
 
     -- there is room for an entry that is found
     pub room : at + 38 ≤ length out
-    room = omega (arith, reach, pr .place, pr .size)
+    room = omega (arith, reach, pr .offset, pr .size)
 
     -- past the entry, when its row is written
     module _ {from n : Cursor} (f : from ≡ cursorAt (c .segment) (c .row) 1) (so : SoughtEntry t e g i from n) where
@@ -133,7 +133,7 @@ module _ {t : Rows} {e g i w : ℕ} {start out : List ℕ} {c : Cursor} {at : �
       progress-next {r} {part} q o = record {
         stands = so .stands;
         found = λ k. so .found k .0;
-        cursorAt = omega (arith, more, pr .place);
+        offset = omega (arith, more, pr .offset);
         size = ap length put ∙ over-length (bytesTo t e g i w (entriesBefore t e g i n)) start (omega (arith, size, reach, more));
         bytes = put;
       }
@@ -150,7 +150,7 @@ module _ {t : Rows} {e g i w : ℕ} {start out : List ℕ} {c : Cursor} {at : �
           put : putMid at (length out - at) out part ≡ over (bytesTo t e g i w (entriesBefore t e g i n)) start
           put =
               over-tail (bytesTo t e g i w (entriesBefore t e g i c)) (rowBytes width r) start out part at
-              (bytes-length t e g i w h (entriesBefore t e g i c) (omega (arith, reach)) ∙ sym (pr .place)) (pr .bytes) o
+              (bytes-length t e g i w h (entriesBefore t e g i c) (omega (arith, reach)) ∙ sym (pr .offset)) (pr .bytes) o
               ∙ ap (λ ws. over ws start) joined
 
 -- the rows of a slot's sequent: its header, then the rows of its entries

@@ -90,7 +90,7 @@ module _ (t : Rows) where
       → walkTo t (s .event) (s .group) (s .row) + slotCount t (s .event) (s .group) (s .row) + left ≡ k → (InWalk t r) × (position t r ≡ k)
   step-kept s r left k w q p =
       let step = stepped s left w in
-      (subst (InWalk t) (sym q) (step .inWalk), subst (λ r. position t r ≡ k) (sym q) (step .place ∙ p))
+      (subst (InWalk t) (sym q) (step .inWalk), subst (λ r. position t r ≡ k) (sym q) (step .position ∙ p))
 
   pub step-fewer : (s r : Slot) (left : ℕ) → Within t s → r ≡ nextSlot (t .size) (slotAt (s .event) (s .group) (s .row) left) → slotsFrom r < slotsFrom s
   step-fewer s r left w q = subst (λ r. slotsFrom r < slotsFrom s) (sym q) (stepped s left w .fewer)
