@@ -1,3 +1,4 @@
 pub mod Described
+pub mod Operator
 pub mod Roles
 pub mod Variables

@@ -9,12 +9,12 @@ use Rattle.row.specs.Row.{rowBytes}
 use Rattle.table.specs.Rows.{section, count, start}
 use Rattle.formula.specs.Evaluate.{readTree}
 use Rattle.formula.specs.Mentions.{mentions}
-use Rattle.machine.specs.Operator.{operatorNumbered}
+use Rattle.machine.specs.Operator.{operatorNumbered, operandSort, resultSort}
 use Rattle.machine.specs.Described.{typeNumbered, kindNumbered, roleNumbered, treeTo, treeOf, actionOf, belonging, identifiersOf, machineOf}
 use Rattle.sequent.specs.Listed.{inOrder, eventSequents, sequents}
 use Rattle.rules.specs.Decoded.{lineOf, wordsOf}
 use Rattle.rules.specs.Tags.{columnsUsed, mostRows}
-use Rattle.rules.specs.Sorts.{shapeOf, operandSort, resultSort, sortOf}
+use Rattle.rules.specs.Sorts.{shapeOf, sortOf}
 use Rattle.rules.specs.Sight.{mayMention, mayMentionAfter, seesOnly}
 use Rattle.rules.specs.Rules.{tagOffends, fullOffends, eventOffends, identifierOffends, rootAt, referenceOffends, rootSort, sortOffends, usesTo}
 use Rattle.rules.specs.Rules.{useOffends, sightOffends, twiceOffends, offends, missing}

@@ -1,10 +1,21 @@
--- What the code's operators stand for: the rows of the operators' table.
+-- What the code's operators stand for: how the operators' table has them used.
 use Prim.Native.Nat.{ℕ}
+use Rattle.machine.specs.Operator.{operandSort, resultSort}
 use Rattle.rules.specs.Sorts as sorts
-use Rattle.rules.specs.Sorts.{value, anIdentifier, aVariable, none, one, two, unknown}
+use Rattle.rules.specs.Sorts.{value, anIdentifier, aVariable, none, one, two, unknown, shapeOf}
 use Rattle.rule_references.specs.declared.Shape.{Shape}
 use Rattle.rule_references.specs.declared.Shape.the-variants as shape
 use Rattle.rule_references.specs.declared.Operator.{Operator}
+
+-- an operator's number, its columns, the sort of its operands and its own
+pub record Usage : Type 0 where
+  pub number : ℕ
+  pub columns : sorts.Shape
+  pub operands : ℕ
+  pub sort : ℕ
+
+abbrev pub usageOf : ℕ → Usage
+usageOf n = record { number = n; columns = shapeOf n; operands = operandSort n; sort = resultSort n }
 
 abbrev pub meantShape : Shape → sorts.Shape
 meantShape shape.Value = value
@@ -18,5 +29,5 @@ meantShape shape.Unknown = unknown
 abbrev pub operatorAt : ℕ → Shape → ℕ → ℕ → Operator
 operatorAt n s o r = record { number = n; shape = s; operands = o; sort = r }
 
-abbrev pub meant : Operator → sorts.Operator
-meant o = record { number = o .number; shape = meantShape (o .shape); operands = o .operands; sort = o .sort }
+abbrev pub meant : Operator → Usage
+meant o = record { number = o .number; columns = meantShape (o .shape); operands = o .operands; sort = o .sort }

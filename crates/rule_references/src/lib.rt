@@ -15,9 +15,9 @@ ghost use Prim.Native.Nat.{_+_};
 ghost use lib.Dec.{eqb};
 ghost use Rattle.table.specs.Rows.{rowsOf};
 ghost use Rattle.table.specs.Counts.{countsOf};
-ghost use Rattle.rules.specs.Sorts.{find, operators, operandCount, namesIdentifier};
+ghost use Rattle.rules.specs.Sorts.{operandCount, namesIdentifier};
 ghost use Rattle.rules.specs.Rules.{earlierNode, namedVariable, goodColumns, guardEvent, actionTarget, witnessTarget, rootAt, namesRoot, goodTarget, referenceOffends};
-ghost use Rattle.rule_references.specs.Operator.{operatorAt, meant, meantShape};
+ghost use Rattle.rule_references.specs.Operator.{operatorAt, usageOf, meant, meantShape};
 
 // How an operator uses its columns b and c: a literal's value, an identifier, a variable, or operands.
 pub enum Shape {
@@ -54,7 +54,7 @@ impl Operator {
 
 // The operator that a number names.
 pub fn find_operator(number: u64) -> Operator
-    ensures { λ r. ⌜ meant r ≡ find operators number ⌝ }
+    ensures { λ r. ⌜ meant r ≡ usageOf number ⌝ }
 {
     match number {
         1 => Operator::new(number, Shape::Value, 0, 1),

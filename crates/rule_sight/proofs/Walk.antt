@@ -10,13 +10,12 @@ use Rattle.machine.specs.Operator as meaning
 use Rattle.machine.specs.Operator.{Operator, literalOf, identifierOf, afterOf, constantOf, unaryOf, binaryOf, divisionOf, connectiveOf, operatorNumbered}
 use Rattle.machine.specs.Described.{node, treeTo, treeOf}
 use Rattle.machine.proofs.Described.{tree-step}
-use Rattle.rules.specs.Sorts.{Shape, value, anIdentifier, aVariable, none, one, two, unknown, find, operators, shapeOf}
+use Rattle.rules.specs.Sorts.{Shape, value, anIdentifier, aVariable, none, one, two, unknown, shape, shapeOf}
 use Rattle.rules.specs.Sight.{mayMention, mayMentionAfter, seesOnly}
-use Rattle.rules.proofs.Operators.{shapeFor, shape-agrees}
 use Rattle.rules.proofs.Sight.{seen, seenAfter}
 use Rattle.rule_references.specs.declared.Operator as found
 use Rattle.rule_references.specs.declared.Shape as held
-use Rattle.rule_references.specs.Operator.{meant, meantShape}
+use Rattle.rule_references.specs.Operator.{usageOf, meant, meantShape}
 use Rattle.rule_references.proofs.Found.{shape-found}
 
 module _ (P Q : ℕ → Bool) where
@@ -29,7 +28,7 @@ module _ (P Q : ℕ → Bool) where
   mentionsBy two b l r = l && r
   mentionsBy unknown b l r = true
 
-  mentions-node : (o : Operator) (b : ℕ) (l r : Tree) → mentionsBy (shapeFor o) b (mentions P Q l) (mentions P Q r) ≡ mentions P Q (node o b l r)
+  mentions-node : (o : Operator) (b : ℕ) (l r : Tree) → mentionsBy (shape o) b (mentions P Q l) (mentions P Q r) ≡ mentions P Q (node o b l r)
   unfolding mentions
   mentions-node literalOf b l r = refl
   mentions-node identifierOf b l r = refl
@@ -60,16 +59,15 @@ module _ (t : Rows) (i : ℕ) where
       (seesOnly t i (operandNode n (rightOf t n)))
 
   pub sees-step : (n : ℕ) → 1 ≤ n → seesBy (shapeOf (operatorOf t n)) n ≡ seesOnly t i n
-  unfolding seesOnly
+  unfolding seesOnly shapeOf
   sees-step n h =
       let P = mayMention t i in
       let Q = mayMentionAfter t i in
-      ap (λ s. seesBy s n) (shape-agrees (operatorOf t n))
-      ∙ mentions-node P Q (operatorNumbered (operatorOf t n)) (leftOf t n) (treeOf t (operandNode n (leftOf t n))) (treeOf t (operandNode n (rightOf t n)))
+      mentions-node P Q (operatorNumbered (operatorOf t n)) (leftOf t n) (treeOf t (operandNode n (leftOf t n))) (treeOf t (operandNode n (rightOf t n)))
       ∙ ap (mentions P Q) (sym (tree-step t n h))
 
   -- the same from the operator that was found, by its shape's case
-  pub sees-found : (n : ℕ) (r : Bool) → (n ≡ 0 → ⊥) → (o : found.Operator) (m : ℕ) → meant o ≡ find operators m → m ≡ operatorOf t n
+  pub sees-found : (n : ℕ) (r : Bool) → (n ≡ 0 → ⊥) → (o : found.Operator) (m : ℕ) → meant o ≡ usageOf m → m ≡ operatorOf t n
       → (s : held.Shape) → o .shape ≡ s → r ≡ seesBy (meantShape s) n → r ≡ seesOnly t i n
   sees-found n r f o m e q s told h =
       h ∙ ap (λ s. seesBy s n) (sym (ap meantShape told) ∙ shape-found o m e ∙ ap shapeOf q) ∙ sees-step n (omega arith)

@@ -12,7 +12,8 @@ use borrow.Author.Tests.{ne-eqb, eqb-false}
 use Rattle.lists.specs.Choice.{pick}
 use Rattle.lists.specs.Below.{oneIf}
 use Rattle.table.specs.Rows.{Rows, rowsOf, tagged, isAction, typeOf, operatorOf, leftOf}
-use Rattle.rules.specs.Sorts.{shapeOf, resultSort, operandSort, operandCount, namesIdentifier, sortOf, fitting}
+use Rattle.machine.specs.Operator.{operandSort, resultSort}
+use Rattle.rules.specs.Sorts.{shapeOf, operandCount, namesIdentifier, sortOf, fitting}
 use Rattle.rules.specs.Rules.{goodOperands, rootAt, namesRoot, rootSort, usesAt, usesTo}
 use Rattle.rules.proofs.Sorts.{rootSortOf}
 use Rattle.rule_sorts.specs.Uses.{mayUse}

@@ -14,10 +14,9 @@ use Rattle.machine.specs.Operator as meaning
 use Rattle.machine.specs.Operator.{Operator, literalOf, identifierOf, afterOf, constantOf, unaryOf, binaryOf, divisionOf, connectiveOf, operatorNumbered}
 use Rattle.machine.specs.Described.{node, earlier, treeTo, treeOf}
 use Rattle.machine.proofs.Described.{operandsOf}
-use Rattle.rules.specs.Sorts.{shapeOf}
+use Rattle.rules.specs.Sorts.{shape, shapeOf}
 use Rattle.rules.specs.Rules.{earlierNode, namedVariable, goodColumns, guardEvent, actionTarget, witnessTarget, rootAt, namesRoot, goodTarget, referenceOffends}
 use Rattle.rules.proofs.Obeys.{Obeys}
-use Rattle.rules.proofs.Operators.{shapeFor, shape-agrees}
 use Rattle.rules.proofs.Tags.{tagged-test, tags-rising}
 
 -- the tags of rows that name a root; of axioms, invariants and the variant; of actions
@@ -61,14 +60,13 @@ module _ (t : Rows) where
         (or-neither (tagged t 20 i && not (goodColumns t (shapeOf (t .a i)) i)) _ (ok .references i h) .1) (names-root k i e r)))
 
     -- the columns of a node fit its operator
-    pub node-row : (n : ℕ) → T (named t 20 n) → T (goodColumns t (shapeFor (operatorNumbered (operatorOf t n))) (rowOf t 20 n))
-    unfolding referenceOffends
+    pub node-row : (n : ℕ) → T (named t 20 n) → T (goodColumns t (shape (operatorNumbered (operatorOf t n))) (rowOf t 20 n))
+    unfolding referenceOffends shapeOf
     node-row n h =
         let i = rowOf t 20 n in
         let r = named-row t (tags-rising t ok) 20 n h in
-        subst (λ s. T (goodColumns t s i)) (shape-agrees (operatorOf t n))
-        (rule-met (tagged t 20 i) (goodColumns t (shapeOf (t .a i)) i)
-        (or-neither (tagged t 20 i && not (goodColumns t (shapeOf (t .a i)) i)) _ (ok .references i (r .0)) .0) (tagged-test t 20 i (r .1)))
+        rule-met (tagged t 20 i) (goodColumns t (shapeOf (t .a i)) i)
+        (or-neither (tagged t 20 i && not (goodColumns t (shapeOf (t .a i)) i)) _ (ok .references i (r .0)) .0) (tagged-test t 20 i (r .1))
 
     -- "operands: an earlier node"
     pub earlier-operand : (n m : ℕ) → T (named t 20 n) → T (earlierNode t (rowOf t 20 n) m) → T (named t 20 m) × (m < n)
@@ -83,7 +81,7 @@ module _ (t : Rows) where
     two-good i g = let s = and-split (earlierNode t i (t .b i)) (earlierNode t i (t .c i)) g in (λ u. s .0, λ u. s .1)
 
     -- the operands that a node's operator has are earlier nodes
-    operands-good : (o : Operator) (i : ℕ) → T (goodColumns t (shapeFor o) i)
+    operands-good : (o : Operator) (i : ℕ) → T (goodColumns t (shape o) i)
         → (T (ltb 0 (operandsOf o)) → T (earlierNode t i (t .b i))) × (T (ltb 1 (operandsOf o)) → T (earlierNode t i (t .c i)))
     operands-good literalOf i g = (absurd, absurd)
     operands-good identifierOf i g = (absurd, absurd)
@@ -107,7 +105,7 @@ module _ (t : Rows) where
     operand-named true u h = h
     operand-named false u h = tt
 
-    node-named : (o : Operator) (i : ℕ) (l r : Tree) → T (goodColumns t (shapeFor o) i)
+    node-named : (o : Operator) (i : ℕ) (l r : Tree) → T (goodColumns t (shape o) i)
         → (T (ltb 0 (operandsOf o)) → Named l) → (T (ltb 1 (operandsOf o)) → Named r) → Named (node o (t .b i) l r)
     unfolding mentions
     node-named literalOf i l r h f g = tt

@@ -12,12 +12,12 @@ use Rattle.formula.specs.Sort.{treeType}
 use Rattle.formula.proofs.Truth.{or-cases, or-neither, rule-met}
 use Rattle.table.specs.Rows.{Rows, tagged, typeOf, operatorOf, leftOf}
 use Rattle.machine.specs.Operator as meaning
-use Rattle.machine.specs.Operator.{Operator, literalOf, identifierOf, afterOf, constantOf, unaryOf, binaryOf, divisionOf, connectiveOf, operatorNumbered}
+use Rattle.machine.specs.Operator.{Operator, literalOf, identifierOf, afterOf, constantOf, unaryOf, binaryOf, divisionOf, connectiveOf, operatorNumbered, resultSort}
 use Rattle.machine.specs.Described.{typeNumbered, node, treeTo, treeOf}
-use Rattle.rules.specs.Sorts.{shapeOf, operandCount, resultSort, namesIdentifier, sortOf}
+use Rattle.rules.specs.Sorts.{shape, shapeOf, operandCount, namesIdentifier, sortOf}
 use Rattle.rules.specs.Rules.{namesRoot, rootAt, goodOperands, rootSort, sortOffends}
 use Rattle.rules.proofs.Obeys.{Obeys}
-use Rattle.rules.proofs.Operators.{shapeFor, shape-agrees, operatorType, sortType, type-agrees}
+use Rattle.rules.proofs.Operators.{operatorType, sortType, type-agrees}
 use Rattle.rules.proofs.Identifiers.{isType}
 use Rattle.rules.proofs.References.{rootTag, rootOf, names-root}
 
@@ -35,7 +35,7 @@ module _ (t : Rows) where
 
   -- the sort of a node of an operator: its identifier's type, or the operator's own sort
   abbrev nodeSort : Operator → ℕ → ℕ → ℕ
-  nodeSort o b s = pick (namesIdentifier (shapeFor o)) (typeOf t b) s
+  nodeSort o b s = pick (namesIdentifier (shape o)) (typeOf t b) s
 
   node-type : (o : Operator) (b s : ℕ) (l r : Tree) → sortType s ≡ operatorType o → T (isType (nodeSort o b s))
       → treeType types (node o b l r) ≡ typeNumbered (nodeSort o b s)
@@ -50,14 +50,11 @@ module _ (t : Rows) where
   node-type meaning.unknown b s l r e h = sym e ∙ sort-numbered s h
 
   pub sort-type : (n : ℕ) → 1 ≤ n → T (isType (sortOf t n)) → treeType (λ x. typeNumbered (typeOf t x)) (treeOf t n) ≡ typeNumbered (sortOf t n)
-  unfolding sortOf treeOf treeTo
+  unfolding sortOf shapeOf treeOf treeTo
   sort-type zero l = absurd (omega arith)
   sort-type (suc d) l =
       let n = suc d in
-      subst (λ s. T (isType (pick (namesIdentifier s) (typeOf t (leftOf t n)) (resultSort (operatorOf t n))))
-      → treeType types (treeOf t n) ≡ typeNumbered (pick (namesIdentifier s) (typeOf t (leftOf t n)) (resultSort (operatorOf t n))))
-      (sym (shape-agrees (operatorOf t n)))
-      (node-type (operatorNumbered (operatorOf t n)) (leftOf t n) (resultSort (operatorOf t n)) _ _ (type-agrees (operatorOf t n)))
+      node-type (operatorNumbered (operatorOf t n)) (leftOf t n) (resultSort (operatorOf t n)) _ _ (type-agrees (operatorOf t n))
 
   -- "Roots are predicates, but 51 takes the variable's type and 70 an integer."
   abbrev pub rootSortOf : ℕ → ℕ → ℕ

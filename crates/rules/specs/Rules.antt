@@ -5,8 +5,9 @@ use lib.Dec.{ltb, leb, eqb}
 use Rattle.lists.specs.Choice.{pick}
 use Rattle.lists.specs.Below.{oneIf, countBelow, someBelow}
 use Rattle.table.specs.Rows.{Rows, tagged, count, named, rowOf, numberIn, isAction, kindOf, typeOf, ownerOf, machineNumber, classOf, refinedBy}
+use Rattle.machine.specs.Operator.{operandSort}
 use Rattle.rules.specs.Tags.{columnsUsed, mostRows}
-use Rattle.rules.specs.Sorts.{Shape, value, anIdentifier, aVariable, none, one, two, unknown, shapeOf, operandSort, operandCount, sortOf, fitting}
+use Rattle.rules.specs.Sorts.{Shape, value, anIdentifier, aVariable, none, one, two, unknown, shapeOf, operandCount, sortOf, fitting}
 use Rattle.rules.specs.Sight.{hasKind, seesOnly}
 
 module _ (t : Rows) where

@@ -1,47 +1,29 @@
--- 01, Rows: the operators with their operands and sorts.
+-- 01, Rows: what the columns of a node hold, by its operator, and the sort of a node.
 use Prim.Native.Nat.{ℕ}
 use mathlib.Core.Bool.{Bool, true, false, _&&_, _||_}
-use mathlib.Core.List.{List, [], _∷_}
 use lib.Dec.{eqb, leb}
 use Rattle.lists.specs.Choice.{pick}
 use Rattle.table.specs.Rows.{Rows, operatorOf, leftOf, typeOf}
+use Rattle.machine.specs.Operator as operator
+use Rattle.machine.specs.Operator.{Operator, literalOf, identifierOf, afterOf, constantOf, unaryOf, binaryOf, divisionOf, connectiveOf, operatorNumbered, resultSort}
 
 -- How an operator uses its columns b and c: a literal's value, an identifier, a variable, none, one operand, two operands.
 pub data Shape : Type 0 where
   value anIdentifier aVariable none one two unknown : Shape
 
--- Sorts are 1 integer and 2 boolean, as types are, and 3 predicate. The sort of operators 2 and 3 is the identifier's type, here 0; the operands
--- of = are both integer or both boolean, here 0.
-pub record Operator : Type 0 where
-  pub number : ℕ
-  pub shape : Shape
-  pub operands : ℕ
-  pub sort : ℕ
-
-abbrev is : ℕ → Shape → ℕ → ℕ → Operator
-is n s o r = record { number = n; shape = s; operands = o; sort = r }
-
--- "1 literal (b its value), 2 identifier (b), 3 after value of a variable (b), 4 TRUE, 5 FALSE, 6 bool; integers 10 plus, 11 minus, 12 times, 13 ÷,
--- 14 mod, 15 negation; predicates 20 = (both integer or both boolean), 21 <, 22 ≤, 30 ⊤, 31 ⊥, 32 ¬, 33 ∧, 34 ∨, 35 ⇒, 36 ⇔"
-abbrev pub operators : List Operator
-operators =
-    is 1 value 0 1 ∷ is 2 anIdentifier 0 0 ∷ is 3 aVariable 0 0 ∷ is 4 none 0 2 ∷ is 5 none 0 2 ∷ is 6 one 3 2
-    ∷ is 10 two 1 1 ∷ is 11 two 1 1 ∷ is 12 two 1 1 ∷ is 13 two 1 1 ∷ is 14 two 1 1 ∷ is 15 one 1 1
-    ∷ is 20 two 0 3 ∷ is 21 two 1 3 ∷ is 22 two 1 3 ∷ is 30 none 0 3 ∷ is 31 none 0 3 ∷ is 32 one 3 3
-    ∷ is 33 two 3 3 ∷ is 34 two 3 3 ∷ is 35 two 3 3 ∷ is 36 two 3 3 ∷ []
-
-abbrev pub find : List Operator → ℕ → Operator
-find [] n = is n unknown 0 0
-find (o ∷ os) n = pick (eqb (o .number) n) o (find os n)
+abbrev pub shape : Operator → Shape
+shape literalOf = value
+shape identifierOf = anIdentifier
+shape afterOf = aVariable
+shape (constantOf c) = none
+shape (unaryOf o) = one
+shape (binaryOf o) = two
+shape (divisionOf o) = two
+shape (connectiveOf o) = two
+shape operator.unknown = unknown
 
 unfoldable pub shapeOf : ℕ → Shape
-shapeOf n = find operators n .shape
-
-unfoldable pub operandSort : ℕ → ℕ
-operandSort n = find operators n .operands
-
-unfoldable pub resultSort : ℕ → ℕ
-resultSort n = find operators n .sort
+shapeOf n = shape (operatorNumbered n)
 
 abbrev pub namesIdentifier : Shape → Bool
 namesIdentifier value = false

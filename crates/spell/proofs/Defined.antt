@@ -14,7 +14,7 @@ use Rattle.machine.specs.Operator.{Operator, literalOf, identifierOf, afterOf, 
 use Rattle.machine.specs.Described.{node, treeTo, treeOf}
 use Rattle.machine.proofs.Described.{tree-step}
 use Rattle.rules.specs.Sorts.{shapeOf}
-use Rattle.rules.proofs.Operators.{shapeFor, shape-agrees}
+use Rattle.rules.specs.Sorts.{shape, shapeOf}
 use Rattle.reply.specs.Spelled.{spelled, binaryNumber, divisionNumber, connectiveNumber, spellTree}
 use Rattle.spell.specs.declared.Node.{Node}
 use Rattle.spell.specs.Spell.{divides, openingRows, guardRows, closingRows, nodeBy, nodeOf, shownRows, definedRows}
@@ -105,7 +105,7 @@ numbered l r k n rs h e = e ∙ ap (pairRows (definedTree l) (spellTree l) (defi
 
 defined-by : (o : Operator) (n : ℕ) → T (numberIs o n) → (primed : Bool) (b x y : ℕ) (l r : Tree)
     → definedTree (node o b l r)
-    ≡ definedBy (nodeBy (shapeFor o) n primed b x y .operands) (nodeBy (shapeFor o) n primed b x y .operator) (definedTree l) (spellTree l) (definedTree r) (spellTree r)
+    ≡ definedBy (nodeBy (shape o) n primed b x y .operands) (nodeBy (shape o) n primed b x y .operator) (definedTree l) (spellTree l) (definedTree r) (spellTree r)
 unfolding spellTree wellDefined
 defined-by literalOf n h primed b x y l r = refl
 defined-by identifierOf n h primed b x y l r = refl
@@ -131,7 +131,7 @@ module _ (t : Rows) where
 
   defined-step : (n : ℕ) → 1 ≤ n
       → definedRows t n ≡ definedAs (nodeFrom t false n .operator) (nodeFrom t false n .operands) (operandNode n (leftOf t n)) (operandNode n (rightOf t n))
-  unfolding definedRows shownRows
+  unfolding definedRows shownRows shapeOf
   defined-step n h =
       let m = operatorOf t n in
       let b = leftOf t n in
@@ -139,7 +139,6 @@ module _ (t : Rows) where
       let y = operandNode n (rightOf t n) in
       ap definedTree (tree-step t n h)
       ∙ defined-by (operatorNumbered m) m (operator-numbered m) false b x y (treeOf t x) (treeOf t y)
-      ∙ ap (λ s. definedAs (nodeBy s m false b x y .operator) (nodeBy s m false b x y .operands) x y) (sym (shape-agrees m))
 
   defined-node : (n : ℕ)
       → definedRows t n ≡ definedAs (nodeOf t false n .operator) (nodeOf t false n .operands) (nodeOf t false n .left) (nodeOf t false n .right)

@@ -7,21 +7,20 @@ use mathlib.Core.List.{List, [], _∷_, _++_}
 use native.Mathlib.Omega.{arith}
 use native.Mathlib.Nat.{le-max-left, le-max-right, max-le}
 use lib.Dec.{T, eqb, eqb→eq}
-use borrow.Author.Tests.{eq-eqb, ne-eqb, eqb-true}
+use borrow.Author.Tests.{eq-eqb, ne-eqb}
 use Rattle.lists.specs.Choice.{pick}
 use Rattle.row.specs.declared.Row.{Row}
 use Rattle.formula.specs.Tree.{Constant, literal, TRUE, FALSE, top, bottom, Tree, identifier, after}
 use Rattle.formula.specs.AfterValues.{atAfter}
-use Rattle.formula.proofs.Truth.{and-split}
 use Rattle.table.specs.Rows.{Rows, isVariableNumber, operandNode, operatorOf, leftOf, rightOf}
 use Rattle.machine.specs.Operator as meaning
-use Rattle.machine.specs.Operator.{Operator, Numbered, literalOf, identifierOf, afterOf, constantOf, unaryOf, binaryOf, divisionOf, connectiveOf, operatorNumbered}
+use Rattle.machine.specs.Operator.{Operator, literalOf, identifierOf, afterOf, constantOf, unaryOf, binaryOf, divisionOf, connectiveOf, operatorNumbered}
 use Rattle.machine.specs.Described.{node, treeTo, treeOf, machineOf}
 use Rattle.machine.proofs.Described.{operand-falls, tree-step}
+use Rattle.machine.proofs.Operator.{numbered-passes}
 use Rattle.machine.proofs.Variables.{variable-numbered}
 use Rattle.sequent.specs.Entry.{variable}
-use Rattle.rules.specs.Sorts.{Shape, value, anIdentifier, aVariable, none, one, two, unknown, shapeOf}
-use Rattle.rules.proofs.Operators.{shapeFor, shape-agrees}
+use Rattle.rules.specs.Sorts.{Shape, value, anIdentifier, aVariable, none, one, two, unknown, shape, shapeOf}
 use Rattle.reply.specs.Spelled.{spelled, constantRow, unaryNumber, binaryNumber, divisionNumber, connectiveNumber, spellTree}
 use Rattle.spell.specs.declared.Node.{Node}
 use Rattle.spell.specs.Spell.{leaf, nodeBy, operandRows, nodeOf, shownRows}
@@ -45,22 +44,9 @@ numberIs (divisionOf o) n = eqb (divisionNumber o) n
 numberIs (connectiveOf o) n = eqb (connectiveNumber o) n
 numberIs meaning.unknown n = true
 
-abbrev allNumbered : List Numbered → Bool
-allNumbered [] = true
-allNumbered (o ∷ os) = numberIs (o .operator) (o .number) && allNumbered os
-
-find-numbered : (os : List Numbered) → T (allNumbered os) → (n : ℕ) → T (numberIs (meaning.find os n) n)
-find-numbered [] h n = tt
-find-numbered (o ∷ os) h n = go (eqb (o .number) n) refl (and-split (numberIs (o .operator) (o .number)) (allNumbered os) h) (λ h. find-numbered os h n)
-  where
-    go : (b : Bool) → eqb (o .number) n ≡ b → T (numberIs (o .operator) (o .number)) × T (allNumbered os) → (T (allNumbered os) → T (numberIs (meaning.find os n) n))
-        → T (numberIs (pick b (o .operator) (meaning.find os n)) n)
-    go true e h rest = subst (λ k. T (numberIs (o .operator) k)) (eqb-true (o .number) n e) (h .0)
-    go false e h rest = rest (h .1)
-
 pub operator-numbered : (n : ℕ) → T (numberIs (operatorNumbered n) n)
 unfolding operatorNumbered
-operator-numbered n = find-numbered meaning.operators tt n
+operator-numbered n = numbered-passes (λ o. o .operator) numberIs (λ n. tt) tt n
 
 -- the rows of two operands
 pub operands-two : (k : ℕ) (l r : List Row) → (k ≡ 0 → ⊥) → (k ≡ 1 → ⊥) → l ++ r ≡ operandRows k l r
@@ -128,7 +114,7 @@ module _ (v : ℕ → Bool) where
   headed k n b rs ss h e = e ∙ ap (λ k. spelled k b ∷ ss) (eqb→eq k n h)
 
   shown-by : (o : Operator) (n : ℕ) → T (numberIs o n) → (primed : Bool) (b x y : ℕ) (l r : Tree)
-      → shown primed (node o b l r) ≡ rowsBy (nodeBy (shapeFor o) n (primed && v b) b x y) (shown primed l) (shown primed r)
+      → shown primed (node o b l r) ≡ rowsBy (nodeBy (shape o) n (primed && v b) b x y) (shown primed l) (shown primed r)
   unfolding spellTree atAfter
   shown-by literalOf n h true b x y l r = headed 1 n b _ [] h refl
   shown-by literalOf n h false b x y l r = headed 1 n b _ [] h refl
@@ -170,7 +156,7 @@ module _ (t : Rows) where
 
   shown-step : (primed : Bool) (n : ℕ) → 1 ≤ n
       → shownRows t primed n ≡ rowsBy (nodeFrom primed n) (shownRows t primed (operandNode n (leftOf t n))) (shownRows t primed (operandNode n (rightOf t n)))
-  unfolding shownRows
+  unfolding shownRows shapeOf
   shown-step primed n h =
       let v = variable (machineOf t) in
       let m = operatorOf t n in
@@ -179,7 +165,7 @@ module _ (t : Rows) where
       let y = operandNode n (rightOf t n) in
       ap (shown v primed) (tree-step t n h)
       ∙ shown-by v (operatorNumbered m) m (operator-numbered m) primed b x y (treeOf t x) (treeOf t y)
-      ∙ ap₂ (λ s after. rowsBy (nodeBy s m (primed && after) b x y) (shown v primed (treeOf t x)) (shown v primed (treeOf t y))) (sym (shape-agrees m)) (variable-numbered t b)
+      ∙ ap (λ after. rowsBy (nodeBy (shapeOf m) m (primed && after) b x y) (shown v primed (treeOf t x)) (shown v primed (treeOf t y))) (variable-numbered t b)
 
   shown-node : (primed : Bool) (n : ℕ)
       → shownRows t primed n ≡ rowsBy (nodeOf t primed n) (shownRows t primed (nodeOf t primed n .left)) (shownRows t primed (nodeOf t primed n .right))

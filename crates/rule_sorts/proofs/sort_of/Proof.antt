@@ -1,7 +1,8 @@
 -- By whether the operator names an identifier.
 use mathlib.Core.Path.{ap, _∙_}
 use Rattle.table.specs.Rows.{rowsOf}
-use Rattle.rules.specs.Sorts.{shapeOf, resultSort, namesIdentifier}
+use Rattle.machine.specs.Operator.{resultSort}
+use Rattle.rules.specs.Sorts.{shapeOf, namesIdentifier}
 use Rattle.rule_references.proofs.Found.{shape-found, sort-found}
 use Rattle.rule_sorts.proofs.Sorts.{sort-when}
 use borrow.Author.Needs.{needs}

@@ -1,0 +1,41 @@
+-- A test that every row of the operators' table passes, which is computed, and a row for an unknown number too, is passed by the row that a number names;
+-- and that row has the number.
+use Prim.Native.Nat.{ℕ}
+use mathlib.Core.Path.{_≡_, refl, subst}
+use mathlib.Core.Bool.{Bool, true, false, _&&_}
+use mathlib.Core.List.{List, [], _∷_}
+use lib.Dec.{T, eqb}
+use borrow.Author.Tests.{eqb-true}
+use Rattle.lists.specs.Choice.{pick}
+use Rattle.formula.proofs.Truth.{and-split}
+use Rattle.machine.specs.Operator.{Numbered, is, unknown, operators, rowNumbered}
+
+abbrev pub allPass : (Numbered → Bool) → List Numbered → Bool
+allPass P [] = true
+allPass P (o ∷ os) = P o && allPass P os
+
+row-number : (os : List Numbered) (n : ℕ) → rowNumbered os n .number ≡ n
+row-number [] n = refl
+row-number (o ∷ os) n = either (eqb (o .number) n) refl (row-number os n)
+  where
+    either : (b : Bool) → eqb (o .number) n ≡ b → rowNumbered os n .number ≡ n → pick b o (rowNumbered os n) .number ≡ n
+    either true e h = eqb-true (o .number) n e
+    either false e h = h
+
+module _ (P : Numbered → Bool) (other : (n : ℕ) → T (P (is n unknown 0 0))) where
+  passes-in : (os : List Numbered) → T (allPass P os) → (n : ℕ) → T (P (rowNumbered os n))
+  passes-in [] h n = other n
+  passes-in (o ∷ os) h n = let p = and-split (P o) (allPass P os) h in either (eqb (o .number) n) (p .0) (passes-in os (p .1) n)
+    where
+      either : (b : Bool) → T (P o) → T (P (rowNumbered os n)) → T (P (pick b o (rowNumbered os n)))
+      either true p q = p
+      either false p q = q
+
+  pub row-passes : T (allPass P operators) → (n : ℕ) → T (P (rowNumbered operators n))
+  row-passes h n = passes-in operators h n
+
+-- the same of a test by the number and something else of the row
+pub numbered-passes : {A : Type 0} (f : Numbered → A) (P : A → ℕ → Bool) → ((n : ℕ) → T (P (f (is n unknown 0 0)) n)) → T (allPass (λ o. P (f o) (o .number)) operators)
+    → (n : ℕ) → T (P (f (rowNumbered operators n)) n)
+numbered-passes f P other h n =
+    subst (λ k. T (P (f (rowNumbered operators n)) k)) (row-number operators n) (row-passes (λ o. P (f o) (o .number)) other h n)
