@@ -1,4 +1,4 @@
--- Marked cases P8 and P9, and division at each pair of signs and at divisor 0: all computed from the definitions.
+-- Division at each pair of signs and at divisor 0, and what ∧, ⇒ and ∨ protect, for every dividend: all computed from the definitions.
 use mathlib.Core.Path.{_≡_, refl}
 use mathlib.Core.Bool.{true, false}
 use mathlib.Core.Option.{Option, none, some}
@@ -35,9 +35,10 @@ words : (evaluate (at (pos 0) (pos 0)) (constant (literal 18446744073709551609))
 unfolding evaluate
 words = (refl, refl)
 
-P8 : (reading quotient (negsuc 6) (pos 2) ≡ some (number (negsuc 2))) × (reading remainder (negsuc 6) (pos 2) ≡ some (number (negsuc 0)))
+-- −8 ÷ 3 = −2 and −8 mod 3 = −2
+negative-dividend : (reading quotient (negsuc 7) (pos 3) ≡ some (number (negsuc 1))) × (reading remainder (negsuc 7) (pos 3) ≡ some (number (negsuc 1)))
 unfolding readTree
-P8 = (refl, refl)
+negative-dividend = (refl, refl)
 
 negative-divisor : (reading quotient (pos 7) (negsuc 1) ≡ some (number (negsuc 2))) × (reading remainder (pos 7) (negsuc 1) ≡ some (number (pos 1)))
 unfolding readTree
@@ -66,20 +67,20 @@ nonzero = unary logicalNot (binary equal (identifier 2) (constant (literal 0)))
 abbrev one-quotient : Tree
 one-quotient = binary equal (division quotient (identifier 1) (identifier 2)) (constant (literal 1))
 
-P9 : (a : ℤ) →
-    (readTree (at a (pos 0)) (connective and nonzero one-quotient) ≡ some (truth false))
-    × (readTree (at a (pos 0)) (connective and one-quotient nonzero) ≡ none)
-unfolding readTree
-P9 a = (refl, refl)
-
--- ⇒ and ∨ protect their right side in the same way
+-- where b = 0, ∧, ⇒ and ∨ protect their right side
 protected : (a : ℤ) →
-    (readTree (at a (pos 0)) (connective implies nonzero one-quotient) ≡ some (truth true))
+    (readTree (at a (pos 0)) (connective and nonzero one-quotient) ≡ some (truth false))
+    × (readTree (at a (pos 0)) (connective implies nonzero one-quotient) ≡ some (truth true))
     × (readTree (at a (pos 0)) (connective or (unary logicalNot nonzero) one-quotient) ≡ some (truth true))
 unfolding readTree
-protected a = (refl, refl)
+protected a = (refl, refl, refl)
 
--- the well-definedness formula of P9's, with its brackets: (⊤ ∧ ⊤) ∧ (¬(b = 0) ⇒ (((⊤ ∧ ⊤) ∧ ¬(b = 0)) ∧ ⊤))
+-- and not their left side
+unprotected : (a : ℤ) → readTree (at a (pos 0)) (connective and one-quotient nonzero) ≡ none
+unfolding readTree
+unprotected a = refl
+
+-- the well-definedness formula of ¬(b = 0) ∧ a ÷ b = 1, with its brackets: (⊤ ∧ ⊤) ∧ (¬(b = 0) ⇒ (((⊤ ∧ ⊤) ∧ ¬(b = 0)) ∧ ⊤))
 well-defined-shape :
     wellDefined (connective and nonzero one-quotient)
     ≡ connective and (connective and ⊤ᵗ ⊤ᵗ) (connective implies nonzero (connective and (connective and (connective and ⊤ᵗ ⊤ᵗ) nonzero) ⊤ᵗ))
