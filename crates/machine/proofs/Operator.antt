@@ -1,5 +1,5 @@
 -- A test that every row of the operators' table passes, which is computed, and a row for an unknown number too, is passed by the row that a number names;
--- and that row has the number.
+-- and that row has the number. So in every row the operator's sort gives the type that its node has as a tree.
 use Prim.Native.Nat.{ℕ}
 use mathlib.Core.Path.{_≡_, refl, subst}
 use mathlib.Core.Bool.{Bool, true, false, _&&_}
@@ -7,8 +7,11 @@ use mathlib.Core.List.{List, [], _∷_}
 use lib.Dec.{T, eqb}
 use borrow.Author.Tests.{eqb-true}
 use Rattle.lists.specs.Choice.{pick}
+use Rattle.formula.specs.Values.{ValueType, integer, boolean}
+use Rattle.formula.specs.Sort.{constantType, unaryType, binaryType}
 use Rattle.formula.proofs.Truth.{and-split}
-use Rattle.machine.specs.Operator.{Numbered, is, unknown, operators, rowNumbered}
+use Rattle.machine.specs.Operator.{Operator, literalOf, identifierOf, afterOf, constantOf, unaryOf, binaryOf, divisionOf, connectiveOf, unknown}
+use Rattle.machine.specs.Operator.{Numbered, is, operators, rowNumbered, operatorNumbered, resultSort}
 
 abbrev pub allPass : (Numbered → Bool) → List Numbered → Bool
 allPass P [] = true
@@ -39,3 +42,34 @@ pub numbered-passes : {A : Type 0} (f : Numbered → A) (P : A → ℕ → Bool)
     → (n : ℕ) → T (P (f (rowNumbered operators n)) n)
 numbered-passes f P other h n =
     subst (λ k. T (P (f (rowNumbered operators n)) k)) (row-number operators n) (row-passes (λ o. P (f o) (o .number)) other h n)
+
+-- the type of a node by its operator, boolean where the operator leaves it to an identifier; and by its sort, boolean for a predicate
+abbrev pub operatorType : Operator → ValueType
+operatorType literalOf = integer
+operatorType identifierOf = boolean
+operatorType afterOf = boolean
+operatorType (constantOf c) = constantType c
+operatorType (unaryOf o) = unaryType o
+operatorType (binaryOf o) = binaryType o
+operatorType (divisionOf o) = integer
+operatorType (connectiveOf o) = boolean
+operatorType unknown = boolean
+
+abbrev pub sortType : ℕ → ValueType
+sortType s = pick (eqb s 1) integer boolean
+
+abbrev sameType : ValueType → ValueType → Bool
+sameType integer integer = true
+sameType integer boolean = false
+sameType boolean integer = false
+sameType boolean boolean = true
+
+same-type : (a b : ValueType) → T (sameType a b) → a ≡ b
+same-type integer integer h = refl
+same-type integer boolean h = absurd h
+same-type boolean integer h = absurd h
+same-type boolean boolean h = refl
+
+pub type-agrees : (n : ℕ) → sortType (resultSort n) ≡ operatorType (operatorNumbered n)
+unfolding resultSort operatorNumbered
+type-agrees n = same-type _ _ (row-passes (λ o. sameType (sortType (o .sort)) (operatorType (o .operator))) (λ n. tt) tt n)

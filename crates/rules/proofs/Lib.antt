@@ -5,7 +5,6 @@ pub mod Identifiers
 pub mod Missing
 pub mod Obeys
 pub mod Once
-pub mod Operators
 pub mod References
 pub mod Separate
 pub mod Sight

@@ -14,10 +14,10 @@ use Rattle.table.specs.Rows.{Rows, tagged, typeOf, operatorOf, leftOf}
 use Rattle.machine.specs.Operator as meaning
 use Rattle.machine.specs.Operator.{Operator, literalOf, identifierOf, afterOf, constantOf, unaryOf, binaryOf, divisionOf, connectiveOf, operatorNumbered, resultSort}
 use Rattle.machine.specs.Described.{typeNumbered, node, treeTo, treeOf}
+use Rattle.machine.proofs.Operator.{operatorType, sortType, type-agrees}
 use Rattle.rules.specs.Sorts.{shape, shapeOf, operandCount, namesIdentifier, sortOf}
 use Rattle.rules.specs.Rules.{namesRoot, rootAt, goodOperands, rootSort, sortOffends}
 use Rattle.rules.proofs.Obeys.{Obeys}
-use Rattle.rules.proofs.Operators.{operatorType, sortType, type-agrees}
 use Rattle.rules.proofs.Identifiers.{isType}
 use Rattle.rules.proofs.References.{rootTag, rootOf, names-root}
 

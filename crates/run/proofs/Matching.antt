@@ -102,7 +102,7 @@ module _ (m : Machine) (wf : WellFormed m) (vs : All (Valid m) (sequents m)) whe
           concreteInvariants =
               concrete-after m wf c a k w p w k′ (invariants-true m (refining f) e valid ρ (witnessed-true m (refining f) e ws valid c a k p k′ mv));
         };
-        matches = moved-step m abstractOrdinary f (event-sees m wf f j abstract) c a k w p w k′ w (λ t. refl) valid′ b g ts;
+        matches = (j, abstract, moved-step m abstractOrdinary f (event-sees m wf f j abstract) c a k w p w k′ w (λ t. refl) valid′ b g ts);
         bounded = λ n b l. absurd (omega arith);
       }
 

@@ -111,10 +111,11 @@ module _ (m : Machine) where
     pub parameters : State
     pub result : State
 
-  -- "A concrete ordinary step is matched by a step of the event it refines, a convergent one by no abstract step: the abstract state stays."
+  -- "A concrete ordinary step is matched by a step of the event it refines", an abstract ordinary one, "a convergent one by no abstract step: the abstract
+  -- state stays."
   abbrev pub Matches : Role → State → State → State → State → Type 0
   Matches abstractInitialisation c a q a′ = ⊥
   Matches abstractOrdinary c a q a′ = ⊥
   Matches (concreteInitialisation f) c a q a′ = ⊥
-  Matches (refining f) c a q a′ = Step abstractOrdinary f c a q a′
+  Matches (refining f) c a q a′ = In f (m .events) × (m .role f ≡ abstractOrdinary) × Step abstractOrdinary f c a q a′
   Matches convergent c a q a′ = a′ ≡ a
