@@ -7,6 +7,7 @@ pub mod Views
 pub mod Events
 pub mod Valuations
 pub mod Steps
+pub mod Stretch
 pub mod Successor
 pub mod AfterState
 pub mod Witnesses

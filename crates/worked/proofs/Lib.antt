@@ -3,3 +3,4 @@ pub mod Formulas
 pub mod Listed
 pub mod Safe
 pub mod Valid
+pub mod Run

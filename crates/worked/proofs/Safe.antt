@@ -14,7 +14,7 @@ use Rattle.worked.proofs.Decoded.{accepted, decodes}
 use Rattle.worked.proofs.Listed.{worked}
 use Rattle.worked.proofs.Valid.{valid}
 
-same-machine : machine bytes ≡ worked
+pub same-machine : machine bytes ≡ worked
 unfolding worked
 same-machine = ap (λ ws. machineOf (rowsOf ws)) decodes
 
