@@ -21,8 +21,8 @@ use Rattle.rules.specs.Rules.{useOffends, sightOffends, twiceOffends, offends, 
 use Rattle.rules.specs.Verdict.{firstCheck, judge, verdict}
 use Rattle.reply.specs.Printed.{sequentRows, rowsBytes}
 use Rattle.reply.specs.Replies.{writeRows, writeSequent, output}
-use Rattle.marked.specs.Cases.{cases, allAgree}
+use Rattle.marked.specs.Cases.{falling, cases, allAgree}
 
 marked : allAgree cases ≡ true
-unfolding cases flatMap over countBelow first numbers keep columnsOf numberOf scanFrom rowBytes section count start readTree mentions operatorNumbered typeNumbered kindNumbered roleNumbered treeTo treeOf actionOf belonging identifiersOf machineOf inOrder eventSequents sequents lineOf wordsOf columnsUsed mostRows shapeOf operandSort resultSort sortOf mayMention mayMentionAfter seesOnly tagOffends fullOffends eventOffends identifierOffends rootAt referenceOffends rootSort sortOffends usesTo useOffends sightOffends twiceOffends offends missing firstCheck judge verdict sequentRows rowsBytes writeRows writeSequent output
+unfolding cases falling flatMap over countBelow first numbers keep columnsOf numberOf scanFrom rowBytes section count start readTree mentions operatorNumbered typeNumbered kindNumbered roleNumbered treeTo treeOf actionOf belonging identifiersOf machineOf inOrder eventSequents sequents lineOf wordsOf columnsUsed mostRows shapeOf operandSort resultSort sortOf mayMention mayMentionAfter seesOnly tagOffends fullOffends eventOffends identifierOffends rootAt referenceOffends rootSort sortOffends usesTo useOffends sightOffends twiceOffends offends missing firstCheck judge verdict sequentRows rowsBytes writeRows writeSequent output
 marked = refl

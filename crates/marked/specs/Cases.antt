@@ -8,13 +8,15 @@ use lib.Dec.{eqb}
 use lib.IntN.{ℤ, pos, negsuc}
 use lib.ListN.{replicate}
 use Rattle.row.specs.declared.Row.{Row}
-use Rattle.formula.specs.Values.{integer, AnyValue, number, truth}
+use Rattle.formula.specs.Values.{integer, AnyValue, number, truth, asValue}
 use Rattle.formula.specs.Tree.{literal, logicalNot, equal, quotient, remainder, and, Division, Tree, constant, identifier, unary, binary, division, connective}
 use Rattle.formula.specs.Evaluate.{Env, readTree}
+use Rattle.machine.specs.Machine.{Machine}
 use Rattle.rules.specs.declared.Verdict.{Verdict}
 use Rattle.rules.specs.declared.Verdict.the-variants as verdict
-use Rattle.rules.specs.Verdict.{verdict as verdictOf}
-use Rattle.run.specs.SafeRun.{withinBound}
+use Rattle.rules.specs.Verdict.{verdict as verdictOf, machine}
+use Rattle.run.specs.Run.{State, blank, world, Taken}
+use Rattle.run.specs.SafeRun.{withinBound, stretch}
 use Rattle.reply.specs.declared.Reply.{Reply}
 use Rattle.reply.specs.declared.Reply.the-variants as reply
 use Rattle.reply.specs.Printed.{row, rowsBytes}
@@ -118,6 +120,29 @@ nonzero = unary logicalNot (binary equal (identifier 2) (constant (literal 0)))
 abbrev quotientOne : Tree
 quotientOne = binary equal (division quotient (identifier 1) (identifier 2)) (constant (literal 1))
 
+-- P10's machine: a concrete variable u, at first 0; event 3 is convergent, with guard 0 ≤ u and action u := u − 1; the variant is u
+abbrev rowsP10 : List Row
+rowsP10 =
+    row 10 3 1 0 ∷ row 20 1 0 0 ∷ row 20 1 0 0 ∷ row 20 2 1 0 ∷ row 20 22 2 3 ∷ row 20 2 1 0 ∷ row 20 1 1 0 ∷ row 20 11 5 6 ∷ row 20 2 1 0
+    ∷ row 40 1 0 0 ∷ row 40 2 0 0 ∷ row 40 2 2 0 ∷ row 50 3 4 0 ∷ row 51 2 1 1 ∷ row 51 3 1 7 ∷ row 70 8 0 0 ∷ []
+
+abbrev pub bytesP10 : List ℕ
+bytesP10 = rowsBytes rowsP10
+
+unfoldable pub falling : Machine
+falling = machine bytesP10
+
+-- the state in which u has a value, and the step of event 3 that leaves it
+abbrev pub withU : ℤ → State falling
+withU z x = asValue (falling .type x) (number z)
+
+abbrev pub stepTo : ℤ → Taken falling
+stepTo z = record { event = 3; parameters = blank falling; result = withU z }
+
+-- what the bound of the theorem on runs reads the variant in
+abbrev pub readIn : ℤ → Env (falling .type)
+readIn z = world falling (blank falling) (blank falling) (withU z) (blank falling) (blank falling) (blank falling) (blank falling)
+
 unfoldable pub cases : List Case
 cases =
     -- P1: the program prints for L
@@ -146,8 +171,11 @@ cases =
     ∷ gives (ofReading (readTree at (connective and nonzero quotientOne))) (bit false)
     ∷ gives (ofReading (readTree at (connective and quotientOne nonzero))) undefined
     -- P10: variant 0, one convergent step to −1: allowed, two are not
-    ∷ gives (bit (withinBound 1 (pos 0))) (bit true)
-    ∷ gives (bit (withinBound 2 (pos 0))) (bit false)
+    ∷ gives (ofVerdict (verdictOf bytesP10)) (accepted 6)
+    ∷ gives (ofReading (readTree (readIn (pos 0)) (falling .tree 8))) (whole (pos 0))
+    ∷ gives (ofReading (readTree (readIn (negsuc 0)) (falling .tree 8))) (whole (negsuc 0))
+    ∷ gives (bit (withinBound (stretch falling (stepTo (negsuc 0) ∷ [])) (pos 0))) (bit true)
+    ∷ gives (bit (withinBound (stretch falling (stepTo (negsuc 0) ∷ stepTo (negsuc 1) ∷ [])) (pos 0))) (bit false)
     ∷ []
 
 -- the two are the same in every case
