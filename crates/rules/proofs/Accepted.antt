@@ -19,7 +19,7 @@ use Rattle.rules.specs.declared.Verdict.{Verdict}
 use Rattle.rules.specs.declared.Verdict.the-variants.{Accepted, Refused}
 use Rattle.rules.specs.Decoded.{framed, rowCount, lineOf, notRow, decoded}
 use Rattle.rules.specs.Rules.{offends, missing, tagOffends, fullOffends, eventOffends, identifierOffends, referenceOffends, sortOffends, useOffends, sightOffends, twiceOffends}
-use Rattle.rules.specs.Verdict.{firstRow, firstCheck, judge, verdict, machine, Offence, frame, column, row, lack, FirstOffence}
+use Rattle.rules.specs.Verdict.{firstRow, firstCheck, judge, verdict, machine, Offence, frame, column, row, lack, FirstOffence, NoOffence, sequentCount}
 use Rattle.rules.proofs.Cases.{judge-row, judge-missing, judge-accepted, verdict-frame, verdict-column, verdict-judge}
 use Rattle.rules.proofs.Obeys.{Obeys}
 
@@ -27,15 +27,9 @@ both-ways : {b : Bool} → b ≡ true → b ≡ false → ⊥
 both-ways p q = true≢false (sym p ∙ q)
 
 module _ (bytes : List ℕ) where
-  abbrev pub NoOffence : Type 0
-  NoOffence = (c r : ℕ) → Offence bytes c r → ⊥
-
-  abbrev pub sequentCount : ℕ
-  sequentCount = length (sequents (machine bytes))
-
   -- one or the other
   abbrev Found : Type 0
-  Found = ((c : ℕ) × (r : ℕ) × FirstOffence bytes c r × (verdict bytes ≡ Refused c r)) ⊎ (NoOffence × (verdict bytes ≡ Accepted sequentCount))
+  Found = ((c : ℕ) × (r : ℕ) × FirstOffence bytes c r × (verdict bytes ≡ Refused c r)) ⊎ (NoOffence bytes × (verdict bytes ≡ Accepted (sequentCount bytes)))
 
   -- an offence of the check c′ at the row r′ comes no earlier than the check c at the row r
   abbrev NotBefore : ℕ → ℕ → ℕ → ℕ → Type 0
@@ -94,7 +88,7 @@ module _ (bytes : List ℕ) where
             only c r (row check i low high g e) = absurd (both-ways e (none check i low high g))
             only c r (lack e) = inr (refl, omega arith)
 
-        no-offence : missing t ≡ false → NoOffence
+        no-offence : missing t ≡ false → NoOffence bytes
         no-offence m c r (frame g) = both-ways f g
         no-offence m c r (column i g e) = both-ways e (rows i g)
         no-offence m c r (row check i low high g e) = both-ways e (none check i low high g)
@@ -167,7 +161,7 @@ module _ (bytes : List ℕ) where
           let ec : h .0 ≡ c = let q : Refused (h .0) (h .1) ≡ Refused c r = sym (h .3) ∙ v in cc in
           let er : h .1 ≡ r = let q : Refused (h .0) (h .1) ≡ Refused c r = sym (h .3) ∙ v in cc in
           subst (λ x. FirstOffence bytes x r) ec (subst (λ y. FirstOffence bytes (h .0) y) er (h .2))
-      go (inr h) = absurd (differ c r sequentCount (sym v ∙ h .1))
+      go (inr h) = absurd (differ c r (sequentCount bytes) (sym v ∙ h .1))
 
   pub first-refused : (c r : ℕ) → FirstOffence bytes c r → verdict bytes ≡ Refused c r
   first-refused c r g = go found
@@ -177,22 +171,22 @@ module _ (bytes : List ℕ) where
       go (inr h) = absurd (h .0 c r (g .offence))
 
   -- accepted iff nothing offends, and then with the count of the list
-  pub accepted-none : (n : ℕ) → verdict bytes ≡ Accepted n → NoOffence × (n ≡ sequentCount)
+  pub accepted-none : (n : ℕ) → verdict bytes ≡ Accepted n → NoOffence bytes × (n ≡ (sequentCount bytes))
   accepted-none n v = go found
     where
-      go : Found → NoOffence × (n ≡ sequentCount)
+      go : Found → NoOffence bytes × (n ≡ (sequentCount bytes))
       go (inl h) = absurd (differ (h .0) (h .1) n (sym (h .3) ∙ v))
-      go (inr h) = (h .0, let q : Accepted n ≡ Accepted sequentCount = sym v ∙ h .1 in cc)
+      go (inr h) = (h .0, let q : Accepted n ≡ Accepted (sequentCount bytes) = sym v ∙ h .1 in cc)
 
-  pub none-accepted : NoOffence → verdict bytes ≡ Accepted sequentCount
+  pub none-accepted : NoOffence bytes → verdict bytes ≡ Accepted (sequentCount bytes)
   none-accepted none = go found
     where
-      go : Found → verdict bytes ≡ Accepted sequentCount
+      go : Found → verdict bytes ≡ Accepted (sequentCount bytes)
       go (inl h) = absurd (none (h .0) (h .1) (h .2 .offence))
       go (inr h) = h .1
 
   -- row by row
-  pub none-obeys : NoOffence → Obeys (decoded bytes)
+  pub none-obeys : NoOffence bytes → Obeys (decoded bytes)
   unfolding offends
   none-obeys none = record {
     tags = λ i h. passed 3 i (omega arith) (omega arith) h;

@@ -6,8 +6,8 @@ use native.Mathlib.Omega.{arith}
 use lib.Dec.{T, ltb, eqb, lt→ltb}
 use borrow.Author.Tests.{ltb-false}
 use Rattle.formula.proofs.Truth.{eq→eqb, or-neither, and-not-right}
-use Rattle.table.specs.Rows.{Rows, tagged}
-use Rattle.table.proofs.Sections.{Rising, neighbours-rising}
+use Rattle.table.specs.Rows.{Rows, tagged, Rising}
+use Rattle.table.proofs.Sections.{neighbours-rising}
 use Rattle.rules.specs.Tags.{columnsUsed}
 use Rattle.rules.specs.Rules.{tagOffends}
 use Rattle.rules.proofs.Obeys.{Obeys}

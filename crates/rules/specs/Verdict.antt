@@ -52,3 +52,11 @@ pub data Offence (bytes : List ℕ) : ℕ → ℕ → Type 0 where
 pub record FirstOffence (bytes : List ℕ) (check at : ℕ) : Type 0 where
   pub offence : Offence bytes check at
   pub least : (c r : ℕ) → Offence bytes c r → (check < c) ⊎ ((check ≡ c) × (at ≤ r))
+
+-- "A table is accepted if and only if it meets every table rule": nothing offends against any check
+abbrev pub NoOffence : List ℕ → Type 0
+NoOffence bytes = (c r : ℕ) → Offence bytes c r → ⊥
+
+-- "accepts a table by giving the count of sequents"
+abbrev pub sequentCount : List ℕ → ℕ
+sequentCount bytes = length (sequents (machine bytes))

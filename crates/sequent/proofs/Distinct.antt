@@ -1,5 +1,5 @@
 -- No two places of the list have the same kind, event and item. The events' sequents differ in the event. Those of one event differ in the kind, whose
--- place in the order only rises, or are WD and differ in the root; the sequents of one part differ in the item. What has to differ is `Separate`.
+-- rank in the order only rises, or are WD and differ in the root; the sequents of one part differ in the item. What has to differ is `Separate`.
 use mathlib.Core.Path.{_≡_, refl, sym, ap, subst, _∙_}
 use mathlib.Core.Bool.{true, false}
 use mathlib.Core.List.{List, [], _∷_, _++_, map, flatMap, append-nil, append-assoc}
@@ -60,18 +60,18 @@ pub record Separate (m : Machine) : Type 0 where
 abbrev Different : Sequent → Sequent → Type 0
 Different s t = ¬ SameHeader s t
 
--- the place of a kind in the order of an event's sequents
-abbrev placeIn : List ℕ → ℕ → ℕ
-placeIn [] k = 0
-placeIn (x ∷ xs) k = pick (eqb k x) 0 (suc (placeIn xs k))
+-- the rank of a kind in the order of an event's sequents
+abbrev rankIn : List ℕ → ℕ → ℕ
+rankIn [] k = 0
+rankIn (x ∷ xs) k = pick (eqb k x) 0 (suc (rankIn xs k))
 
-abbrev place : ℕ → ℕ
-place k = placeIn (WD ∷ FIS ∷ WFIS ∷ GRD ∷ SIM ∷ INV ∷ NAT ∷ VAR ∷ []) k
+abbrev rank : ℕ → ℕ
+rank k = rankIn (WD ∷ FIS ∷ WFIS ∷ GRD ∷ SIM ∷ INV ∷ NAT ∷ VAR ∷ []) k
 
 -- a sequent of the event e: WD of one of the roots rs, or of a kind placed above lo and at most at hi
 record Marked (e lo hi : ℕ) (rs : List ℕ) (s : Sequent) : Type 0 where
   pub event : s .event ≡ e
-  pub mark : ((s .kind ≡ WD) × In (s .item) rs) ⊎ ((lo < place (s .kind)) × (place (s .kind) ≤ hi))
+  pub mark : ((s .kind ≡ WD) × In (s .item) rs) ⊎ ((lo < rank (s .kind)) × (rank (s .kind) ≤ hi))
 
 -- sequents of one event, marked so, no two with one header
 record Block (e lo hi : ℕ) (rs : List ℕ) (ss : List Sequent) : Type 0 where
@@ -82,12 +82,12 @@ marks-differ : {e lo mid hi : ℕ} {rs qs : List ℕ} {s t : Sequent} → ((r : 
     → Marked e lo mid rs s → Marked e mid hi qs t → Different s t
 marks-differ {e} {lo} {mid} {hi} {rs} {qs} {s} {t} disjoint h k same = by-marks (h .mark) (k .mark)
   where
-    by-marks : ((s .kind ≡ WD) × In (s .item) rs) ⊎ ((lo < place (s .kind)) × (place (s .kind) ≤ mid))
-        → ((t .kind ≡ WD) × In (t .item) qs) ⊎ ((mid < place (t .kind)) × (place (t .kind) ≤ hi)) → ⊥
+    by-marks : ((s .kind ≡ WD) × In (s .item) rs) ⊎ ((lo < rank (s .kind)) × (rank (s .kind) ≤ mid))
+        → ((t .kind ≡ WD) × In (t .item) qs) ⊎ ((mid < rank (t .kind)) × (rank (t .kind) ≤ hi)) → ⊥
     by-marks (inl a) (inl b) = disjoint (t .item) (subst (λ r. In r rs) (same .item) (a .1)) (b .1)
-    by-marks (inl a) (inr b) = omega (arith, b .0, ap place (sym (same .kind) ∙ a .0))
-    by-marks (inr a) (inl b) = omega (arith, a .0, ap place (same .kind ∙ b .0))
-    by-marks (inr a) (inr b) = omega (arith, a .1, b .0, ap place (same .kind))
+    by-marks (inl a) (inr b) = omega (arith, b .0, ap rank (sym (same .kind) ∙ a .0))
+    by-marks (inr a) (inl b) = omega (arith, a .0, ap rank (same .kind ∙ b .0))
+    by-marks (inr a) (inr b) = omega (arith, a .1, b .0, ap rank (same .kind))
 
 block-join : {e lo mid hi : ℕ} {rs qs : List ℕ} {ss ts : List Sequent} → lo ≤ mid → mid ≤ hi → ((r : ℕ) → In r rs → In r qs → ⊥)
     → Block e lo mid rs ss → Block e mid hi qs ts → Block e lo hi (rs ++ qs) (ss ++ ts)
@@ -117,18 +117,18 @@ wd-block {rs = rs} ss all items d = record {
 }
 
 -- sequents of one other kind
-kind-block : {e lo hi : ℕ} (k : ℕ) {ss : List Sequent} → lo < place k → place k ≤ hi → ((s : Sequent) → In s ss → (s .kind ≡ k) × (s .event ≡ e))
+kind-block : {e lo hi : ℕ} (k : ℕ) {ss : List Sequent} → lo < rank k → rank k ≤ hi → ((s : Sequent) → In s ss → (s .kind ≡ k) × (s .event ≡ e))
     → Pairwise Different ss → Block e lo hi [] ss
 kind-block k low high all d = record {
   apart = d;
-  marked = λ s i. record { event = all s i .1; mark = inr (omega (arith, ap place (all s i .0))) };
+  marked = λ s i. record { event = all s i .1; mark = inr (omega (arith, ap rank (all s i .0))) };
 }
 
 items-differ : {rs : List ℕ} (k e : ℕ) (hs : List Entry) (g : ℕ → Entry) → Distinct rs → Pairwise Different (map (λ r. sequent k e r hs (g r)) rs)
 items-differ k e hs g d = pairwise-map (λ r. sequent k e r hs (g r)) (pairwise-imp d (λ r q i j different same. different (same .item)))
 
 -- one sequent for each item
-item-block : {e lo hi : ℕ} (k : ℕ) (hs : List Entry) (g : ℕ → Entry) {rs : List ℕ} → lo < place k → place k ≤ hi → Distinct rs
+item-block : {e lo hi : ℕ} (k : ℕ) (hs : List Entry) (g : ℕ → Entry) {rs : List ℕ} → lo < rank k → rank k ≤ hi → Distinct rs
     → Block e lo hi [] (map (λ r. sequent k e r hs (g r)) rs)
 item-block {e} k hs g {rs} low high d =
     kind-block k low high (λ s i. let (r, j, p) = in-unmap (λ r. sequent k e r hs (g r)) rs i in (ap (λ s. s .kind) p, ap (λ s. s .event) p))
@@ -276,7 +276,7 @@ module _ (m : Machine) (separate : Separate m) where
             event = ofWitness k .0;
             mark = ⊎-elim
                 (λ a. inl (a .0, subst (λ r. In r rootsOfWitnesses) (sym (a .1)) (in-map (λ w. w .root) j)))
-                (λ a. inr (omega (arith, ap place (a .0))))
+                (λ a. inr (omega (arith, ap rank (a .0))))
                 (ofWitness k .1);
           };
     }
@@ -368,7 +368,7 @@ module _ (m : Machine) (separate : Separate m) where
       let zero-event : e ≡ 0 = sym (eventSequents-block e .marked t l .event) ∙ sym (same .event) ∙ formula-block .marked s i .event in
       separate .eventsFromOne (subst (λ e. In e (m .events)) zero-event k)))
 
-  -- "each once": two places with the same kind, event and item are one place
+  -- "each once": two places with the same kind, event and item are one rank
   pub sequents-once : (d : Sequent) (i j : ℕ) → i < length (sequents m) → j < length (sequents m)
       → SameHeader (getD (sequents m) i d) (getD (sequents m) j d) → i ≡ j
   sequents-once = pairwise-once (λ s t h. record { kind = sym (h .kind); event = sym (h .event); item = sym (h .item) }) sequents-differ

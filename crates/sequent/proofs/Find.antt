@@ -11,8 +11,7 @@ use lib.ListN.{getD}
 use Rattle.lists.specs.Choice.{pick}
 use Rattle.lists.specs.Below.{sumBelow}
 use Rattle.lists.proofs.Flat.{sum-reaches, sum-at-most, flat-at}
-use Rattle.table.specs.Rows.{Rows, count}
-use Rattle.table.proofs.Sections.{Rising}
+use Rattle.table.specs.Rows.{Rows, count, Rising}
 use Rattle.machine.specs.Described.{machineOf}
 use Rattle.sequent.specs.Sequent.{Sequent}
 use Rattle.sequent.specs.Listed.{sequents}

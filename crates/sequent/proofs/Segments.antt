@@ -15,8 +15,7 @@ use Rattle.lists.specs.Below.{numbers, keep}
 use Rattle.lists.proofs.All.{all-at}
 use Rattle.lists.proofs.Below.{numbers-in}
 use Rattle.lists.proofs.Flat.{keep-keep, keep-below, keep-only, keep-map, map-when, flat-next}
-use Rattle.table.specs.Rows.{Rows, tagged, section, isVariableNumber}
-use Rattle.table.proofs.Sections.{Rising}
+use Rattle.table.specs.Rows.{Rows, tagged, section, isVariableNumber, Rising}
 use Rattle.machine.specs.Machine.{Witness}
 use Rattle.machine.specs.Described.{machineOf}
 use Rattle.machine.proofs.Variables.{variable-numbered}

@@ -15,8 +15,7 @@ use Rattle.lists.specs.Below.{oneIf, countBelow, numbers, keep}
 use Rattle.lists.proofs.All.{all-at}
 use Rattle.lists.proofs.Below.{count-sum, numbers-in, in-numbers}
 use Rattle.lists.proofs.Flat.{flat-none, flat-join, flat-same, keep-either, keep-length, flat-length, sum-same}
-use Rattle.table.specs.Rows.{Rows, tagged, section, count}
-use Rattle.table.proofs.Sections.{Rising}
+use Rattle.table.specs.Rows.{Rows, tagged, section, count, Rising}
 use Rattle.machine.specs.Described.{machineOf}
 use Rattle.sequent.specs.Entry.{Entry, written}
 use Rattle.sequent.specs.Sequent.{Sequent}

@@ -6,8 +6,7 @@ use mathlib.Core.List.{List, [], _∷_, _++_}
 use mathlib.Core.Logic.{_⊎_, inl, inr}
 use native.Mathlib.Omega.{arith}
 use lib.ListN.{length, getD}
-use Rattle.table.specs.Rows.{Rows, count}
-use Rattle.table.proofs.Sections.{Rising}
+use Rattle.table.specs.Rows.{Rows, count, Rising}
 use Rattle.machine.specs.Described.{machineOf}
 use Rattle.sequent.specs.Entry.{written}
 use Rattle.sequent.specs.Sequent.{Sequent}

@@ -7,8 +7,7 @@ use lib.Dec.{ltb}
 use lib.ListN.{length}
 use borrow.Author.Tests.{ltb-true, ltb-false}
 use Rattle.lists.proofs.First.{first-least}
-use Rattle.table.specs.Rows.{Rows}
-use Rattle.table.proofs.Sections.{Rising}
+use Rattle.table.specs.Rows.{Rows, Rising}
 use Rattle.machine.specs.Described.{machineOf}
 use Rattle.sequent.specs.Listed.{sequents}
 use Rattle.rules.specs.declared.Verdict.the-variants.{Accepted, Refused}

@@ -14,7 +14,7 @@ use Rattle.lists.specs.Distinct.{Distinct}
 use Rattle.lists.specs.Below.{oneIf, numbers}
 use Rattle.lists.proofs.Distinct.{pairwise-keep, numbers-distinct}
 use Rattle.lists.proofs.Below.{count-boundary, count-at-most, count-sum, numbers-in, in-numbers, keep-in, in-keep}
-use Rattle.table.specs.Rows.{Rows, tagged, section, count, start, named, rowOf, numberIn}
+use Rattle.table.specs.Rows.{Rising, Rows, tagged, section, count, start, named, rowOf, numberIn}
 
 module _ (t : Rows) where
   -- the rows of a section
@@ -46,12 +46,8 @@ module _ (t : Rows) where
       go true f = le→leb n (count t k) h
       go false f = absurd f
 
-  -- 01: "tags never fall"
-  abbrev pub Rising : Type 0
-  Rising = (i j : ℕ) → i ≤ j → j < t .size → t .tag i ≤ t .tag j
-
   -- it is enough to compare neighbours
-  pub neighbours-rising : ((i : ℕ) → suc i < t .size → t .tag i ≤ t .tag (suc i)) → Rising
+  pub neighbours-rising : ((i : ℕ) → suc i < t .size → t .tag i ≤ t .tag (suc i)) → Rising t
   neighbours-rising step i zero l h = let e : i ≡ 0 = omega arith in subst (λ x. t .tag x ≤ t .tag 0) (sym e) (omega arith)
   neighbours-rising step i (suc j) l h = go (neighbours-rising step i j) (eq-or-lt-of-le l)
     where
@@ -74,7 +70,7 @@ module _ (t : Rows) where
   unfolding start count
   start-next k = count-sum (lower k) (tagged t k) (lower (suc k)) (λ i. below-parts k (t .tag i)) (t .size)
 
-  module _ (rising : Rising) where
+  module _ (rising : Rising t) where
     -- a row's tag is lower than k exactly where the row is below the start of k
     start-boundary : (k i : ℕ) → i < t .size → (t .tag i < k → i < start t k) × (i < start t k → t .tag i < k)
     unfolding start

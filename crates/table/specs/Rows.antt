@@ -1,5 +1,5 @@
 -- 01, Rows: a table's rows as numbers, their sections, and how identifiers, nodes and events are named.
-use Prim.Native.Nat.{ℕ, zero, suc, _+_, _-_, _*_, _/_}
+use Prim.Native.Nat.{ℕ, zero, suc, _+_, _-_, _*_, _/_, _≤_, _<_}
 use mathlib.Core.Bool.{Bool, true, false, not, _&&_, _||_}
 use mathlib.Core.List.{List, [], _∷_, _++_, map}
 use lib.Dec.{ltb, leb, eqb}
@@ -92,3 +92,7 @@ module _ (t : Rows) where
   -- 01: 51 and 52 are the actions
   abbrev pub isAction : ℕ → Bool
   isAction i = tagged 51 i || tagged 52 i
+
+  -- 01: "tags never fall"
+  abbrev pub Rising : Type 0
+  Rising = (i j : ℕ) → i ≤ j → j < t .size → t .tag i ≤ t .tag j
