@@ -368,7 +368,7 @@ module _ (m : Machine) (separate : Separate m) where
       let zero-event : e ≡ 0 = sym (eventSequents-block e .marked t l .event) ∙ sym (same .event) ∙ formula-block .marked s i .event in
       separate .eventsFromOne (subst (λ e. In e (m .events)) zero-event k)))
 
-  -- "each once": two places with the same kind, event and item are one rank
+  -- "each once": two places with the same kind, event and item are one place
   pub sequents-once : (d : Sequent) (i j : ℕ) → i < length (sequents m) → j < length (sequents m)
       → SameHeader (getD (sequents m) i d) (getD (sequents m) j d) → i ≡ j
   sequents-once = pairwise-once (λ s t h. record { kind = sym (h .kind); event = sym (h .event); item = sym (h .item) }) sequents-differ
