@@ -4,6 +4,8 @@ use crate::checks::{Refusal, ROOM};
 use crate::generate::random::Random;
 use crate::rows::{bytes_of, Row, ROW_BYTES};
 use crate::services::Answers;
+use crate::stack::on_thread;
+use std::mem::take;
 
 /// What a service answers: 0 or the refusal's number, and the count or the row.
 #[derive(Clone, Copy, Debug, PartialEq, Eq)]
@@ -14,6 +16,8 @@ pub struct Reply {
 
 /// The services, as the C header has them.
 pub trait Services: Sync {
+    /// Bytes of stack for a thread that calls.
+    fn stack(&self) -> usize;
     fn check(&self, table: &[u8]) -> Reply;
     fn write_sequent(&self, table: &[u8], k: u64, out: &mut [u8]) -> Reply;
     fn spell_entry(&self, table: &[u8], k: u64, j: u64, out: &mut [u8]) -> Reply;
@@ -25,6 +29,24 @@ pub enum Call {
     Check,
     Write { k: u64, room: usize },
     Spell { k: u64, j: u64, room: usize },
+}
+
+impl Call {
+    /// The length of the buffer.
+    pub fn room(self) -> usize {
+        match self {
+            Call::Check => 0,
+            Call::Write { room, .. } | Call::Spell { room, .. } => room,
+        }
+    }
+
+    pub fn make(self, services: &dyn Services, table: &[u8], out: &mut [u8]) -> Reply {
+        match self {
+            Call::Check => services.check(table),
+            Call::Write { k, .. } => services.write_sequent(table, k, out),
+            Call::Spell { k, j, .. } => services.spell_entry(table, k, j, out),
+        }
+    }
 }
 
 /// A reply, and the buffer with a margin on either side.
@@ -59,11 +81,19 @@ pub enum Effort {
     Every,
 }
 
-/// The calls made with a table, and how they were answered.
+/// Calls that ask for the same rows, with buffers of several lengths.
+struct Planned {
+    calls: Vec<Call>,
+    rows: Result<Vec<Row>, Refusal>,
+}
+
+/// The calls made with a table, and how they were answered. What they must answer is worked out before, as that takes
+/// more stack than a thread that calls may have.
 pub struct Comparison<'a> {
     services: &'a dyn Services,
     table: &'a [u8],
     answers: Answers,
+    planned: Vec<Planned>,
     pub calls: u64,
     /// Calls answered by refusals 13, 14 and 15.
     pub refused: [u64; 3],
@@ -76,6 +106,7 @@ impl<'a> Comparison<'a> {
             services,
             table,
             answers: Answers::of(table),
+            planned: vec![],
             calls: 0,
             refused: [0; 3],
             difference: None,
@@ -89,7 +120,6 @@ impl<'a> Comparison<'a> {
 
     /// Makes the calls, up to the first difference.
     pub fn run(mut self, effort: Effort, random: &mut Random) -> Self {
-        self.compare_check();
         let count = self.count();
         let mut written = chosen(count, effort, random);
         let mut spelled = spelled(count, effort, random);
@@ -98,7 +128,7 @@ impl<'a> Comparison<'a> {
             spelled = vec![random.pick(&spelled), random.pick(&spelled)];
         }
         for k in written {
-            self.compare_write(k, effort, random);
+            self.plan_write(k, effort, random);
         }
         let all_at = random.between(1, 3);
         for (n, k) in spelled.into_iter().enumerate() {
@@ -107,17 +137,16 @@ impl<'a> Comparison<'a> {
                 places = vec![random.pick(&places)];
             }
             for j in places {
-                self.compare_spell(k, j, effort, random);
+                self.plan_spell(k, j, effort, random);
             }
         }
-        self
+        self.make_calls()
     }
 
     /// Makes the calls most like one that differed: its numbers, counted from either end of their lists.
     pub fn run_near(mut self, difference: &Difference, random: &mut Random) -> Self {
-        self.compare_check();
         let (k, j) = match difference.call {
-            Call::Check => return self,
+            Call::Check => return self.make_calls(),
             Call::Write { k, .. } => (k, None),
             Call::Spell { k, j, .. } => (k, Some(j)),
         };
@@ -125,14 +154,14 @@ impl<'a> Comparison<'a> {
         let around = (0..5).flat_map(|n| [k, from_end].map(|k| k.wrapping_add(n).wrapping_sub(2)));
         for k in around {
             let Some(j) = j else {
-                self.compare_write(k, Effort::All, random);
+                self.plan_write(k, Effort::All, random);
                 continue;
             };
             for j in [j, self.entries(k).wrapping_sub(difference.after.1)] {
-                self.compare_spell(k, j, Effort::All, random);
+                self.plan_spell(k, j, Effort::All, random);
             }
         }
-        self
+        self.make_calls()
     }
 
     fn count(&self) -> u64 {
@@ -146,51 +175,50 @@ impl<'a> Comparison<'a> {
             .map_or(0, |rows| rows.len() as u64 - 1)
     }
 
+    fn plan_write(&mut self, k: u64, effort: Effort, random: &mut Random) {
+        let rows = self.answers.sequent(k as usize);
+        let rooms = rooms(&rows, effort, random).into_iter();
+        let calls = rooms.map(|room| Call::Write { k, room }).collect();
+        self.planned.push(Planned { calls, rows });
+    }
+
+    fn plan_spell(&mut self, k: u64, j: u64, effort: Effort, random: &mut Random) {
+        let rows = self.answers.entry(k as usize, j as usize);
+        let rooms = rooms(&rows, effort, random).into_iter();
+        let calls = rooms.map(|room| Call::Spell { k, j, room }).collect();
+        self.planned.push(Planned { calls, rows });
+    }
+
+    /// Check and the planned calls, on a thread with the stack that is stated and no more.
+    fn make_calls(mut self) -> Self {
+        let planned = take(&mut self.planned);
+        on_thread(self.services.stack(), || {
+            self.compare_check();
+            for Planned { calls, rows } in &planned {
+                for &call in calls {
+                    self.compare_buffer(call, rows);
+                }
+            }
+        });
+        self
+    }
+
     fn compare_check(&mut self) {
-        let expected = self.answers.check();
+        let expected = reply_of(self.answers.check());
         let reply = self.services.check(self.table);
-        self.settle(Call::Check, reply_of(expected), reply, vec![], vec![]);
+        self.settle(Call::Check, expected, reply, vec![], vec![]);
     }
 
-    fn compare_write(&mut self, k: u64, effort: Effort, random: &mut Random) {
-        let expected = self.answers.sequent(k as usize);
-        for room in rooms(&expected, effort, random) {
-            let call = Call::Write { k, room };
-            self.compare_buffer(call, &expected, room, |services, table, out| {
-                services.write_sequent(table, k, out)
-            });
-        }
-    }
-
-    fn compare_spell(&mut self, k: u64, j: u64, effort: Effort, random: &mut Random) {
-        let expected = self.answers.entry(k as usize, j as usize);
-        for room in rooms(&expected, effort, random) {
-            let call = Call::Spell { k, j, room };
-            self.compare_buffer(call, &expected, room, |services, table, out| {
-                services.spell_entry(table, k, j, out)
-            });
-        }
-    }
-
-    /// One call with a filled buffer of this length.
-    fn compare_buffer(
-        &mut self,
-        call: Call,
-        rows: &Result<Vec<Row>, Refusal>,
-        room: usize,
-        make: impl Fn(&dyn Services, &[u8], &mut [u8]) -> Reply,
-    ) {
+    /// One call with a filled buffer.
+    fn compare_buffer(&mut self, call: Call, rows: &Result<Vec<Row>, Refusal>) {
         if self.difference.is_some() {
             return;
         }
-        let mut buffer: Vec<u8> = (0..room + 2 * MARGIN).map(filler).collect();
+        let within = MARGIN..MARGIN + call.room();
+        let mut buffer: Vec<u8> = (0..within.end + MARGIN).map(filler).collect();
         let mut wanted = buffer.clone();
-        let expected = write(rows, &mut wanted[MARGIN..MARGIN + room]);
-        let reply = make(
-            self.services,
-            self.table,
-            &mut buffer[MARGIN..MARGIN + room],
-        );
+        let expected = write(rows, &mut wanted[within.clone()]);
+        let reply = call.make(self.services, self.table, &mut buffer[within]);
         self.settle(call, expected, reply, wanted, buffer);
     }
 

@@ -15,5 +15,6 @@ pub mod rows;
 pub mod sequents;
 pub mod services;
 pub mod shrink;
+pub mod stack;
 pub mod statistics;
 pub mod table;

@@ -1,6 +1,7 @@
 //! The proved library behind its C header. Built only where build.rs has found it.
 
 use crate::against::{Reply, Services};
+use crate::stack::STACK;
 
 extern "C" {
     fn sifthorma_check(table: *const u8, table_length: usize, value: *mut u64) -> u64;
@@ -30,6 +31,10 @@ pub struct Library;
 
 // The pointers below come from slices and live references, as the header asks.
 impl Services for Library {
+    fn stack(&self) -> usize {
+        STACK
+    }
+
     fn check(&self, table: &[u8]) -> Reply {
         let mut value = UNSET;
         let number = unsafe { sifthorma_check(table.as_ptr(), table.len(), &mut value) };

@@ -1,11 +1,18 @@
 //! The comparison finds faults that are put in on purpose, and shows them on small tables.
 
-use compare::against::{Call, Reply, Services};
+mod common;
+
+use compare::against::{Call, Comparison, Effort, Reply, Services};
 use compare::campaign::{compare, Found};
 use compare::checks::Refusal;
+use compare::generate::random::Random;
 use compare::rows::{Row, ROW_BYTES};
 use compare::services::{check, spell_entry, write_sequent};
 use compare::shrink::{rows_of, shrink};
+use compare::stack::STACK;
+use std::collections::BTreeSet;
+use std::ffi::c_void;
+use std::sync::Mutex;
 use std::time::Duration;
 
 /// What goes wrong with a call that this program has answered.
@@ -25,6 +32,11 @@ fn reply(answer: Result<usize, Refusal>) -> Reply {
 }
 
 impl Services for Faulty {
+    /// Enough for the recursion of this program.
+    fn stack(&self) -> usize {
+        8 << 20
+    }
+
     fn check(&self, table: &[u8]) -> Reply {
         let mut reply = reply(check(table));
         self.0(Call::Check, &mut reply, &mut []);
@@ -151,4 +163,68 @@ fn an_accepted_table_is_made_smaller() {
         let small = shrink(&table, Duration::from_secs(20), divides);
         assert!(small.len() <= 12 * ROW_BYTES, "{}", small.len());
     }
+}
+
+extern "C" {
+    fn pthread_self() -> usize;
+    fn pthread_getattr_np(thread: usize, attributes: *mut c_void) -> i32;
+    fn pthread_attr_getstacksize(attributes: *const c_void, size: *mut usize) -> i32;
+    fn pthread_attr_destroy(attributes: *mut c_void) -> i32;
+}
+
+/// The stack of this thread, in bytes.
+fn own_stack() -> usize {
+    // More than the attributes of a thread take.
+    let mut attributes = [0u64; 32];
+    let start = attributes.as_mut_ptr().cast();
+    let mut size = 0;
+    unsafe {
+        assert_eq!(pthread_getattr_np(pthread_self(), start), 0);
+        assert_eq!(pthread_attr_getstacksize(start, &mut size), 0);
+        assert_eq!(pthread_attr_destroy(start), 0);
+    }
+    size
+}
+
+/// Answers as this program does, and notes the service and the stack that it is called with.
+struct Noting(Mutex<BTreeSet<(&'static str, usize)>>);
+
+impl Noting {
+    fn note(&self, service: &'static str) {
+        let mut noted = self.0.lock().expect("no call panics");
+        noted.insert((service, own_stack()));
+    }
+}
+
+impl Services for Noting {
+    fn stack(&self) -> usize {
+        STACK
+    }
+
+    fn check(&self, table: &[u8]) -> Reply {
+        self.note("check");
+        reply(check(table))
+    }
+
+    fn write_sequent(&self, table: &[u8], k: u64, out: &mut [u8]) -> Reply {
+        self.note("write");
+        reply(write_sequent(table, k as usize, out))
+    }
+
+    fn spell_entry(&self, table: &[u8], k: u64, j: u64, out: &mut [u8]) -> Reply {
+        self.note("spell");
+        reply(spell_entry(table, k as usize, j as usize, out))
+    }
+}
+
+/// Every call is made on a thread with the stack that is stated: no more, and no less.
+#[test]
+fn calls_have_the_stated_stack() {
+    let noting = Noting(Mutex::default());
+    let table = common::table(common::L);
+    let comparison = Comparison::new(&noting, &table).run(Effort::All, &mut Random::new(0));
+    assert!(comparison.difference.is_none());
+    let noted = noting.0.into_inner().expect("no call panics");
+    let stated = ["check", "spell", "write"].map(|service| (service, STACK));
+    assert_eq!(noted, BTreeSet::from(stated));
 }
