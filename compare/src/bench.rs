@@ -63,6 +63,13 @@ fn growing_ones() -> [Sizes; 2] {
     ]
 }
 
+/// The tables by name.
+pub fn tables() -> Vec<(&'static str, Vec<u8>)> {
+    let grown = growing_ones().into_iter().flatten();
+    let all = single().into_iter().chain(grown);
+    all.map(|subject| (subject.name, subject.table)).collect()
+}
+
 fn rows_of(draft: impl Fn(&mut Random) -> Draft) -> Vec<u8> {
     let mut random = Random::new(1);
     let draft = draft(&mut random);

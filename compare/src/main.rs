@@ -14,12 +14,12 @@ use std::path::Path;
 use std::process::ExitCode;
 
 #[cfg(library)]
-use compare::{campaign, library::Library};
+use compare::{campaign, library::Library, stack::report};
 
 const USAGE: &str =
     "use: compare print | sequent K | entry K J | layout | refute LOW HIGH | table SEED
      | statistics SEEDS [FIRST] | against-library TABLES [FIRST]
-     | against-program PROGRAM TABLES [FIRST] | bench [PROGRAM]";
+     | against-program PROGRAM TABLES [FIRST] | bench [PROGRAM] | stack";
 
 fn main() -> ExitCode {
     let words: Vec<String> = std::env::args().skip(1).collect();
@@ -75,6 +75,7 @@ fn compared(words: &[&str]) -> Result<Vec<u8>, String> {
             against_program(program, number(count)?, number(first)?)
         }
         ["bench"] => bench_library(),
+        ["stack"] => stack_of_library(),
         ["bench", program] => {
             let this = std::env::current_exe().map_err(|error| error.to_string())?;
             let (proved, rust) = (program_of(program), Program::new(&this, &["print"]));
@@ -101,6 +102,12 @@ fn bench_library() -> Result<Vec<u8>, String> {
     Ok(bench::library(&Library)?.into_bytes())
 }
 
+/// Measures the stack that calls of the proved library use.
+#[cfg(library)]
+fn stack_of_library() -> Result<Vec<u8>, String> {
+    Ok(report::report(&Library)?.into_bytes())
+}
+
 #[cfg(not(library))]
 const NO_LIBRARY: &str =
     "this was built without the library: set SIFTHORMA_LIBRARY to the path of libsifthorma.a";
@@ -112,6 +119,11 @@ fn against_library(_: u64, _: u64) -> Result<Vec<u8>, String> {
 
 #[cfg(not(library))]
 fn bench_library() -> Result<Vec<u8>, String> {
+    Err(NO_LIBRARY.to_string())
+}
+
+#[cfg(not(library))]
+fn stack_of_library() -> Result<Vec<u8>, String> {
     Err(NO_LIBRARY.to_string())
 }
 

@@ -1,10 +1,15 @@
-//! The stack that a call of the services needs: threads with exactly as much as is stated.
+//! The stack that a call of the services needs: threads with exactly as much as is stated, and what a call uses.
 
+pub mod report;
+pub mod tables;
+
+use crate::against::{Call, Reply, Services};
+use std::hint::black_box;
 use std::panic::resume_unwind;
 use std::thread::{scope, Builder};
 
 /// Bytes of stack for a thread that calls the library, as include/sifthorma.h states them: the largest use measured
-/// and a third more, up to a multiple of 64 KB, which is whole pages on every system.
+/// (`compare stack`) and a third more, up to a multiple of 64 KB, which is whole pages on every system.
 pub const STACK: usize = 5 * 64 * 1024;
 
 /// Makes the call on a thread with so many bytes of stack. The C library may reuse the stack of an ended thread that is up to
@@ -15,4 +20,60 @@ pub fn on_thread<T: Send>(bytes: usize, call: impl FnOnce() -> T + Send) -> T {
         let reply = thread.expect("a thread starts").join();
         reply.unwrap_or_else(|panic| resume_unwind(panic))
     })
+}
+
+/// The reply to a call, and how many bytes of stack it used.
+pub fn measure(services: &dyn Services, table: &[u8], call: Call) -> (Reply, usize) {
+    let mut out = vec![0; call.room()];
+    on_thread(AREA + REST, || {
+        used(|| call.make(services, table, &mut out))
+    })
+}
+
+/// Bytes of stack that are filled before a call; one that changes them all isn't measured.
+const AREA: usize = 1 << 20;
+
+/// Bytes between a frame and those filled below it, for the code that fills and reads.
+const GAP: usize = 4096;
+
+/// More than enough for all that a thread has on its stack before the call.
+const REST: usize = 1 << 20;
+
+/// What the filled words hold.
+const FILLED: u64 = 0x9E3A_51C7_D264_0B8F;
+
+/// Makes the call and gives how many bytes below this frame it has changed.
+#[inline(never)]
+fn used<T>(call: impl FnOnce() -> T) -> (T, usize) {
+    let here = black_box(0u64);
+    let start = fill();
+    let reply = call();
+    let lowest = lowest_changed(start);
+    assert!(lowest > start, "the call uses more than {AREA} bytes");
+    (reply, &raw const here as usize - lowest)
+}
+
+/// Fills the stack below this frame and gives the lowest address filled.
+#[inline(never)]
+fn fill() -> usize {
+    let here = black_box(0u64);
+    let end = (&raw const here as usize - GAP) & !7;
+    let mut at = end - AREA;
+    while at < end {
+        // The thread's own stack, lower than any frame in use.
+        unsafe { (at as *mut u64).write_volatile(FILLED) };
+        at += 8;
+    }
+    end - AREA
+}
+
+/// The lowest address that no longer holds what was filled in.
+#[inline(never)]
+fn lowest_changed(start: usize) -> usize {
+    let mut at = start;
+    // The same words as above.
+    while at < start + AREA && unsafe { (at as *const u64).read_volatile() } == FILLED {
+        at += 8;
+    }
+    at
 }

@@ -1,0 +1,69 @@
+//! The measurement of the stack that calls use.
+
+use compare::against::{Call, Reply, Services};
+use compare::services::check;
+use compare::stack::tables::groups;
+use compare::stack::{measure, STACK};
+use std::hint::black_box;
+
+/// Uses at least so many bytes of stack for each byte of the table.
+struct Deep;
+
+const A_LEVEL: usize = 1000;
+
+/// One array for each level, all alive at the deepest.
+#[inline(never)]
+fn go_down(levels: usize) -> u64 {
+    let array = black_box([levels as u8; A_LEVEL]);
+    let below = if levels > 1 { go_down(levels - 1) } else { 0 };
+    below + u64::from(black_box(&array)[levels % A_LEVEL] > 0)
+}
+
+impl Services for Deep {
+    fn stack(&self) -> usize {
+        STACK
+    }
+
+    fn check(&self, table: &[u8]) -> Reply {
+        let value = go_down(table.len());
+        Reply { number: 0, value }
+    }
+
+    fn write_sequent(&self, table: &[u8], _: u64, _: &mut [u8]) -> Reply {
+        self.check(table)
+    }
+
+    fn spell_entry(&self, table: &[u8], _: u64, _: u64, _: &mut [u8]) -> Reply {
+        self.check(table)
+    }
+}
+
+/// What is measured grows as the use does, and is no less.
+#[test]
+fn use_is_measured() {
+    let used = |levels: usize| measure(&Deep, &vec![1; levels], Call::Check).1;
+    let (low, high) = (used(20), used(220));
+    assert!(low >= 20 * A_LEVEL, "{low}");
+    let a_level = (high - low) / 200;
+    assert_eq!((high - low) % 200, 0);
+    // The array is made, and may be copied once.
+    assert!((A_LEVEL..3 * A_LEVEL).contains(&a_level), "{a_level}");
+    assert!(low < 20 * a_level + 8192, "{low}");
+}
+
+/// Groups named for a refusal have it, shared nodes are refused too, generated tables are any, all others are accepted.
+#[test]
+fn tables_are_what_their_groups_say() {
+    for group in groups() {
+        assert!(!group.tables.is_empty(), "{}", group.name);
+        for (words, table) in &group.tables {
+            let number = check(table).map_or_else(|refusal| refusal.number, |_| 0);
+            let fits = match group.name.strip_prefix("refused by ") {
+                Some(wanted) => wanted == number.to_string(),
+                None if group.name.starts_with("shared") => (7..=9).contains(&number),
+                None => number == 0 || group.name == "generated",
+            };
+            assert!(fits, "{} {words}: {number}", group.name);
+        }
+    }
+}
