@@ -35,6 +35,11 @@
  *
  * Lifetimes. Nothing is kept after the call: no pointer, no table, no state. Nothing is allocated. Calls from several threads
  * don't meet, as long as their buffers don't.
+ *
+ * Stack. A thread that calls is created with SIFTHORMA_STACK bytes of stack or more (pthread_attr_setstacksize); what its own
+ * code and thread-local variables use comes on top. With less a call can run off the stack, which ends the program. Arrays have
+ * fixed lengths, and recursion goes by rows or by nodes, whose numbers are limited, so no input needs more than the tables at
+ * the limits. What these need was measured and a third added; it isn't proved (docs/MEASUREMENTS.md).
  */
 #ifndef SIFTHORMA_H
 #define SIFTHORMA_H
@@ -48,6 +53,9 @@ extern "C" {
 
 /* The bytes of a row: a buffer for n rows has n * SIFTHORMA_ROW bytes. */
 #define SIFTHORMA_ROW 38
+
+/* The bytes of stack of a thread that calls: see Stack above. */
+#define SIFTHORMA_STACK 327680
 
 /* The refusals, by the numbers that the functions return. */
 enum {

@@ -1,10 +1,17 @@
-//! The measurement of the stack that calls use.
+//! The stack that is stated, and the measurement of what calls use.
 
 use compare::against::{Call, Reply, Services};
 use compare::services::check;
 use compare::stack::tables::groups;
 use compare::stack::{measure, STACK};
 use std::hint::black_box;
+
+#[test]
+fn the_header_states_the_stack() {
+    let header = include_str!("../../include/sifthorma.h");
+    let line = format!("#define SIFTHORMA_STACK {STACK}");
+    assert!(header.lines().any(|one| one == line), "{line}");
+}
 
 /// Uses at least so many bytes of stack for each byte of the table.
 struct Deep;
