@@ -1,4 +1,4 @@
-//! The sizes that the paper wants run, and the largest answers.
+//! The sizes that the paper wants run, and the largest answers found.
 
 mod common;
 

@@ -325,7 +325,7 @@ fn sees_after(draft: &Draft, (tag, _, target): Place, number: i32) -> bool {
 pub const EXTREMES: usize = 9;
 
 /// Tables at the limits. Numbers 1, 2 and 3 have the most sequents, the longest sequent
-/// and the longest spelled entry that any table can have.
+/// and the longest spelled entry that were found.
 pub fn extreme(number: usize, random: &mut Random) -> Draft {
     let full = Plan {
         axioms: 16,
