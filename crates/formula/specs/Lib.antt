@@ -4,5 +4,4 @@ pub mod Evaluate
 pub mod WellDefined
 pub mod AfterValues
 pub mod Mentions
-pub mod Sort
 pub mod Formula

@@ -8,7 +8,7 @@ use lib.Dec.{T, eqb}
 use borrow.Author.Tests.{eqb-true}
 use Rattle.lists.specs.Choice.{pick}
 use Rattle.formula.specs.Values.{ValueType, integer, boolean}
-use Rattle.formula.specs.Sort.{constantType, unaryType, binaryType}
+use Rattle.formula.proofs.Sort.{constantType, unaryType, binaryType}
 use Rattle.formula.proofs.Truth.{and-split}
 use Rattle.machine.specs.Operator.{Operator, literalOf, identifierOf, afterOf, constantOf, unaryOf, binaryOf, divisionOf, connectiveOf, unknown}
 use Rattle.machine.specs.Operator.{Numbered, is, operators, rowNumbered, operatorNumbered, resultSort}

@@ -8,7 +8,7 @@ use lib.Dec.{T, eqb, eqb→eq}
 use Rattle.lists.specs.Choice.{pick}
 use Rattle.formula.specs.Values.{ValueType}
 use Rattle.formula.specs.Tree.{Tree}
-use Rattle.formula.specs.Sort.{treeType}
+use Rattle.formula.proofs.Sort.{treeType}
 use Rattle.formula.proofs.Truth.{or-cases, or-neither, rule-met}
 use Rattle.table.specs.Rows.{Rows, tagged, typeOf, operatorOf, leftOf}
 use Rattle.machine.specs.Operator as meaning

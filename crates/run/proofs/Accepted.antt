@@ -13,7 +13,7 @@ use Rattle.lists.proofs.All.{all-in, all-map, in-nil, in-cons, in-map, in-unmap
 use Rattle.table.specs.Rows.{Rows, named, section, kindOf, typeOf, machineNumber, classOf, refinedBy}
 use Rattle.table.proofs.Sections.{section-row, row-section, named-bounds}
 use Rattle.formula.specs.Values.{integer}
-use Rattle.formula.specs.Sort.{treeType}
+use Rattle.formula.proofs.Sort.{treeType}
 use Rattle.formula.proofs.Truth.{and-split, or-cases, true-test}
 use Rattle.machine.specs.Machine.{Witness, unassigned}
 use Rattle.machine.specs.Machine.{Role, abstractInitialisation, abstractOrdinary, concreteInitialisation, refining, convergent}

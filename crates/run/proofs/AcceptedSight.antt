@@ -13,7 +13,7 @@ use Rattle.lists.proofs.Below.{some-found}
 use Rattle.table.specs.Rows.{Rows, named, section, kindOf, typeOf, ownerOf, machineNumber, classOf, refinedBy}
 use Rattle.table.proofs.Sections.{section-row, named-bounds}
 use Rattle.formula.specs.Mentions.{mentions}
-use Rattle.formula.specs.Sort.{treeType}
+use Rattle.formula.proofs.Sort.{treeType}
 use Rattle.formula.proofs.Mentions.{mentions-imp}
 use Rattle.formula.proofs.Truth.{eq→eqb, and-split, or-left, or-right, or-cases}
 use Rattle.machine.specs.Machine.{Kind, constantKind, abstractVariable, concreteVariable, abstractParameter, concreteParameter}

@@ -9,7 +9,7 @@ use Rattle.lists.proofs.All.{all-head, all-tail, all-join, all-imp}
 use Rattle.formula.specs.Values.{ValueType, Value, AnyValue, wrap, asValue}
 use Rattle.formula.specs.Evaluate.{Env, evaluate, readTree, True}
 use Rattle.formula.specs.WellDefined.{wellDefined}
-use Rattle.formula.specs.Sort.{treeType}
+use Rattle.formula.proofs.Sort.{treeType}
 use Rattle.formula.proofs.Values.{as-value-wrap, equal-value-eq, eq-equal-value}
 use Rattle.formula.proofs.WellDefined.{well-defined-reads, reads-total, reads-well-defined, true-reads, reads-true}
 use Rattle.formula.proofs.Sort.{evaluate-type}

@@ -7,7 +7,7 @@ use lib.Dec.{T, eqb}
 use Rattle.lists.specs.All.{All, In}
 use Rattle.formula.specs.Values.{integer}
 use Rattle.formula.specs.Mentions.{mentions}
-use Rattle.formula.specs.Sort.{treeType}
+use Rattle.formula.proofs.Sort.{treeType}
 use Rattle.machine.specs.Machine.{Kind, constantKind, abstractVariable, concreteVariable, abstractParameter, concreteParameter}
 use Rattle.machine.specs.Machine.{Action, unassigned, becomesEqual, becomesSuchThat, Witness, Machine}
 use Rattle.machine.specs.Machine.{Role, abstractInitialisation, abstractOrdinary, concreteInitialisation, refining, convergent}
