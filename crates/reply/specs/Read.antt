@@ -1,0 +1,53 @@
+-- A spelled entry read back: 01, Sequents, "rows 83 in prefix order (operator, b of operators 1 to 3, 0)". A node is read by its operator, then its operands
+-- from what follows; whatever follows the formula is left.
+use Prim.Native.Nat.{ℕ, zero, suc}
+use mathlib.Core.Bool.{true, false, _&&_}
+use mathlib.Core.List.{List, [], _∷_}
+use mathlib.Core.Option.{Option, none, some}
+use lib.Dec.{eqb}
+use lib.ListN.{length}
+use Rattle.lists.specs.Choice.{pick}
+use Rattle.row.specs.declared.Row.{Row}
+use Rattle.formula.specs.Tree.{literal, Tree, constant, identifier, after, unary, binary, division, connective}
+use Rattle.formula.specs.Formula.{Formula, plain, someValue, someAfterValue}
+use Rattle.machine.specs.Operator.{Operator, literalOf, identifierOf, afterOf, constantOf, unaryOf, binaryOf, divisionOf, connectiveOf, unknown, operatorNumbered}
+
+-- what is read from the front of the rows, and the rows that are left
+abbrev pub Reader : Type 0 → Type 0
+Reader A = List Row → Option (A × List Row)
+
+-- something made of what is read
+abbrev pub made : {A B : Type 0} → (A → B) → Option (A × List Row) → Option (B × List Row)
+made f none = none
+made f (some p) = some (f (p .0), p .1)
+
+-- one operand, or two, the second from what the first leaves
+abbrev pub readTwo : (Tree → Tree → Tree) → Reader Tree → Option (Tree × List Row) → Option (Tree × List Row)
+readTwo f read none = none
+readTwo f read (some p) = made (f (p .0)) (read (p .1))
+
+-- a node by its operator and column b
+abbrev pub readNode : Operator → ℕ → Reader Tree → Reader Tree
+readNode literalOf b read rs = some (constant (literal b), rs)
+readNode identifierOf b read rs = some (identifier b, rs)
+readNode afterOf b read rs = some (after b, rs)
+readNode (constantOf c) b read rs = some (constant c, rs)
+readNode (unaryOf o) b read rs = made (unary o) (read rs)
+readNode (binaryOf o) b read rs = readTwo (binary o) read (read rs)
+readNode (divisionOf o) b read rs = readTwo (division o) read (read rs)
+readNode (connectiveOf o) b read rs = readTwo (connective o) read (read rs)
+readNode unknown b read rs = none
+
+-- a tree of at most as many nodes as the bound says
+unfoldable pub readTree : ℕ → Reader Tree
+readTree zero rs = none
+readTree (suc most) [] = none
+readTree (suc most) (r ∷ rs) = pick (eqb (r .tag) 83) (readNode (operatorNumbered (r .a)) (r .b) (readTree most) rs) none
+
+-- "with 40 "some value of" and 41 "some after value of" the identifier in b"
+unfoldable pub readFormula : Reader Formula
+readFormula [] = none
+readFormula (r ∷ rs) =
+    pick (eqb (r .tag) 83 && eqb (r .a) 40) (made (someValue (r .b)) (readTree (length rs) rs))
+    (pick (eqb (r .tag) 83 && eqb (r .a) 41) (made (someAfterValue (r .b)) (readTree (length rs) rs))
+    (made plain (readTree (length (r ∷ rs)) (r ∷ rs))))
