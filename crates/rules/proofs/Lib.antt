@@ -12,3 +12,5 @@ pub mod Sorts
 pub mod Tags
 pub mod Twice
 pub mod Uses
+pub mod Range
+pub mod RangedSequents
