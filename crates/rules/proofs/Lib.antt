@@ -14,3 +14,4 @@ pub mod Twice
 pub mod Uses
 pub mod Range
 pub mod RangedSequents
+pub mod Refused
