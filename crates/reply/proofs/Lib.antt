@@ -1,2 +1,4 @@
 pub mod Printed
 pub mod Read
+pub mod Writable
+pub mod ReadBack

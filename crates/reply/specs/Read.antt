@@ -1,7 +1,7 @@
 -- A spelled entry read back: 01, Sequents, "rows 83 in prefix order (operator, b of operators 1 to 3, 0)". A node is read by its operator, then its operands
 -- from what follows; whatever follows the formula is left.
 use Prim.Native.Nat.{ℕ, zero, suc}
-use mathlib.Core.Bool.{true, false, _&&_}
+use mathlib.Core.Bool.{_&&_}
 use mathlib.Core.List.{List, [], _∷_}
 use mathlib.Core.Option.{Option, none, some}
 use lib.Dec.{eqb}
