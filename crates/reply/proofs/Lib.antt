@@ -2,3 +2,4 @@ pub mod Printed
 pub mod Read
 pub mod Writable
 pub mod ReadBack
+pub mod Answers
