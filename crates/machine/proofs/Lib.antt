@@ -3,3 +3,4 @@ pub mod Operator
 pub mod Roles
 pub mod Variables
 pub mod Operators
+pub mod Node

@@ -1,3 +1,4 @@
 pub mod Machine
 pub mod Operator
 pub mod Described
+pub mod Node
