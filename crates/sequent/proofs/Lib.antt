@@ -7,3 +7,4 @@ pub mod Parts
 pub mod Seek
 pub mod Segments
 pub mod Walk
+pub mod Entries

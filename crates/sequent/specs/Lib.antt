@@ -5,3 +5,4 @@ pub mod Listed
 pub mod Required
 pub mod Walk
 pub mod Segments
+pub mod Formed
