@@ -15,3 +15,4 @@ pub mod Uses
 pub mod Range
 pub mod RangedSequents
 pub mod Refused
+pub mod Formed
