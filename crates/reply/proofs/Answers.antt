@@ -13,7 +13,6 @@ use lib.Seq.{getD-append-add, getD-drop}
 use Rattle.lists.specs.All.{All, In}
 use Rattle.lists.specs.Choice.{pick}
 use Rattle.lists.specs.Over.{over}
-use Rattle.lists.proofs.Distinct.{in-place}
 use Rattle.lists.proofs.Over.{over-length}
 use Rattle.formula.proofs.Truth.{and-split, true-test}
 use Rattle.row.specs.declared.Row.{Row}
@@ -26,12 +25,12 @@ use Rattle.rules.specs.declared.Verdict.{Verdict}
 use Rattle.rules.specs.declared.Verdict.the-variants as verdict
 use Rattle.rules.specs.Decoded.{rowCount}
 use Rattle.rules.specs.Verdict.{verdict as verdictOf, machine}
-use Rattle.rules.proofs.Accepted.{accepted-none}
 use Rattle.rules.proofs.Refused.{refused-number, refused-inside, refused-row}
 use Rattle.reply.specs.declared.Reply.the-variants as reply
 use Rattle.reply.specs.Printed.{sequentRows, rowsBytes}
 use Rattle.reply.specs.Spelled.{spell}
 use Rattle.reply.specs.Replies.{Outcome, refused, writeRows, among, sequentAt, entries, withSequent, spellAt, writeSequent, spellEntry}
+use Rattle.reply.proofs.Members.{sequent-listed, entry-listed}
 use Rattle.reply.proofs.Printed.{rows-length}
 use Rattle.reply.proofs.ReadBack.{rows-read}
 use Rattle.reply.proofs.Writable.{sequent-rows-writable, spelled-rows-writable}
@@ -89,13 +88,6 @@ module _ (bytes : List ℕ) where
         go true q = let s = and-split (leb 1 k) (leb k n) (true-test _ q) in g n e (leb→le 1 k (s .0)) (leb→le k n (s .1))
         go false q = refusal 13 0 (number 13 (omega arith) (omega arith)) (no-row 13 (omega arith))
 
-  -- a number from 1 to the length of a list picks a member of it
-  member : {A : Type 0} (xs : List A) (d : A) (k : ℕ) → 1 ≤ k → k ≤ length xs → In (getD xs (k - 1) d) xs
-  member xs d k l h = in-place xs d (k - 1) (omega arith)
-
-  pub listed-sequent : (n k : ℕ) → verdictOf bytes ≡ verdict.Accepted n → 1 ≤ k → k ≤ n → In (sequentAt (sequents (machine bytes)) k) (sequents (machine bytes))
-  listed-sequent n k v l h = member (sequents (machine bytes)) _ k l (omega (arith, accepted-none bytes n v .1))
-
   -- the rows that are asked for
   abbrev pub sequentAsked : ℕ → List Row
   sequentAsked k = sequentRows (sequentAt (sequents (machine bytes)) k)
@@ -107,12 +99,12 @@ module _ (bytes : List ℕ) where
   unfolding writeSequent
   write-answer k out =
       sequent-answer (sequentAsked k) k out _ (λ c l h. inl (l, h))
-      (λ n v l h. rows-answer (sequentAsked k) out (inr refl) (sequent-rows-writable bytes n v (listed-sequent n k v l h))) (verdictOf bytes) refl
+      (λ n v l h. rows-answer (sequentAsked k) out (inr refl) (sequent-rows-writable bytes n v (sequent-listed bytes n k v l h .member))) (verdictOf bytes) refl
 
   pub spell-answer : (k j : ℕ) (out : List ℕ) → Answer bytes SpellNumber (entryAsked k j) out (spellEntry bytes k j out)
   unfolding spellEntry
   spell-answer k j out =
-      sequent-answer (entryAsked k j) k out _ (λ c l h. (l, omega arith)) (λ n v l h. entry n v (listed-sequent n k v l h)) (verdictOf bytes) refl
+      sequent-answer (entryAsked k j) k out _ (λ c l h. (l, omega arith)) (λ n v l h. entry n v (sequent-listed bytes n k v l h .member)) (verdictOf bytes) refl
     where
       s : Sequent
       s = sequentAt (sequents (machine bytes)) k
@@ -124,7 +116,7 @@ module _ (bytes : List ℕ) where
           go true q =
               let r = and-split (leb 1 j) (leb j (length (entries s))) (true-test _ q) in
               rows-answer (entryAsked k j) out (omega arith, omega arith)
-              (spelled-rows-writable bytes n v i (member (entries s) (written 0) j (leb→le 1 j (r .0)) (leb→le j (length (entries s)) (r .1))))
+              (spelled-rows-writable bytes n v i (entry-listed s j (leb→le 1 j (r .0)) (leb→le j (length (entries s)) (r .1)) .member))
           go false q = refusal 14 0 (omega arith, omega arith) (no-row 14 (omega arith))
 
 -- what an answer says of the reply and of the buffer

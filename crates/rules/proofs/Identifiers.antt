@@ -1,9 +1,9 @@
--- What check 6 gives of an identifier: its type is one of the two, and a parameter belongs to an event of its machine that is no initialisation.
-use Prim.Native.Nat.{ℕ, _+_}
+-- What check 6 gives of an identifier: its kind is one of the five and its type one of the two, and a parameter belongs to an event of its machine that is no initialisation.
+use Prim.Native.Nat.{ℕ, _+_, _≤_}
 use mathlib.Core.Path.{_≡_, subst₂}
 use mathlib.Core.Bool.{Bool, true, false, not, _&&_, _||_}
 use native.Mathlib.Omega.{arith}
-use lib.Dec.{T, leb, eqb, eqb→eq}
+use lib.Dec.{T, leb, eqb, leb→le, eqb→eq}
 use Rattle.lists.specs.Choice.{pick}
 use Rattle.formula.proofs.Truth.{and-split, or-cases, rule-met}
 use Rattle.table.specs.Rows.{Rows, tagged, named, rowOf, kindOf, typeOf, ownerOf, machineNumber, classOf}
@@ -17,19 +17,28 @@ use Rattle.rules.proofs.Tags.{tagged-test, tags-rising}
 abbrev pub isType : ℕ → Bool
 isType s = eqb s 1 || eqb s 2
 
+-- 01: "kind: 1 constant .. 5 concrete parameter"
+abbrev isKind : ℕ → Bool
+isKind k = leb 1 k && leb k 5
+
 module _ (t : Rows) (ok : Obeys t) where
-  identifier-row : (x : ℕ) → T (named t 10 x) → T (isType (typeOf t x)) × T (goodOwner t (rowOf t 10 x))
+  identifier-row : (x : ℕ) → T (named t 10 x) → T (isKind (kindOf t x)) × T (isType (typeOf t x)) × T (goodOwner t (rowOf t 10 x))
   unfolding identifierOffends
   identifier-row x h =
       let i = rowOf t 10 x in
       let r = named-row t (tags-rising t ok) 10 x h in
-      let kind = leb 1 (t .a i) && leb (t .a i) 5 in
       let rest = isType (t .b i) && goodOwner t i in
-      and-split (isType (t .b i)) (goodOwner t i)
-      (and-split kind rest (rule-met (tagged t 10 i) (kind && rest) (ok .identifiers i (r .0)) (tagged-test t 10 i (r .1))) .1)
+      let s = and-split (isKind (t .a i)) rest (rule-met (tagged t 10 i) (isKind (t .a i) && rest) (ok .identifiers i (r .0)) (tagged-test t 10 i (r .1))) in
+      let u = and-split (isType (t .b i)) (goodOwner t i) (s .1) in
+      (s .0, u .0, u .1)
+
+  pub identifier-kind : (x : ℕ) → T (named t 10 x) → (1 ≤ kindOf t x) × (kindOf t x ≤ 5)
+  identifier-kind x h =
+      let s = and-split (leb 1 (kindOf t x)) (leb (kindOf t x) 5) (identifier-row x h .0) in
+      (leb→le 1 (kindOf t x) (s .0), leb→le (kindOf t x) 5 (s .1))
 
   pub identifier-type : (x : ℕ) → T (named t 10 x) → T (isType (typeOf t x))
-  identifier-type x h = identifier-row x h .0
+  identifier-type x h = identifier-row x h .1
 
   abbrev ownerTest : ℕ → ℕ → Bool
   ownerTest kind e =
@@ -45,7 +54,7 @@ module _ (t : Rows) (ok : Obeys t) where
       (λ k. let q = eqb→eq (kindOf t x) 5 k in owned 2 q (owner 5 q o))
     where
       owner : (kind : ℕ) → kindOf t x ≡ kind → ownerOf t x ≡ e → T (ownerTest kind e)
-      owner kind q o = subst₂ (λ k f. T (ownerTest k f)) q o (identifier-row x h .1)
+      owner kind q o = subst₂ (λ k f. T (ownerTest k f)) q o (identifier-row x h .2)
 
       owned : (machine : ℕ) → kindOf t x ≡ 3 + machine → T (ownerEvent t machine e) → (kindOf t x ≡ 3 + machineNumber t e) × T (not (eqb (classOf t e) 0))
       owned machine q r =
