@@ -2,3 +2,4 @@ pub mod Printed
 pub mod Spelled
 pub mod Replies
 pub mod Read
+pub mod Answers
