@@ -1,22 +1,25 @@
 -- A spelling has one reading: reading the rows of a formula gives the formula, whatever rows follow. By recursion on the tree; a bound of as many rows as
 -- there are is enough, as each node is a row.
 use Prim.Native.Nat.{ℕ, zero, suc, _-_, _≤_}
-use mathlib.Core.Path.{_≡_, refl, sym, ap, _∙_}
+use mathlib.Core.Path.{_≡_, refl, sym, ap, _∙_, subst}
 use mathlib.Core.Bool.{Bool, true, false, _&&_}
-use mathlib.Core.List.{List, [], _∷_, _++_, append-assoc}
+use mathlib.Core.List.{List, [], _∷_, _++_, map, append-assoc}
 use mathlib.Core.Option.{Option, none, some}
 use native.Mathlib.Omega.{arith}
 use lib.Dec.{eqb, eqb→eq}
 use lib.ListN.{length, length-append}
+use Rattle.lists.specs.All.{All, all-nil, all-cons}
 use Rattle.lists.specs.Choice.{pick}
 use Rattle.row.specs.declared.Row.{Row}
 use Rattle.formula.specs.Tree.{literal, TRUE, FALSE, top, bottom, Constant, Unary, bool, negation, logicalNot, Binary, plus, minus, times, equal, less, atMost, iff}
 use Rattle.formula.specs.Tree.{Division, quotient, remainder, Connective, and, or, implies, Tree, constant, identifier, after, unary, binary, division, connective}
-use Rattle.formula.specs.Formula.{Formula, plain, someValue, someAfterValue}
+use Rattle.formula.specs.Evaluate.{Env}
+use Rattle.formula.specs.Formula.{Formula, plain, someValue, someAfterValue, Holds}
 use Rattle.formula.proofs.Truth.{and-split, true-test}
 use Rattle.machine.specs.Machine.{Machine}
 use Rattle.machine.specs.Operator.{unknown, operatorNumbered, unaryOf, binaryOf, divisionOf, connectiveOf}
 use Rattle.sequent.specs.Entry.{Entry, formula}
+use Rattle.sequent.specs.Sequent.{Sequent, Meets, Valid}
 use Rattle.reply.specs.Spelled.{spelled, constantRow, unaryNumber, binaryNumber, divisionNumber, connectiveNumber, spellTree, spell}
 use Rattle.reply.specs.Read.{made, readTwo, readNode, readTree, readFormula}
 
@@ -142,3 +145,22 @@ spelled-once f g e = spelled-prefix f g [] [] (ap (λ rs. rs ++ []) e) .0
 -- two entries with the same rows 83 have the same formula, the one that `Valid` speaks of
 pub entry-spelled-once : (m : Machine) (h g : Entry) → spell (formula m h) ≡ spell (formula m g) → formula m h ≡ formula m g
 entry-spelled-once m h g e = spelled-once (formula m h) (formula m g) e
+
+-- what a prover receives of a sequent, the rows 83 of its entries, decides whether it is valid
+module _ (m : Machine) where
+  abbrev pub spelledEntry : Entry → List Row
+  spelledEntry h = spell (formula m h)
+
+  same-holds : (ρ : Env (m .type)) (hs gs : List Entry) → map spelledEntry hs ≡ map spelledEntry gs → All (Meets m ρ) gs → All (Meets m ρ) hs
+  same-holds ρ [] gs e k = all-nil
+  same-holds ρ (h ∷ hs) [] e k = absurd (let z : _≡_ {A = ℕ} 0 1 = cc in omega arith)
+  same-holds ρ (h ∷ hs) (g ∷ gs) e (all-cons p ps) =
+      let head : spelledEntry h ≡ spelledEntry g = cc in
+      let tail : map spelledEntry hs ≡ map spelledEntry gs = cc in
+      all-cons (subst (Holds ρ) (sym (entry-spelled-once m h g head)) p) (same-holds ρ hs gs tail ps)
+
+  pub spelled-valid : (s t : Sequent) → map spelledEntry (s .hypotheses) ≡ map spelledEntry (t .hypotheses) → spelledEntry (s .goal) ≡ spelledEntry (t .goal)
+      → Valid m s → Valid m t
+  unfolding Valid
+  spelled-valid s t e g v ρ h =
+      subst (Holds ρ) (entry-spelled-once m (s .goal) (t .goal) g) (v ρ (same-holds ρ (s .hypotheses) (t .hypotheses) e h))
