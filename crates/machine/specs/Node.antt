@@ -1,4 +1,4 @@
--- 01, Rows: the formula of a node as a relation, with nothing for an unknown operator or a missing operand: what has no formula here has none.
+-- 01, Rows: the formula of a node as a relation: there is no case for an unknown operator, nor for an operand that is no earlier node.
 use mathlib.Core.Path.{_≡_}
 use Prim.Native.Nat.{ℕ, _<_}
 use lib.Dec.{T}
@@ -17,10 +17,11 @@ pub data Formed (t : Rows) : ℕ → Tree → Type 0 where
   of-identifier : {n : ℕ} → NodeOf t identifierOf n → Formed t n (identifier (leftOf t n))
   of-after : {n : ℕ} → NodeOf t afterOf n → Formed t n (after (leftOf t n))
   of-constant : {n : ℕ} {c : Constant} → NodeOf t (constantOf c) n → Formed t n (constant c)
-  of-unary : {n : ℕ} {o : Unary} {u : Tree} → NodeOf t (unaryOf o) n → leftOf t n < n → Formed t (leftOf t n) u → Formed t n (unary o u)
-  of-binary : {n : ℕ} {o : Binary} {u v : Tree} → NodeOf t (binaryOf o) n → leftOf t n < n → Formed t (leftOf t n) u → rightOf t n < n → Formed t (rightOf t n) v
-      → Formed t n (binary o u v)
-  of-division : {n : ℕ} {o : Division} {u v : Tree} → NodeOf t (divisionOf o) n → leftOf t n < n → Formed t (leftOf t n) u → rightOf t n < n → Formed t (rightOf t n) v
-      → Formed t n (division o u v)
-  of-connective : {n : ℕ} {o : Connective} {u v : Tree} → NodeOf t (connectiveOf o) n → leftOf t n < n → Formed t (leftOf t n) u → rightOf t n < n → Formed t (rightOf t n) v
-      → Formed t n (connective o u v)
+  of-unary : {n : ℕ} {o : Unary} {u : Tree} → NodeOf t (unaryOf o) n
+      → leftOf t n < n → Formed t (leftOf t n) u → Formed t n (unary o u)
+  of-binary : {n : ℕ} {o : Binary} {u v : Tree} → NodeOf t (binaryOf o) n
+      → leftOf t n < n → Formed t (leftOf t n) u → rightOf t n < n → Formed t (rightOf t n) v → Formed t n (binary o u v)
+  of-division : {n : ℕ} {o : Division} {u v : Tree} → NodeOf t (divisionOf o) n
+      → leftOf t n < n → Formed t (leftOf t n) u → rightOf t n < n → Formed t (rightOf t n) v → Formed t n (division o u v)
+  of-connective : {n : ℕ} {o : Connective} {u v : Tree} → NodeOf t (connectiveOf o) n
+      → leftOf t n < n → Formed t (leftOf t n) u → rightOf t n < n → Formed t (rightOf t n) v → Formed t n (connective o u v)

@@ -120,7 +120,10 @@ plain-read (r ∷ rs) t rest h = go (eqb (r .tag) 83 && eqb (r .a) 40) refl (eqb
         never (t, rest) (sym (no-tree (length (r ∷ rs)) r rs (ap operatorNumbered q ∙ u)) ∙ h)
 
     go : (x : Bool) → (eqb (r .tag) 83 && eqb (r .a) 40) ≡ x → (y : Bool) → (eqb (r .tag) 83 && eqb (r .a) 41) ≡ y
-        → _≡_ {A = Option (Formula × List Row)} (pick x (made (someValue (r .b)) (readTree (length rs) rs)) (pick y (made (someAfterValue (r .b)) (readTree (length rs) rs)) (made plain (readTree (length (r ∷ rs)) (r ∷ rs))))) (some (plain t, rest))
+        → _≡_ {A = Option (Formula × List Row)}
+        (pick x (made (someValue (r .b)) (readTree (length rs) rs))
+        (pick y (made (someAfterValue (r .b)) (readTree (length rs) rs)) (made plain (readTree (length (r ∷ rs)) (r ∷ rs)))))
+        (some (plain t, rest))
     go true p y q = absurd (other 40 refl p)
     go false p true q = absurd (other 41 refl q)
     go false p false q = ap (made plain) h

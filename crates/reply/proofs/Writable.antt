@@ -1,5 +1,5 @@
 -- What is written for an accepted table is in the row form: every number of its machines is in range, so every number of its sequents is, and every number
--- of their formulas. By recursion on the trees, and by cases on what requires a sequent.
+-- of their formulas. By recursion on the trees.
 use Prim.Native.Nat.{ℕ, zero, suc, _≤_}
 use mathlib.Core.Path.{_≡_, refl}
 use mathlib.Core.Bool.{Bool, true, false}
@@ -41,7 +41,7 @@ use Rattle.reply.specs.Replies.{entries}
 abbrev W : Row → Type 0
 W r = Writable greatest width r
 
--- the tags that are written
+-- a row whose tag fits its columns and whose numbers are in range
 row-writable : (tag a b c : ℕ) → tag ≤ greatest → Fits 4 tag → Ranged a → Ranged b → Ranged c → W (row tag a b c)
 row-writable tag a b c small fits ra rb rc =
     let fit : (n : ℕ) → Ranged n → Fits width n = λ n r. in-range-fits greatest 10 n (omega arith) r in
@@ -76,17 +76,17 @@ connective-small or = omega arith
 connective-small implies = omega arith
 
 -- every row of a tree's spelling is writable
-abbrev Spelt : Tree → Type 0
-Spelt t = All W (spellTree t)
+abbrev TreeWritable : Tree → Type 0
+TreeWritable t = All W (spellTree t)
 
-leaf-spelt : (o b : ℕ) → o ≤ 41 → Ranged b → All W (spelled o b ∷ [])
-leaf-spelt o b h r = all-cons (spelled-writable o b h r) all-nil
+leaf-writable : (o b : ℕ) → o ≤ 41 → Ranged b → All W (spelled o b ∷ [])
+leaf-writable o b h r = all-cons (spelled-writable o b h r) all-nil
 
-one-spelt : (o : ℕ) {rs : List Row} → o ≤ 41 → All W rs → All W (spelled o 0 ∷ rs)
-one-spelt o h k = all-cons (spelled-writable o 0 h zero-ranged) k
+one-writable : (o : ℕ) {rs : List Row} → o ≤ 41 → All W rs → All W (spelled o 0 ∷ rs)
+one-writable o h k = all-cons (spelled-writable o 0 h zero-ranged) k
 
-two-spelt : (o : ℕ) {rs ss : List Row} → o ≤ 41 → All W rs → All W ss → All W (spelled o 0 ∷ (rs ++ ss))
-two-spelt o h k l = one-spelt o h (all-join k l)
+two-writable : (o : ℕ) {rs ss : List Row} → o ≤ 41 → All W rs → All W ss → All W (spelled o 0 ∷ (rs ++ ss))
+two-writable o h k l = one-writable o h (all-join k l)
 
 -- the constants that operators stand for are no literals, whose value is in column b
 abbrev constantOnly : Constant → Bool
@@ -107,84 +107,84 @@ noLiteral (divisionOf o) = true
 noLiteral (connectiveOf o) = true
 noLiteral unknown = true
 
-constant-spelt : (c : Constant) → T (constantOnly c) → Spelt (constant c)
+constant-writable : (c : Constant) → T (constantOnly c) → TreeWritable (constant c)
 unfolding spellTree
-constant-spelt (literal w) h = absurd h
-constant-spelt TRUE h = leaf-spelt 4 0 (omega arith) zero-ranged
-constant-spelt FALSE h = leaf-spelt 5 0 (omega arith) zero-ranged
-constant-spelt top h = leaf-spelt 30 0 (omega arith) zero-ranged
-constant-spelt bottom h = leaf-spelt 31 0 (omega arith) zero-ranged
+constant-writable (literal w) h = absurd h
+constant-writable TRUE h = leaf-writable 4 0 (omega arith) zero-ranged
+constant-writable FALSE h = leaf-writable 5 0 (omega arith) zero-ranged
+constant-writable top h = leaf-writable 30 0 (omega arith) zero-ranged
+constant-writable bottom h = leaf-writable 31 0 (omega arith) zero-ranged
 
-node-spelt : (o : Operator) (b : ℕ) (l r : Tree) → T (noLiteral o) → Ranged b → Spelt l → Spelt r → Spelt (node o b l r)
+node-writable : (o : Operator) (b : ℕ) (l r : Tree) → T (noLiteral o) → Ranged b → TreeWritable l → TreeWritable r → TreeWritable (node o b l r)
 unfolding spellTree
-node-spelt literalOf b l r k h hl hr = leaf-spelt 1 b (omega arith) h
-node-spelt identifierOf b l r k h hl hr = leaf-spelt 2 b (omega arith) h
-node-spelt afterOf b l r k h hl hr = leaf-spelt 3 b (omega arith) h
-node-spelt (constantOf c) b l r k h hl hr = constant-spelt c k
-node-spelt (unaryOf o) b l r k h hl hr = one-spelt (unaryNumber o) (unary-small o) hl
-node-spelt (binaryOf o) b l r k h hl hr = two-spelt (binaryNumber o) (binary-small o) hl hr
-node-spelt (divisionOf o) b l r k h hl hr = two-spelt (divisionNumber o) (division-small o) hl hr
-node-spelt (connectiveOf o) b l r k h hl hr = two-spelt (connectiveNumber o) (connective-small o) hl hr
-node-spelt unknown b l r k h hl hr = constant-spelt bottom tt
+node-writable literalOf b l r k h hl hr = leaf-writable 1 b (omega arith) h
+node-writable identifierOf b l r k h hl hr = leaf-writable 2 b (omega arith) h
+node-writable afterOf b l r k h hl hr = leaf-writable 3 b (omega arith) h
+node-writable (constantOf c) b l r k h hl hr = constant-writable c k
+node-writable (unaryOf o) b l r k h hl hr = one-writable (unaryNumber o) (unary-small o) hl
+node-writable (binaryOf o) b l r k h hl hr = two-writable (binaryNumber o) (binary-small o) hl hr
+node-writable (divisionOf o) b l r k h hl hr = two-writable (divisionNumber o) (division-small o) hl hr
+node-writable (connectiveOf o) b l r k h hl hr = two-writable (connectiveNumber o) (connective-small o) hl hr
+node-writable unknown b l r k h hl hr = constant-writable bottom tt
 
 -- the trees of a table, of which column b is in range
 module _ (t : Rows) (ranged : RangedRows t) where
-  operand-spelt : (b : Bool) (u : Tree) → Spelt u → Spelt (pick b u (constant bottom))
-  operand-spelt true u h = h
-  operand-spelt false u h = constant-spelt bottom tt
+  operand-writable : (b : Bool) (u : Tree) → TreeWritable u → TreeWritable (pick b u (constant bottom))
+  operand-writable true u h = h
+  operand-writable false u h = constant-writable bottom tt
 
-  tree-spelt : (d n : ℕ) → Spelt (treeTo t d n)
+  tree-writable : (d n : ℕ) → TreeWritable (treeTo t d n)
   unfolding treeTo
-  tree-spelt zero n = constant-spelt bottom tt
-  tree-spelt (suc d) n =
-      node-spelt (operatorNumbered (operatorOf t n)) (leftOf t n) _ _ (operator-passes noLiteral tt (operatorOf t n)) (ranged .b (rowOf t 20 n))
-      (operand-spelt (earlier n (leftOf t n)) _ (tree-spelt d (leftOf t n))) (operand-spelt (earlier n (rightOf t n)) _ (tree-spelt d (rightOf t n)))
+  tree-writable zero n = constant-writable bottom tt
+  tree-writable (suc d) n =
+      node-writable (operatorNumbered (operatorOf t n)) (leftOf t n) _ _ (operator-passes noLiteral tt (operatorOf t n)) (ranged .b (rowOf t 20 n))
+      (operand-writable (earlier n (leftOf t n)) _ (tree-writable d (leftOf t n))) (operand-writable (earlier n (rightOf t n)) _ (tree-writable d (rightOf t n)))
 
 -- well-definedness and after values keep it
-two-left : {r : Row} (t u : Tree) → All W (r ∷ (spellTree t ++ spellTree u)) → Spelt t
+two-left : {r : Row} (t u : Tree) → All W (r ∷ (spellTree t ++ spellTree u)) → TreeWritable t
 two-left t u h = all-left (spellTree t) (spellTree u) (all-tail h)
 
-two-right : {r : Row} (t u : Tree) → All W (r ∷ (spellTree t ++ spellTree u)) → Spelt u
+two-right : {r : Row} (t u : Tree) → All W (r ∷ (spellTree t ++ spellTree u)) → TreeWritable u
 two-right t u h = all-right (spellTree t) (all-tail h)
 
-divisor-spelt : (o : Division) (t u : Tree) → Spelt u → Spelt (divisionCondition o t u)
+divisor-writable : (o : Division) (t u : Tree) → TreeWritable u → TreeWritable (divisionCondition o t u)
 unfolding spellTree
-divisor-spelt quotient t u h = one-spelt 32 (omega arith) (two-spelt 20 (omega arith) h (leaf-spelt 1 0 (omega arith) zero-ranged))
-divisor-spelt remainder t u h = one-spelt 32 (omega arith) (two-spelt 20 (omega arith) h (leaf-spelt 1 0 (omega arith) zero-ranged))
+divisor-writable quotient t u h = one-writable 32 (omega arith) (two-writable 20 (omega arith) h (leaf-writable 1 0 (omega arith) zero-ranged))
+divisor-writable remainder t u h = one-writable 32 (omega arith) (two-writable 20 (omega arith) h (leaf-writable 1 0 (omega arith) zero-ranged))
 
-defined-spelt : (t : Tree) → Spelt t → Spelt (wellDefined t)
+defined-writable : (t : Tree) → TreeWritable t → TreeWritable (wellDefined t)
 unfolding spellTree wellDefined
-defined-spelt (constant c) h = constant-spelt top tt
-defined-spelt (identifier x) h = constant-spelt top tt
-defined-spelt (after x) h = constant-spelt top tt
-defined-spelt (unary o t) h = defined-spelt t (all-tail h)
-defined-spelt (binary o t u) h = two-spelt 33 (omega arith) (defined-spelt t (two-left t u h)) (defined-spelt u (two-right t u h))
-defined-spelt (division o t u) h =
-    two-spelt 33 (omega arith) (two-spelt 33 (omega arith) (defined-spelt t (two-left t u h)) (defined-spelt u (two-right t u h)))
-    (divisor-spelt o t u (two-right t u h))
-defined-spelt (connective and t u) h =
-    two-spelt 33 (omega arith) (defined-spelt t (two-left t u h)) (two-spelt 35 (omega arith) (two-left t u h) (defined-spelt u (two-right t u h)))
-defined-spelt (connective implies t u) h =
-    two-spelt 33 (omega arith) (defined-spelt t (two-left t u h)) (two-spelt 35 (omega arith) (two-left t u h) (defined-spelt u (two-right t u h)))
-defined-spelt (connective or t u) h =
-    two-spelt 33 (omega arith) (defined-spelt t (two-left t u h)) (two-spelt 34 (omega arith) (two-left t u h) (defined-spelt u (two-right t u h)))
+defined-writable (constant c) h = constant-writable top tt
+defined-writable (identifier x) h = constant-writable top tt
+defined-writable (after x) h = constant-writable top tt
+defined-writable (unary o t) h = defined-writable t (all-tail h)
+defined-writable (binary o t u) h = two-writable 33 (omega arith) (defined-writable t (two-left t u h)) (defined-writable u (two-right t u h))
+defined-writable (division o t u) h =
+    two-writable 33 (omega arith) (two-writable 33 (omega arith) (defined-writable t (two-left t u h)) (defined-writable u (two-right t u h)))
+    (divisor-writable o t u (two-right t u h))
+defined-writable (connective and t u) h =
+    two-writable 33 (omega arith) (defined-writable t (two-left t u h)) (two-writable 35 (omega arith) (two-left t u h) (defined-writable u (two-right t u h)))
+defined-writable (connective implies t u) h =
+    two-writable 33 (omega arith) (defined-writable t (two-left t u h)) (two-writable 35 (omega arith) (two-left t u h) (defined-writable u (two-right t u h)))
+defined-writable (connective or t u) h =
+    two-writable 33 (omega arith) (defined-writable t (two-left t u h)) (two-writable 34 (omega arith) (two-left t u h) (defined-writable u (two-right t u h)))
 
-after-spelt : (v : ℕ → Bool) (t : Tree) → Spelt t → Spelt (atAfter v t)
+after-writable : (v : ℕ → Bool) (t : Tree) → TreeWritable t → TreeWritable (atAfter v t)
 unfolding spellTree atAfter
-after-spelt v (constant c) h = h
-after-spelt v (identifier x) h = go (v x)
+after-writable v (constant c) h = h
+after-writable v (identifier x) h = go (v x)
   where
-    go : (b : Bool) → Spelt (pick b (after x) (identifier x))
-    go true = leaf-spelt 3 x (omega arith) (all-head h .bRange)
+    go : (b : Bool) → TreeWritable (pick b (after x) (identifier x))
+    go true = leaf-writable 3 x (omega arith) (all-head h .bRange)
     go false = h
-after-spelt v (after x) h = h
-after-spelt v (unary o t) h = one-spelt (unaryNumber o) (unary-small o) (after-spelt v t (all-tail h))
-after-spelt v (binary o t u) h =
-    two-spelt (binaryNumber o) (binary-small o) (after-spelt v t (two-left t u h)) (after-spelt v u (two-right t u h))
-after-spelt v (division o t u) h =
-    two-spelt (divisionNumber o) (division-small o) (after-spelt v t (two-left t u h)) (after-spelt v u (two-right t u h))
-after-spelt v (connective o t u) h =
-    two-spelt (connectiveNumber o) (connective-small o) (after-spelt v t (two-left t u h)) (after-spelt v u (two-right t u h))
+after-writable v (after x) h = h
+after-writable v (unary o t) h = one-writable (unaryNumber o) (unary-small o) (after-writable v t (all-tail h))
+after-writable v (binary o t u) h =
+    two-writable (binaryNumber o) (binary-small o) (after-writable v t (two-left t u h)) (after-writable v u (two-right t u h))
+after-writable v (division o t u) h =
+    two-writable (divisionNumber o) (division-small o) (after-writable v t (two-left t u h)) (after-writable v u (two-right t u h))
+after-writable v (connective o t u) h =
+    two-writable (connectiveNumber o) (connective-small o) (after-writable v t (two-left t u h)) (after-writable v u (two-right t u h))
 
 -- rows 80 to 82 of a sequent
 entry-writable : (tag : ℕ) → tag ≤ greatest → Fits 4 tag → (h : Entry) → EntryRanged h → W (entryRow tag h)
@@ -208,35 +208,35 @@ sequent-writable s r =
     (all-cons (entry-writable 82 (omega arith) refl (s .goal) (r .goal)) all-nil))
 
 -- rows 83 of an entry, of a machine whose trees are spelled in range
-module _ (m : Machine) (trees : (n : ℕ) → Spelt (m .tree n)) where
-  action-spelt : (a : Action) (x : ℕ) → Ranged x → Spelt (actionTree m a x)
+module _ (m : Machine) (trees : (n : ℕ) → TreeWritable (m .tree n)) where
+  action-writable : (a : Action) (x : ℕ) → Ranged x → TreeWritable (actionTree m a x)
   unfolding spellTree
-  action-spelt unassigned x h = two-spelt 20 (omega arith) (leaf-spelt 3 x (omega arith) h) (leaf-spelt 2 x (omega arith) h)
-  action-spelt (becomesEqual r) x h = two-spelt 20 (omega arith) (leaf-spelt 3 x (omega arith) h) (trees r)
-  action-spelt (becomesSuchThat r) x h = trees r
+  action-writable unassigned x h = two-writable 20 (omega arith) (leaf-writable 3 x (omega arith) h) (leaf-writable 2 x (omega arith) h)
+  action-writable (becomesEqual r) x h = two-writable 20 (omega arith) (leaf-writable 3 x (omega arith) h) (trees r)
+  action-writable (becomesSuchThat r) x h = trees r
 
   formula-writable : (h : Entry) → EntryRanged h → All W (spell (formula m h))
   unfolding spell spellTree
   formula-writable (written r) k = trees r
-  formula-writable (primed r) k = after-spelt (variable m) (m .tree r) (trees r)
-  formula-writable (defined r) k = defined-spelt (m .tree r) (trees r)
-  formula-writable (moves e x) k = action-spelt (m .action e x) x (k .1)
-  formula-writable (feasible e x) k = all-cons (spelled-writable 41 x (omega arith) (k .1)) (action-spelt (m .action e x) x (k .1))
+  formula-writable (primed r) k = after-writable (variable m) (m .tree r) (trees r)
+  formula-writable (defined r) k = defined-writable (m .tree r) (trees r)
+  formula-writable (moves e x) k = action-writable (m .action e x) x (k .1)
+  formula-writable (feasible e x) k = all-cons (spelled-writable 41 x (omega arith) (k .1)) (action-writable (m .action e x) x (k .1))
   formula-writable (witnessed e x) k = go (variable m x)
     where
       go : (b : Bool) → All W (spell (pick b (someAfterValue x (witnessTree m e x)) (someValue x (witnessTree m e x))))
       go true = all-cons (spelled-writable 41 x (omega arith) (k .1)) (trees (witnessRoot (m .witnesses e) x))
       go false = all-cons (spelled-writable 40 x (omega arith) (k .1)) (trees (witnessRoot (m .witnesses e) x))
-  formula-writable (natural r) k = two-spelt 22 (omega arith) (leaf-spelt 1 0 (omega arith) zero-ranged) (trees r)
-  formula-writable (decreases r) k = two-spelt 21 (omega arith) (after-spelt (variable m) (m .tree r) (trees r)) (trees r)
+  formula-writable (natural r) k = two-writable 22 (omega arith) (leaf-writable 1 0 (omega arith) zero-ranged) (trees r)
+  formula-writable (decreases r) k = two-writable 21 (omega arith) (after-writable (variable m) (m .tree r) (trees r)) (trees r)
 
 module _ (bytes : List ℕ) (n : ℕ) (v : verdictOf bytes ≡ verdict.Accepted n) where
   rows-ranged : RangedRows (decoded bytes)
   rows-ranged = framed-ranged bytes (accepted-framed bytes (accepted-none bytes n v .0))
 
-  trees-spelt : (n : ℕ) → Spelt (machine bytes .tree n)
+  trees-writable : (n : ℕ) → TreeWritable (machine bytes .tree n)
   unfolding machineOf treeOf
-  trees-spelt n = tree-spelt (decoded bytes) rows-ranged n n
+  trees-writable n = tree-writable (decoded bytes) rows-ranged n n
 
   listed-ranged : {s : Sequent} → In s (sequents (machine bytes)) → RangedSequent s
   listed-ranged i = sequents-ranged (machine bytes) (machine-ranged (decoded bytes) rows-ranged) i
@@ -250,7 +250,7 @@ module _ (bytes : List ℕ) (n : ℕ) (v : verdictOf bytes ≡ verdict.Accepted 
       → All (Writable greatest width) (spell (formula (machine bytes) h))
   spelled-rows-writable {s} i {h} j =
       let r = listed-ranged i in
-      formula-writable (machine bytes) trees-spelt h (all-at (all-join (r .hypotheses) (all-cons (r .goal) all-nil)) j)
+      formula-writable (machine bytes) trees-writable h (all-at (all-join (r .hypotheses) (all-cons (r .goal) all-nil)) j)
 
   -- every row that the program prints
   pub list-rows-writable : All (Writable greatest width) (flatMap sequentRows (sequents (machine bytes)))

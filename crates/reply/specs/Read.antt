@@ -21,7 +21,7 @@ abbrev pub made : {A B : Type 0} → (A → B) → Option (A × List Row) → Op
 made f none = none
 made f (some p) = some (f (p .0), p .1)
 
--- one operand, or two, the second from what the first leaves
+-- two operands, the second from what the first leaves
 abbrev pub readTwo : (Tree → Tree → Tree) → Reader Tree → Option (Tree × List Row) → Option (Tree × List Row)
 readTwo f read none = none
 readTwo f read (some p) = made (f (p .0)) (read (p .1))

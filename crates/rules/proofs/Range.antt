@@ -61,7 +61,9 @@ module _ (bytes : List ℕ) where
   -- a table has no more rows than its bytes hold, and those are few
   pub size-rows : decoded bytes .size ≤ rowCount bytes
   unfolding wordsOf
-  size-rows = omega (arith, flat-length (λ i. lineWords (lineOf bytes i)) (rowCount bytes), sum-at-most (λ i. length (lineWords (lineOf bytes i))) 4 (λ i. four (lineOf bytes i)) (rowCount bytes))
+  size-rows =
+      let most = sum-at-most (λ i. length (lineWords (lineOf bytes i))) 4 (λ i. four (lineOf bytes i)) (rowCount bytes) in
+      omega (arith, flat-length (λ i. lineWords (lineOf bytes i)) (rowCount bytes))
     where
       four : (l : Line) → length (lineWords l) ≤ 4
       four (line.Whole r) = omega arith

@@ -22,13 +22,18 @@ module _ (bytes : List ℕ) where
     noRow : (c ≡ 1) ⊎ (c ≡ 12) → r ≡ 0
     someRow : 2 ≤ c → c ≤ 11 → 1 ≤ r
 
+  neither : (c : ℕ) → 2 ≤ c → c ≤ 11 → {P : Type 0} → (c ≡ 1) ⊎ (c ≡ 12) → P
+  neither c l h e = absurd (⊎-elim (λ q. omega arith) (λ q. omega arith) e)
+
   offence-says : (c r : ℕ) → Offence bytes c r → OffenceSays c r
-  offence-says c r (frame f) = record { low = omega arith; high = omega arith; inside = omega arith; noRow = λ e. refl; someRow = λ l h. absurd (omega arith) }
+  offence-says c r (frame f) =
+      record { low = omega arith; high = omega arith; inside = omega arith; noRow = λ e. refl; someRow = λ l h. absurd (omega arith) }
   offence-says c r (column i h e) =
-      record { low = omega arith; high = omega arith; inside = omega arith; noRow = ⊎-elim (λ e. absurd (omega arith)) (λ e. absurd (omega arith)); someRow = λ l h. omega arith }
+      record { low = omega arith; high = omega arith; inside = omega arith; noRow = neither 2 (omega arith) (omega arith); someRow = λ l h. omega arith }
   offence-says c r (row check i l k h e) =
-      record { low = omega arith; high = omega arith; inside = omega (arith, size-rows bytes); noRow = ⊎-elim (λ e. absurd (omega arith)) (λ e. absurd (omega arith)); someRow = λ l h. omega arith }
-  offence-says c r (lack e) = record { low = omega arith; high = omega arith; inside = omega arith; noRow = λ e. refl; someRow = λ l h. absurd (omega arith) }
+      record { low = omega arith; high = omega arith; inside = omega (arith, size-rows bytes); noRow = neither check (omega arith) k; someRow = λ l h. omega arith }
+  offence-says c r (lack e) =
+      record { low = omega arith; high = omega arith; inside = omega arith; noRow = λ e. refl; someRow = λ l h. absurd (omega arith) }
 
   module _ (c r : ℕ) (v : verdict bytes ≡ Refused c r) where
     says : OffenceSays c r
