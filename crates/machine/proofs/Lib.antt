@@ -2,5 +2,4 @@ pub mod Described
 pub mod Operator
 pub mod Roles
 pub mod Variables
-pub mod Operators
 pub mod Node

@@ -37,7 +37,12 @@ module _ (P : Numbered → Bool) (other : (n : ℕ) → T (P (is n unknown 0 0))
   pub row-passes : T (allPass P operators) → (n : ℕ) → T (P (rowNumbered operators n))
   row-passes h n = passes-in operators h n
 
--- the same of a test by the number and something else of the row
+-- of a test on the operator alone
+pub operator-passes : (P : Operator → Bool) → T (P unknown) → T (allPass (λ o. P (o .operator)) operators) → (n : ℕ) → T (P (operatorNumbered n))
+unfolding operatorNumbered
+operator-passes P other h n = row-passes (λ o. P (o .operator)) (λ n. other) h n
+
+-- of a test by the number and something else of the row
 pub numbered-passes : {A : Type 0} (f : Numbered → A) (P : A → ℕ → Bool) → ((n : ℕ) → T (P (f (is n unknown 0 0)) n)) → T (allPass (λ o. P (f o) (o .number)) operators)
     → (n : ℕ) → T (P (f (rowNumbered operators n)) n)
 numbered-passes f P other h n =

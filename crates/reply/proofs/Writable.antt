@@ -22,7 +22,7 @@ use Rattle.table.specs.Rows.{Rows, rowOf, operatorOf, leftOf, rightOf}
 use Rattle.machine.specs.Machine.{Action, unassigned, becomesEqual, becomesSuchThat, Machine}
 use Rattle.machine.specs.Operator.{Operator, literalOf, identifierOf, afterOf, constantOf, unaryOf, binaryOf, divisionOf, connectiveOf, unknown, operatorNumbered}
 use Rattle.machine.specs.Described.{node, earlier, treeTo, treeOf, machineOf}
-use Rattle.machine.proofs.Operators.{operator-passes}
+use Rattle.machine.proofs.Operator.{operator-passes}
 use Rattle.sequent.specs.Entry.{Entry, written, primed, defined, moves, feasible, witnessed, natural, decreases, witnessRoot, variable, actionTree, witnessTree, formula}
 use Rattle.sequent.specs.Numbers.{numbersOf}
 use Rattle.sequent.specs.Sequent.{Sequent}
@@ -137,7 +137,7 @@ module _ (t : Rows) (ranged : RangedRows t) where
   unfolding treeTo
   tree-writable zero n = constant-writable bottom tt
   tree-writable (suc d) n =
-      node-writable (operatorNumbered (operatorOf t n)) (leftOf t n) _ _ (operator-passes noLiteral tt (operatorOf t n)) (ranged .b (rowOf t 20 n))
+      node-writable (operatorNumbered (operatorOf t n)) (leftOf t n) _ _ (operator-passes noLiteral tt tt (operatorOf t n)) (ranged .b (rowOf t 20 n))
       (operand-writable (earlier n (leftOf t n)) _ (tree-writable d (leftOf t n))) (operand-writable (earlier n (rightOf t n)) _ (tree-writable d (rightOf t n)))
 
 -- well-definedness and after values keep it

@@ -30,9 +30,9 @@ use Rattle.rules.specs.declared.Verdict.the-variants.{Accepted}
 use Rattle.rules.specs.Decoded.{decoded}
 use Rattle.rules.specs.Verdict.{verdict, machine}
 use Rattle.rules.proofs.Accepted.{accepted-none, none-obeys}
+use Rattle.rules.specs.Sorts.{shape}
 use Rattle.rules.specs.Rules.{earlierNode, goodColumns}
 use Rattle.rules.proofs.Obeys.{Obeys}
-use Rattle.rules.proofs.Operators.{shapeFor}
 use Rattle.rules.proofs.References.{rootTag, rootOf, root-row, node-row, earlier-operand}
 
 module _ (t : Rows) (ok : Obeys t) where
@@ -55,7 +55,7 @@ module _ (t : Rows) (ok : Obeys t) where
         let r = operand-formed (rightOf t n) (s .1) in
         (l .0, l .1, r .0, r .1)
 
-    node-formed : (o : Operator) → operatorNumbered (operatorOf t n) ≡ o → T (goodColumns t (shapeFor o) i)
+    node-formed : (o : Operator) → operatorNumbered (operatorOf t n) ≡ o → T (goodColumns t (shape o) i)
         → Formed t n (node o (leftOf t n) (treeOf t (operandNode n (leftOf t n))) (treeOf t (operandNode n (rightOf t n))))
     node-formed literalOf e g = of-literal (record { node = h; operator = e })
     node-formed identifierOf e g = of-identifier (record { node = h; operator = e })
