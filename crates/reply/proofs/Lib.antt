@@ -1,5 +1,5 @@
 pub mod Printed
-pub mod Read
+pub mod Parse
 pub mod Writable
 pub mod ReadBack
 pub mod Members

@@ -28,7 +28,7 @@ use Rattle.reply.specs.Printed.{row, sequentRows, rowsBytes}
 use Rattle.reply.specs.Spelled.{spell}
 use Rattle.reply.specs.Replies.{entries, printed, output}
 use Rattle.reply.proofs.Printed.{rows-length}
-use Rattle.reply.proofs.Read.{entry-spelled-once}
+use Rattle.reply.proofs.Parse.{entry-spelled-once}
 use Rattle.reply.proofs.Writable.{spelled-rows-writable, list-rows-writable, refusal-row-writable}
 
 -- the bytes of row i

@@ -1,5 +1,5 @@
 pub mod Printed
 pub mod Spelled
 pub mod Replies
-pub mod Read
+pub mod Parse
 pub mod Answers
