@@ -11,7 +11,8 @@ use Rattle.lists.specs.Over.{over}
 use Rattle.lists.specs.Below.{first, numbers}
 use Rattle.lists.proofs.First.{first-here, first-end}
 use Rattle.lists.proofs.Flat.{flat-next}
-use Rattle.row.specs.Row.{greatest, width, readAt, foundAt, lineAt}
+use Rattle.row.specs.Row.{greatest, width}
+use Rattle.row.specs.Reading.{readAt, foundAt, lineAt}
 use Rattle.row.specs.declared.Row.{Row}
 use Rattle.row.specs.declared.Line.{Line}
 use Rattle.row.specs.declared.Line.the-variants as line

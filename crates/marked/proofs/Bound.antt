@@ -9,7 +9,8 @@ use lib.IntN.{ℤ, pos, negsuc}
 use Rattle.lists.specs.All.{All, all-nil, all-cons, In, here, there}
 use Rattle.lists.specs.Below.{countBelow, first, numbers, keep}
 use Rattle.lists.proofs.All.{in-nil}
-use Rattle.number.specs.Number.{columnsOf, numberOf, scanFrom}
+use Rattle.number.specs.Number.{columnsOf}
+use Rattle.number.specs.Reading.{numberOf, scanFrom}
 use Rattle.row.specs.Row.{rowBytes}
 use Rattle.table.specs.Rows.{section, count, start}
 use Rattle.formula.specs.Values.{AnyValue, number}

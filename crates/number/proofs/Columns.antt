@@ -14,7 +14,8 @@ use Rattle.number.specs.declared.Text.{Text}
 use Rattle.number.specs.declared.Text.the-variants.{Spaces, Digits}
 use Rattle.number.specs.declared.Scan.{Scan}
 use Rattle.number.specs.declared.Scan.the-variants.{Prefix, Wrong}
-use Rattle.number.specs.Number.{mostOf, digitOf, lastOf, beforeOf, textOf, columnsOf, stepOf, scanFrom, valueOf, numberOf}
+use Rattle.number.specs.Number.{mostOf, lastOf, beforeOf, textOf, columnsOf}
+use Rattle.number.specs.Reading.{digitOf, stepOf, scanFrom, valueOf, numberOf}
 
 -- what follows the magnitude m by a digit
 module _ (greatest : ℕ) (negative : Bool) (m b : ℕ) (low : 48 ≤ b) (high : b ≤ 57) where

@@ -17,7 +17,8 @@ use Rattle.number.specs.declared.Scan.{Scan}
 use Rattle.number.specs.declared.Scan.the-variants.{Prefix, Wrong}
 use Rattle.number.specs.declared.Number.{Number}
 use Rattle.number.specs.declared.Number.the-variants.{Value, Malformed}
-use Rattle.number.specs.Number.{mostOf, digitOf, afterSpaces, afterMinus, afterDigits, afterText, lastOf, beforeDigits, beforeOf, textOf, wordOf, textValue, columnsOf, restOf, Fits, inRange, InRange, InForm, stepOf, scanFrom, valueOf, numberOf}
+use Rattle.number.specs.Number.{mostOf, lastOf, beforeDigits, beforeOf, textOf, columnsOf, restOf, Fits, inRange, InRange, InForm}
+use Rattle.number.specs.Reading.{digitOf, afterSpaces, afterMinus, afterDigits, afterText, wordOf, textValue, stepOf, scanFrom, valueOf, numberOf}
 use Rattle.number.proofs.Columns.{digit-within, most-le, written-length}
 
 wrong-never : (u : Text) → Wrong ≡ Prefix u → ⊥

@@ -1,23 +1,16 @@
 -- 01, Rows: "A number, the tag included, is right-justified in ASCII after spaces, its minus byte 45, without leading zeros, plus
 -- sign or minus zero, from −2147483648 to 2147483647." Any width; from −greatest − 1 to greatest.
-use Prim.Native.Nat.{ℕ, zero, suc, _+_, _-_, _*_, _^_, _%_, _/_, _<_, _≤_}
+use Prim.Native.Nat.{ℕ, zero, suc, _+_, _-_, _^_, _%_, _/_, _<_}
 use mathlib.Core.Path.{_≡_}
 use mathlib.Core.List.{List, [], _∷_, _++_}
 use mathlib.Core.Bool.{Bool, true, false}
-use lib.Dec.{ltb, leb, eqb}
+use lib.Dec.{ltb, leb}
 use lib.ListN.{length}
 use Rattle.lists.specs.Choice.{pick}
 use Rattle.number.specs.declared.Text.{Text}
 use Rattle.number.specs.declared.Text.the-variants.{Spaces, Minus, Digits}
-use Rattle.number.specs.declared.Scan.{Scan}
-use Rattle.number.specs.declared.Scan.the-variants.{Prefix, Wrong}
-use Rattle.number.specs.declared.Number.{Number}
-use Rattle.number.specs.declared.Number.the-variants.{Value, Malformed}
 
--- a number is a word of 64 bits, a negative one in two's complement
-abbrev pub wordOf : Bool → ℕ → ℕ
-wordOf negative m = pick (eqb m 0) 0 (pick negative (2 ^ 64 - m) m)
-
+-- a number is a word of 64 bits, a negative one in two's complement; its text
 abbrev pub textOf : ℕ → Text
 textOf w = pick (ltb w (2 ^ 63)) (Digits false w) (Digits true (2 ^ 64 - w))
 
@@ -63,49 +56,6 @@ inRange greatest (Digits negative m) = leb m (mostOf greatest negative)
 pub record InRange (greatest w : ℕ) : Type 0 where
   pub word : w < 2 ^ 64
   pub range : inRange greatest (textOf w) ≡ true
-
--- Read from the left: one byte more after a text.
-abbrev pub digitOf : ℕ → Bool → ℕ → ℕ → Scan
-digitOf greatest negative m b =
-    pick (ltb b 48) Wrong
-    (pick (ltb 57 b) Wrong
-    (pick (ltb (mostOf greatest negative) (m * 10 + (b - 48))) Wrong
-    (Prefix (Digits negative (m * 10 + (b - 48))))))
-
-abbrev pub afterSpaces : ℕ → ℕ → Scan
-afterSpaces greatest b = pick (eqb b 32) (Prefix Spaces) (pick (eqb b 45) (Prefix Minus) (digitOf greatest false 0 b))
-
-abbrev pub afterMinus : ℕ → ℕ → Scan
-afterMinus greatest b = pick (eqb b 48) Wrong (digitOf greatest true 0 b)
-
-abbrev pub afterDigits : ℕ → Bool → ℕ → ℕ → Scan
-afterDigits greatest negative m b = pick (eqb m 0) Wrong (digitOf greatest negative m b)
-
-abbrev pub afterText : ℕ → Text → ℕ → Scan
-afterText greatest Spaces b = afterSpaces greatest b
-afterText greatest Minus b = afterMinus greatest b
-afterText greatest (Digits negative m) b = afterDigits greatest negative m b
-
-abbrev pub stepOf : ℕ → Scan → ℕ → Scan
-stepOf greatest (Prefix text) b = afterText greatest text b
-stepOf greatest Wrong b = Wrong
-
-unfoldable pub scanFrom : ℕ → Scan → List ℕ → Scan
-scanFrom greatest scan [] = scan
-scanFrom greatest scan (b ∷ bs) = scanFrom greatest (stepOf greatest scan b) bs
-
-abbrev pub textValue : Text → Number
-textValue Spaces = Malformed
-textValue Minus = Malformed
-textValue (Digits negative m) = Value (wordOf negative m)
-
-abbrev pub valueOf : Scan → Number
-valueOf (Prefix text) = textValue text
-valueOf Wrong = Malformed
-
--- what columns hold
-unfoldable pub numberOf : ℕ → List ℕ → Number
-numberOf greatest columns = valueOf (scanFrom greatest (Prefix Spaces) columns)
 
 -- the number form: the columns are what writing the number gives, nothing of it is left over, and it is in range
 pub record InForm (greatest : ℕ) (columns : List ℕ) (w : ℕ) : Type 0 where

@@ -18,7 +18,8 @@ use Rattle.lists.proofs.Over.{over-length}
 use Rattle.formula.proofs.Truth.{and-split, and-join, test-true, true-test}
 use Rattle.row.specs.declared.Row.{Row}
 use Rattle.row.specs.declared.Read.the-variants as read
-use Rattle.row.specs.Row.{greatest, width, rowLength, readAt, Writable}
+use Rattle.row.specs.Row.{greatest, width, rowLength, Writable}
+use Rattle.row.specs.Reading.{readAt}
 use Rattle.sequent.specs.Sequent.{Sequent}
 use Rattle.rules.specs.declared.Verdict.{Verdict}
 use Rattle.rules.specs.declared.Verdict.the-variants as verdict

@@ -4,7 +4,8 @@ ghost use mathlib.Core.Path.{_≡_};
 ghost use Prim.Native.Nat.{_≤_};
 ghost use lib.ListN.{length};
 ghost use Rattle.lists.specs.Over.{over};
-ghost use Rattle.row.specs.Row.{joined, foundAt, lineAt, readAt, rowBytes, width, greatest, rowLength};
+ghost use Rattle.row.specs.Row.{rowBytes, width, greatest, rowLength};
+ghost use Rattle.row.specs.Reading.{joined, foundAt, lineAt, readAt};
 
 pub struct Row {
     pub tag: u64,

@@ -3,7 +3,8 @@ use mathlib.Core.Path.{_≡_, refl}
 use mathlib.Core.List.{flatMap}
 use mathlib.Core.Bool.{true}
 use Rattle.lists.specs.Below.{countBelow, first, numbers, keep}
-use Rattle.number.specs.Number.{columnsOf, numberOf, scanFrom}
+use Rattle.number.specs.Number.{columnsOf}
+use Rattle.number.specs.Reading.{numberOf, scanFrom}
 use Rattle.row.specs.Row.{rowBytes}
 use Rattle.table.specs.Rows.{section, count, start}
 use Rattle.formula.specs.Mentions.{mentions}

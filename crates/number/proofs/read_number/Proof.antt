@@ -4,7 +4,7 @@ use mathlib.Core.Path.{_≡_, refl, _∙_}
 use native.Mathlib.Omega.{arith}
 use lib.ListN.{length, drop}
 use borrow.Author.Needs.{needs}
-use Rattle.number.specs.Number.{scanFrom}
+use Rattle.number.specs.Reading.{scanFrom}
 use Rattle.number.specs.declared.Text.the-variants.{Spaces}
 use Rattle.number.specs.declared.Scan.the-variants.{Prefix}
 use Rattle.number.proofs.Columns.{scan-next, scan-done}
