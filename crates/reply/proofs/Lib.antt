@@ -1,6 +1,7 @@
-pub mod Printed
-pub mod Parse
-pub mod Writable
-pub mod ReadBack
-pub mod Members
 pub mod Answers
+pub mod Members
+pub mod Output
+pub mod Parse
+pub mod Printed
+pub mod ReadBack
+pub mod Writable

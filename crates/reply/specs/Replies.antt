@@ -56,6 +56,10 @@ module _ (m : Machine) where
   abbrev pub writeBy : Verdict → ℕ → List ℕ → Outcome
   writeBy v k out = withSequent v k out (λ s. writeRows (sequentRows s) out)
 
+  -- the bytes of sequent k: what write sequent writes
+  abbrev pub sequentBytes : ℕ → List ℕ
+  sequentBytes k = rowsBytes (sequentRows (sequentAt (sequents m) k))
+
   -- refusal 14, entry: "j not in 1 to the entries"
   abbrev pub spellAt : Sequent → ℕ → List ℕ → Outcome
   spellAt s j out =
