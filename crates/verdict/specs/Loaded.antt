@@ -1,17 +1,16 @@
 -- 01, checks 1 and 2: what is known of a table's bytes once its rows are read.
 use Prim.Native.Nat.{ℕ, _+_, _*_}
-use mathlib.Core.Path.{_≡_}
 use mathlib.Core.Bool.{true, false}
 use mathlib.Core.List.{List}
-use lib.ListN.{take}
 use Rattle.lists.specs.Choice.{pick}
-use Rattle.rules.specs.Decoded.{framed, rowCount, wordsOf, decoded}
+use Rattle.lists.specs.Over.{over}
+use Rattle.rules.specs.Decoded.{framed, rowCount, decoded}
 use Rattle.rules.specs.declared.Verdict.{Verdict}
 use Rattle.rules.specs.declared.Verdict.the-variants as verdict
 use Rattle.rules.specs.Verdict.{judge}
 use Rattle.decode.specs.declared.Decoded.{Decoded}
 use Rattle.decode.specs.declared.Decoded.the-variants as decoding
-use Rattle.decode.specs.Decode.{firstBad, decodedOf}
+use Rattle.decode.specs.Decode.{firstBad, wordsTo, decodedOf}
 use Rattle.verdict.specs.declared.Loaded.{Loaded}
 use Rattle.verdict.specs.declared.Loaded.the-variants.{Words, Refused}
 
@@ -32,6 +31,7 @@ abbrev pub judged : List ℕ → Loaded → Verdict
 judged bytes (Words n) = judge (decoded bytes)
 judged bytes (Refused number row) = verdict.Refused number row
 
--- where all rows are read, words hold their numbers
-abbrev pub HoldsRows : List ℕ → List ℕ → Type 0
-HoldsRows bytes words = (n : ℕ) → loadedOf bytes ≡ Words n → take n words ≡ wordsOf bytes
+-- what the lent words hold then: over their start the words of the rows before the first that is not in the row form, of all rows where there is none; on refusal 1
+-- what they held
+unfoldable pub loadedWords : List ℕ → List ℕ → List ℕ
+loadedWords bytes words = pick (framed bytes) (over (wordsTo bytes (firstBad bytes (rowCount bytes))) words) words

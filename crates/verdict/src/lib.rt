@@ -12,7 +12,7 @@ ghost use Prim.Native.Nat.{_^_, _≤_, _<_};
 ghost use lib.ListN.{length};
 ghost use Rattle.table.specs.Rows.{rowsOf};
 ghost use Rattle.rules.specs.Verdict.{judge as judgeOf, verdict as verdictOf};
-ghost use Rattle.verdict.specs.Loaded.{endRow, loadedRows, loadedOf, HoldsRows};
+ghost use Rattle.verdict.specs.Loaded.{endRow, loadedRows, loadedOf, loadedWords};
 
 // How many words the rows of a table have, or refusal 1 or 2 with its row.
 pub enum Loaded {
@@ -35,7 +35,7 @@ fn after_decoding(decoded: Decoded) -> Loaded
 pub fn load(bytes: &[u8], words: &mut [u64]) -> Loaded
     requires { ⌜ 6896 ≤ length (now words) ⌝ }
     ensures { λ r. ⌜ r ≡ loadedOf (now (bytes .entry)) ⌝ }
-    ensures { λ _. ⌜ HoldsRows (now (bytes .entry)) (now (words .exit)) ⌝ }
+    ensures { λ _. ⌜ now (words .exit) ≡ loadedWords (now (bytes .entry)) (now (words .entry)) ⌝ }
 {
     if Table::BYTES < bytes.len() {
         return Loaded::Refused(1, 0);

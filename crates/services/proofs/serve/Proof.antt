@@ -1,4 +1,4 @@
--- By checks 1 and 2; then by what the filled part of the words holds, the numbers of all rows (verdict's Rows).
+-- By checks 1 and 2; then by what the filled part of the words holds, the numbers of all rows (verdict's Filled).
 use mathlib.Core.Path.{ap, sym, _∙_}
 use Rattle.table.specs.Rows.{rowsOf}
 use Rattle.machine.specs.Described.{machineOf}
@@ -18,13 +18,13 @@ serve-spec = tie.close (tie.spec
     (λ c. search needs)
     (λ c. let told = c .before in
     let load = told .before .before .before in
-    filled (told .before .before .before .before .before .before .before .args .bytes .now) (load .load .last .1 .0) (told .n .given .0 .0) (told .before .before .words2 .given) (sym (load .load .ensures .0) ∙ told .n .given .1) .within)
+    filled (told .before .before .before .before .before .before .before .args .bytes .now) _ (load .load .last .1 .0) (told .n .given .0 .0) (told .before .before .words2 .given) (load .load .ensures .1) (sym (load .load .ensures .0) ∙ told .n .given .1) .within)
     (λ c. let told = c .before .before in
     let load = told .before .before .before in
-    filled (told .before .before .before .before .before .before .before .args .bytes .now) (load .load .last .1 .0) (told .n .given .0 .0) (told .before .before .words2 .given) (sym (load .load .ensures .0) ∙ told .n .given .1) .size)
+    filled (told .before .before .before .before .before .before .before .args .bytes .now) _ (load .load .last .1 .0) (told .n .given .0 .0) (told .before .before .words2 .given) (load .load .ensures .1) (sym (load .load .ensures .0) ∙ told .n .given .1) .size)
     (λ c κs. let told = c .before .before .before in
     let load = told .before .before .before in
-    filled (told .before .before .before .before .before .before .before .args .bytes .now) (load .load .last .1 .0) (told .n .given .0 .0) (told .before .before .words2 .given) (sym (load .load .ensures .0) ∙ told .n .given .1) .small)
+    filled (told .before .before .before .before .before .before .before .args .bytes .now) _ (load .load .last .1 .0) (told .n .given .0 .0) (told .before .before .words2 .given) (load .load .ensures .1) (sym (load .load .ensures .0) ∙ told .n .given .1) .small)
     (λ c. let told = c .before in
     let s = told .before .before .before .before .before .before .before in
     let b = s .args .bytes .now in
@@ -34,7 +34,8 @@ serve-spec = tie.close (tie.spec
     let told = served .before .before .before .before in
     let s = told .before .before .before .before .before .before .before in
     let b = s .args .bytes .now in
-    let words = sym (told .before .before .before .load .ensures .0) ∙ told .n .given .1 in
+    let load = told .before .before .before in
+    let words = sym (load .load .ensures .0) ∙ told .n .given .1 in
     served .serve-rows .ensures
-    ∙ ap (λ ws. serveBy (machineOf (rowsOf ws)) (judge (rowsOf ws)) (s .args .k) (s .args .request) (s .args .out .now)) (told .before .before .before .load .ensures .1 (told .n .given .0 .0) words)
+    ∙ ap (λ ws. serveBy (machineOf (rowsOf ws)) (judge (rowsOf ws)) (s .args .k) (s .args .request) (s .args .out .now)) (filled b _ (load .load .last .1 .0) (told .n .given .0 .0) (told .before .before .words2 .given) (load .load .ensures .1) words .holds)
     ∙ sym (ap (λ v. serveBy (machine b) v (s .args .k) (s .args .request) (s .args .out .now)) (verdict-judged b ∙ ap (judged b) words))))
