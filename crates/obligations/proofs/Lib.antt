@@ -1,1 +1,3 @@
+pub mod Length
+pub mod Stands
 pub mod Walk

@@ -1,7 +1,9 @@
 // 01, Sequents: "A program reads a table from standard input and prints all sequents, or one row 89 (refusal, row, 0)."
+mod output;
+
 use entries::count_entries;
 use libc::STDIN_FILENO;
-use libc::STDOUT_FILENO;
+use output::Printer;
 use row::Row;
 use rules::Verdict;
 use services::write_slot;
@@ -12,93 +14,93 @@ use verdict::load;
 use walk::Slot;
 use walk::seek;
 ghost use mathlib.Core.Path.{_≡_};
-ghost use Prim.Native.Nat.{_+_, _*_, _≤_};
+ghost use Prim.Native.Nat.{_+_, _*_, _<_, _≤_};
 ghost use lib.ListN.{length};
 ghost use Rattle.table.specs.Rows.{rowsOf};
 ghost use Rattle.table.specs.Counts.{countsOf};
-ghost use Rattle.machine.specs.Described.{machineOf};
-ghost use Rattle.sequent.specs.Listed.{sequents};
-ghost use Rattle.rules.specs.declared.Verdict.the-variants.{Accepted};
-ghost use Rattle.rules.specs.Verdict.{judge as judgeOf};
-ghost use Rattle.reply.specs.Printed.{sequentRows, rowsBytes};
-ghost use Rattle.reply.specs.Replies.{sequentAt};
-ghost use Rattle.services.specs.Found.{Located};
+ghost use Rattle.rules.specs.declared.Verdict.the-variants.{Accepted, Refused};
+ghost use Rattle.rules.specs.Decoded.{wordsOf};
+ghost use Rattle.rules.specs.Verdict.{judge as judgeOf, verdict as verdictOf};
+ghost use Rattle.reply.specs.Replies.{output};
+ghost use Rattle.obligations.specs.Output.{StandsAt, slotBytes};
 
-// Prints bytes, and answers whether they were taken.
-fn print(bytes: &[u8]) -> bool {
-    let printed = io::write_all(STDOUT_FILENO, bytes);
-    if !printed {
-        os::fail(b"standard output");
-    }
-    printed
-}
-
-fn print_refusal(number: u64, at: u64) {
+// "or one row 89 (refusal, row, 0)"
+fn print_refusal(bytes: &[u8], number: u64, row: u64) -> Printer
+    requires { ⌜ verdictOf (now bytes) ≡ Refused number row ⌝ }
+    ensures { λ r. ⌜ r .at ≡ length (output (now (bytes .entry))) ⌝ }
+{
     let mut out = [0u8; 38];
-    let row = Row {
+    let refusal = Row {
         tag: 89,
         a: number,
-        b: at,
+        b: row,
         c: 0,
     };
-    row.write(&mut out);
-    print(&out);
+    refusal.write(&mut out);
+    Printer::start().print(bytes, &out)
 }
 
-// Prints sequent k: the one place where sequents are printed, and only a sequent's own rows may be.
-fn print_sequent(words: &[u64], k: u64, rows: &[u8]) -> bool
-    requires { ⌜ now rows ≡ rowsBytes (sequentRows (sequentAt (sequents (machineOf (rowsOf (now words)))) k)) ⌝ }
-{
-    print(rows)
-}
-
-// Writes the sequent in a slot, sequent k, and prints it.
-fn print_slot(words: &[u64], table: Table, slot: Slot, k: u64, out: &mut [u8]) -> bool
-    requires { ⌜ (table ≡ countsOf (rowsOf (now words))) × Located (rowsOf (now words)) k slot ⌝ }
+// Writes the sequent in a slot and prints it, where it is what the output goes on with.
+fn print_slot(
+    bytes: &[u8],
+    words: &[u64],
+    table: Table,
+    slot: Slot,
+    printer: Printer,
+    out: &mut [u8],
+) -> Printer
+    requires { ⌜ (table ≡ countsOf (rowsOf (now words))) × (slot .row < rowsOf (now words) .size) ⌝ }
+    requires { ⌜ StandsAt (now bytes) (printer .at) (slotBytes (rowsOf (now words)) slot) ⌝ }
     requires { ⌜ 38 * (1 + 4 * rowsOf (now words) .size) ≤ length (now out) ⌝ }
+    ensures { λ r. ⌜ r .at ≡ printer .at + length (slotBytes (rowsOf (now (words .entry))) slot) ⌝ }
 {
     let entries = count_entries(words, table, slot.event, slot.group, slot.row);
     let end = Row::LENGTH * (1 + entries as usize);
     write_slot(words, table, slot, out);
-    print_sequent(words, k, &out[..end])
+    printer.print(bytes, &out[..end])
 }
 
-// Prints the sequents from 1 to the count, by one walk.
-fn print_sequents(words: &[u64], table: Table, count: u64, out: &mut [u8])
-    requires { ⌜ (table ≡ countsOf (rowsOf (now words))) × (judgeOf (rowsOf (now words)) ≡ Accepted count) ⌝ }
+// "prints all sequents": those from 1 to the count, by one walk.
+fn print_sequents(bytes: &[u8], words: &[u64], table: Table, count: u64, out: &mut [u8]) -> Printer
+    requires { ⌜ (now words ≡ wordsOf (now bytes)) × (table ≡ countsOf (rowsOf (now words))) × (verdictOf (now bytes) ≡ Accepted count) ⌝ }
     requires { ⌜ 38 * (1 + 4 * rowsOf (now words) .size) ≤ length (now out) ⌝ }
+    ensures { λ r. ⌜ r .at ≡ length (output (now (bytes .entry))) ⌝ }
 {
+    let mut printer = Printer::start();
     if count == 0 {
-        return;
+        return printer;
     }
     let mut slot = seek(words, table, Slot::start(0));
     let mut printed = 0;
     while printed < count {
-        if !print_slot(words, table, slot, printed + 1, out) {
-            return;
-        }
+        printer = print_slot(bytes, words, table, slot, printer, out);
         slot = seek(words, table, slot.after());
         printed += 1;
     }
+    printer
 }
 
-// Prints the sequents of these rows, or the refusal of checks 3 to 12.
-fn print_rows(words: &[u64], out: &mut [u8])
+// Prints the sequents of a table with these words, or its refusal by checks 3 to 12.
+fn print_rows(bytes: &[u8], words: &[u64], out: &mut [u8]) -> Printer
+    requires { ⌜ (now words ≡ wordsOf (now bytes)) × (verdictOf (now bytes) ≡ judgeOf (rowsOf (now words))) ⌝ }
     requires { ⌜ (length (now words) ≤ 6896) × (262086 ≤ length (now out)) ⌝ }
+    ensures { λ r. ⌜ r .at ≡ length (output (now (bytes .entry))) ⌝ }
 {
     match judge(words) {
-        Verdict::Refused(number, row) => print_refusal(number, row),
-        Verdict::Accepted(count) => print_sequents(words, Table::of(words), count, out),
+        Verdict::Refused(number, row) => print_refusal(bytes, number, row),
+        Verdict::Accepted(count) => print_sequents(bytes, words, Table::of(words), count, out),
     }
 }
 
-fn print_table(bytes: &[u8], out: &mut [u8])
+// Prints the whole output for a table.
+fn print_table(bytes: &[u8], out: &mut [u8]) -> Printer
     requires { ⌜ 262086 ≤ length (now out) ⌝ }
+    ensures { λ r. ⌜ r .at ≡ length (output (now (bytes .entry))) ⌝ }
 {
     let mut words = [0u64; 6896];
     match load(bytes, &mut words) {
-        Loaded::Refused(number, row) => print_refusal(number, row),
-        Loaded::Words(n) => print_rows(&words[..n], out),
+        Loaded::Refused(number, row) => print_refusal(bytes, number, row),
+        Loaded::Words(n) => print_rows(bytes, &words[..n], out),
     }
 }
 
