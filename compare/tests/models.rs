@@ -22,10 +22,14 @@ const FREE_LIST: (&str, &str) = (
     include_str!("../../models/free_list.txt"),
     include_str!("../../models/free_list.out"),
 );
+const REFUSED: (&str, &str) = (
+    include_str!("../../models/refused.txt"),
+    include_str!("../../models/refused.out"),
+);
 
 #[test]
 fn stored_output_is_printed() {
-    for (text, printed) in [L, COUNTER, FREE_LIST] {
+    for (text, printed) in [L, COUNTER, FREE_LIST, REFUSED] {
         assert_eq!(print(&table(text)), printed.as_bytes());
     }
     assert_eq!(rows(L.0), rows(common::L));
