@@ -9,11 +9,12 @@ use Rattle.row.specs.Row.{greatest, width, rowLength}
 use Rattle.row.specs.Reading.{part, lineAt}
 use Rattle.row.specs.declared.Line.{Line}
 use Rattle.row.specs.declared.Line.the-variants as line
+use Rattle.table.specs.Limits.{mostBytes}
 use Rattle.table.specs.Rows.{Rows, rowsOf}
 
 -- 01, refusal 1, frame: "over 65,536 bytes or not whole rows"
 abbrev pub framed : List ℕ → Bool
-framed bytes = leb (length bytes) 65536 && eqb (length bytes % rowLength width) 0
+framed bytes = leb (length bytes) mostBytes && eqb (length bytes % rowLength width) 0
 
 abbrev pub rowCount : List ℕ → ℕ
 rowCount bytes = length bytes / rowLength width

@@ -1,4 +1,5 @@
 // 01, Rows: a table's rows as words, four a row (tag, a, b, c), and where its identifiers, nodes and events stand.
+use row::Row;
 ghost use mathlib.Core.Path.{_≡_};
 ghost use Prim.Native.Nat.{_+_, _*_, _-_, _^_, _<_, _≤_};
 ghost use mathlib.Core.Bool.{_&&_};
@@ -109,7 +110,9 @@ impl Table {
     // 01: "The limits belong to the table and are named once".
     pub const BYTES: usize = 65536;
 
-    pub const ROWS: usize = 1724;
+    pub const ROWS: usize = Table::BYTES / Row::LENGTH;
+
+    pub const WORDS: usize = 4 * Table::ROWS;
 
     pub const IDENTIFIERS: u64 = 64;
 
