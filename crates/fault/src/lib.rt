@@ -9,6 +9,7 @@ use rule_sorts::use_offends;
 use rule_tags::full_offends;
 use rule_tags::tag_offends;
 use rule_tags::twice_offends;
+use rules::Verdict;
 use table::Table;
 use table::size;
 ghost use mathlib.Core.Path.{_≡_};
@@ -55,14 +56,14 @@ pub fn first_row(words: &[u64], table: Table, check: u64) -> usize
     i
 }
 
-// The first check from 3 to 11 against which a row offends, or 12.
+// The first check from 3 on against which a row offends, or the last.
 pub fn first_check(words: &[u64], table: Table) -> u64
     requires { ⌜ table ≡ countsOf (rowsOf (now words)) ⌝ }
     ensures { λ r. ⌜ r ≡ firstCheck (rowsOf (now (words .entry))) ⌝ }
 {
     let rows = size(words);
     let mut check = 3;
-    while check < 12 {
+    while check < Verdict::MISSING {
         if first_row(words, table, check) < rows {
             return check;
         }

@@ -5,3 +5,8 @@ pub enum Verdict {
     Accepted(u64),
     Refused(u64, u64),
 }
+
+impl Verdict {
+    // The last check, which concerns no row: refusal 12, missing.
+    pub const MISSING: u64 = 12;
+}
