@@ -6,6 +6,7 @@ ghost use mathlib.Core.Path.{_≡_};
 ghost use Prim.Native.Nat.{_*_, _≤_};
 ghost use lib.ListN.{length};
 ghost use Rattle.lists.specs.Over.{over};
+ghost use Rattle.row.specs.Row.{width, rowLength};
 ghost use Rattle.decode.specs.Decode.{four, firstBad, wordsTo, decodedOf};
 
 // How many rows were decoded, or the first row that is not in the row form, counted from 0.
@@ -27,7 +28,7 @@ fn store(words: &mut [u64], row: Row)
 
 // Decodes the first rows of bytes into words, up to the first that is not in the row form.
 pub fn decode(bytes: &[u8], rows: usize, words: &mut [u64]) -> Decoded
-    requires { ⌜ (38 * rows ≤ length (now bytes)) × (4 * rows ≤ length (now words)) ⌝ }
+    requires { ⌜ (rowLength width * rows ≤ length (now bytes)) × (4 * rows ≤ length (now words)) ⌝ }
     ensures { λ r. ⌜ r ≡ decodedOf (firstBad (now (bytes .entry)) rows) rows ⌝ }
     ensures { λ _. ⌜ now (words .exit) ≡ over (wordsTo (now (bytes .entry)) (firstBad (now (bytes .entry)) rows)) (now (words .entry)) ⌝ }
 {

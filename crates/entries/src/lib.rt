@@ -24,6 +24,7 @@ ghost use lib.ListN.{length, getD};
 ghost use mathlib.Core.Bool.{_&&_};
 ghost use Rattle.lists.specs.Over.{over};
 ghost use Rattle.lists.specs.Below.{oneIf};
+ghost use Rattle.row.specs.Row.{width, rowLength};
 ghost use Rattle.table.specs.Rows.{rowsOf, tagged};
 ghost use Rattle.table.specs.Counts.{countsOf};
 ghost use Rattle.sequent.specs.Entry.{written};
@@ -503,7 +504,7 @@ pub fn write_entries(
     out: &mut [u8],
 )
     requires { ⌜ (table ≡ countsOf (rowsOf (now words))) × (row < rowsOf (now words) .size) ⌝ }
-    requires { ⌜ 38 * entriesTo (rowsOf (now words)) event group row segments 0 ≤ length (now out) ⌝ }
+    requires { ⌜ rowLength width * entriesTo (rowsOf (now words)) event group row segments 0 ≤ length (now out) ⌝ }
     ensures { λ _. ⌜ now (out .exit) ≡ over (rowsBytes (entryRows (rowsOf (now (words .entry))) event group row which)) (now (out .entry)) ⌝ }
 {
     let mut cursor = seek_entry(words, table, event, group, row, Cursor::start(0));

@@ -9,6 +9,7 @@ use lib.ListN.{length, take}
 use Rattle.lists.specs.Choice.{pick}
 use Rattle.lists.specs.Over.{over}
 use Rattle.row.specs.declared.Row.{Row}
+use Rattle.row.specs.Row.{width, rowLength}
 use Rattle.formula.specs.Tree.{Tree}
 use Rattle.formula.specs.AfterValues.{atAfter}
 use Rattle.formula.specs.WellDefined.{wellDefined}
@@ -31,11 +32,11 @@ capped n = pick (ltb n cap) n cap
 
 -- "into what is left of the buffer": where that starts after some rows; at the end where they have no room
 unfoldable pub restStart : ℕ → ℕ → ℕ
-restStart size rows = pick (ltb (size / 38) rows) size (38 * rows)
+restStart size rows = pick (ltb (size / rowLength width) rows) size (rowLength width * rows)
 
 -- how many rows a buffer has room for
 abbrev pub room : List ℕ → ℕ
-room out = length out / 38
+room out = length out / rowLength width
 
 -- rows were counted and written into the front of the buffer, as many of them, from the first on, as it has room for
 pub record Spelled (rs : List Row) (r : ℕ) (entry exit : List ℕ) : Type 0 where

@@ -14,6 +14,7 @@ ghost use Prim.Native.Nat.{_+_, _-_, _^_, _<_, _≤_};
 ghost use mathlib.Core.Bool.{_&&_, false};
 ghost use Rattle.lists.specs.Choice.{pick};
 ghost use lib.ListN.{getD, length};
+ghost use Rattle.table.specs.Limits.{mostWords};
 ghost use Rattle.table.specs.Rows.{rowsOf, tagged, refinedBy};
 ghost use Rattle.table.specs.Counts.{countsOf};
 ghost use Rattle.sequent.specs.Walk.{hasGroup, groupTests, isFormula, rowOfEvent, isAbstract, isRefining, isMatched, isConvergent};
@@ -365,7 +366,7 @@ const MANY: u64 = 4294967296;
 
 // How many sequents a table has.
 pub fn count(words: &[u64], table: Table) -> u64
-    requires { ⌜ (table ≡ countsOf (rowsOf (now words))) × (length (now words) ≤ 6896) ⌝ }
+    requires { ⌜ (table ≡ countsOf (rowsOf (now words))) × (length (now words) ≤ mostWords) ⌝ }
     ensures { λ r. ⌜ r ≡ length (sequents (machineOf (rowsOf (now (words .entry))))) ⌝ }
 {
     if size(words) == 0 {
