@@ -3,6 +3,7 @@ use decode::Decoded;
 use decode::decode;
 use fault::first_check;
 use fault::first_row;
+use row::Row;
 use rule_missing::missing;
 use rules::Verdict;
 use table::Table;
@@ -10,6 +11,7 @@ use walk::count;
 ghost use mathlib.Core.Path.{_≡_};
 ghost use Prim.Native.Nat.{_^_, _≤_, _<_};
 ghost use lib.ListN.{length};
+ghost use Rattle.table.specs.Limits.{mostWords};
 ghost use Rattle.table.specs.Rows.{rowsOf};
 ghost use Rattle.rules.specs.Verdict.{judge as judgeOf, verdict as verdictOf};
 ghost use Rattle.verdict.specs.Loaded.{endRow, loadedRows, loadedOf, loadedWords};
@@ -33,31 +35,31 @@ fn after_decoding(decoded: Decoded) -> Loaded
 
 // Checks 1 and 2, and the numbers of all rows as words.
 pub fn load(bytes: &[u8], words: &mut [u64]) -> Loaded
-    requires { ⌜ 6896 ≤ length (now words) ⌝ }
+    requires { ⌜ mostWords ≤ length (now words) ⌝ }
     ensures { λ r. ⌜ r ≡ loadedOf (now (bytes .entry)) ⌝ }
     ensures { λ _. ⌜ now (words .exit) ≡ loadedWords (now (bytes .entry)) (now (words .entry)) ⌝ }
 {
     if Table::BYTES < bytes.len() {
         return Loaded::Refused(1, 0);
     }
-    if bytes.len() % 38 != 0 {
+    if bytes.len() % Row::LENGTH != 0 {
         return Loaded::Refused(1, 0);
     }
-    after_decoding(decode(bytes, bytes.len() / 38, words))
+    after_decoding(decode(bytes, bytes.len() / Row::LENGTH, words))
 }
 
 // Checks 3 to 12, and the count of the sequents where none offends.
 pub fn judge(words: &[u64]) -> Verdict
-    requires { ⌜ length (now words) ≤ 6896 ⌝ }
+    requires { ⌜ length (now words) ≤ mostWords ⌝ }
     ensures { λ r. ⌜ r ≡ judgeOf (rowsOf (now (words .entry))) ⌝ }
 {
     let table = Table::of(words);
     let check = first_check(words, table);
-    if check < 12 {
+    if check < Verdict::MISSING {
         return Verdict::Refused(check, first_row(words, table, check) as u64 + 1);
     }
     if missing(words, table) {
-        return Verdict::Refused(12, 0);
+        return Verdict::Refused(Verdict::MISSING, 0);
     }
     Verdict::Accepted(count(words, table))
 }
@@ -66,7 +68,7 @@ pub fn judge(words: &[u64]) -> Verdict
 pub fn check(bytes: &[u8]) -> Verdict
     ensures { λ r. ⌜ r ≡ verdictOf (now (bytes .entry)) ⌝ }
 {
-    let mut words = [0u64; 6896];
+    let mut words = [0u64; Table::WORDS];
     match load(bytes, &mut words) {
         Loaded::Refused(number, row) => Verdict::Refused(number, row),
         Loaded::Words(n) => judge(&words[..n]),
