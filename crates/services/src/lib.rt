@@ -19,6 +19,8 @@ ghost use mathlib.Core.Path.{_≡_};
 ghost use Prim.Native.Nat.{_+_, _*_, _<_, _≤_};
 ghost use lib.ListN.{length};
 ghost use Rattle.lists.specs.Over.{over};
+ghost use Rattle.row.specs.Row.{width, rowLength};
+ghost use Rattle.table.specs.Limits.{mostWords};
 ghost use Rattle.table.specs.Rows.{rowsOf, Rising};
 ghost use Rattle.table.specs.Counts.{countsOf};
 ghost use Rattle.machine.specs.Described.{machineOf};
@@ -42,7 +44,7 @@ pub fn find_sequent(words: &[u64], table: Table, k: u64) -> Slot
 // Writes a slot's sequent: row 80, then its entries into what is left of the buffer.
 pub fn write_slot(words: &[u64], table: Table, slot: Slot, out: &mut [u8])
     requires { ⌜ (table ≡ countsOf (rowsOf (now words))) × (slot .row < rowsOf (now words) .size) ⌝ }
-    requires { ⌜ 38 * (1 + entriesTo (rowsOf (now words)) (slot .event) (slot .group) (slot .row) segments 0) ≤ length (now out) ⌝ }
+    requires { ⌜ rowLength width * (1 + entriesTo (rowsOf (now words)) (slot .event) (slot .group) (slot .row) segments 0) ≤ length (now out) ⌝ }
     ensures { λ _. ⌜ now (out .exit) ≡ over (rowsBytes (sequentRows (slotSequentOf (rowsOf (now (words .entry))) slot))) (now (out .entry)) ⌝ }
 {
     let event = slot.event;
@@ -133,7 +135,7 @@ fn serve_accepted(words: &[u64], count: u64, k: u64, request: Request, out: &mut
 
 // Does what is asked of sequent k of the table of these rows, where it is accepted.
 fn serve_rows(words: &[u64], k: u64, request: Request, out: &mut [u8]) -> Reply
-    requires { ⌜ length (now words) ≤ 6896 ⌝ }
+    requires { ⌜ length (now words) ≤ mostWords ⌝ }
     ensures { λ r. ⌜ outcome r (now (out .exit)) ≡ serveBy (machineOf (rowsOf (now (words .entry)))) (judgeOf (rowsOf (now (words .entry)))) k request (now (out .entry)) ⌝ }
 {
     match judge(words) {
@@ -146,7 +148,7 @@ fn serve_rows(words: &[u64], k: u64, request: Request, out: &mut [u8]) -> Reply
 fn serve(bytes: &[u8], k: u64, request: Request, out: &mut [u8]) -> Reply
     ensures { λ r. ⌜ outcome r (now (out .exit)) ≡ serveBy (machine (now (bytes .entry))) (verdictOf (now (bytes .entry))) k request (now (out .entry)) ⌝ }
 {
-    let mut words = [0u64; 6896];
+    let mut words = [0u64; Table::WORDS];
     match load(bytes, &mut words) {
         Loaded::Refused(number, row) => Reply::Refused(number, row),
         Loaded::Words(n) => serve_rows(&words[..n], k, request, out),
