@@ -16,6 +16,8 @@ use walk::seek;
 ghost use mathlib.Core.Path.{_≡_};
 ghost use Prim.Native.Nat.{_+_, _*_, _<_, _≤_};
 ghost use lib.ListN.{length};
+ghost use Rattle.row.specs.Row.{width, rowLength};
+ghost use Rattle.table.specs.Limits.{mostWords};
 ghost use Rattle.table.specs.Rows.{rowsOf};
 ghost use Rattle.table.specs.Counts.{countsOf};
 ghost use Rattle.rules.specs.declared.Verdict.the-variants.{Accepted, Refused};
@@ -29,7 +31,7 @@ fn print_refusal(bytes: &[u8], number: u64, row: u64) -> Printer
     requires { ⌜ verdictOf (now bytes) ≡ Refused number row ⌝ }
     ensures { λ r. ⌜ r .at ≡ length (output (now (bytes .entry))) ⌝ }
 {
-    let mut out = [0u8; 38];
+    let mut out = [0u8; Row::LENGTH];
     let refusal = Row {
         tag: 89,
         a: number,
@@ -51,7 +53,7 @@ fn print_slot(
 ) -> Printer
     requires { ⌜ (table ≡ countsOf (rowsOf (now words))) × (slot .row < rowsOf (now words) .size) ⌝ }
     requires { ⌜ StandsAt (now bytes) (printer .at) (slotBytes (rowsOf (now words)) slot) ⌝ }
-    requires { ⌜ 38 * (1 + 4 * rowsOf (now words) .size) ≤ length (now out) ⌝ }
+    requires { ⌜ rowLength width * (1 + 4 * rowsOf (now words) .size) ≤ length (now out) ⌝ }
     ensures { λ r. ⌜ r .at ≡ printer .at + length (slotBytes (rowsOf (now (words .entry))) slot) ⌝ }
 {
     let entries = count_entries(words, table, slot.event, slot.group, slot.row);
@@ -63,7 +65,7 @@ fn print_slot(
 // "prints all sequents": those from 1 to the count, by one walk.
 fn print_sequents(bytes: &[u8], words: &[u64], table: Table, count: u64, out: &mut [u8]) -> Printer
     requires { ⌜ (now words ≡ wordsOf (now bytes)) × (table ≡ countsOf (rowsOf (now words))) × (verdictOf (now bytes) ≡ Accepted count) ⌝ }
-    requires { ⌜ 38 * (1 + 4 * rowsOf (now words) .size) ≤ length (now out) ⌝ }
+    requires { ⌜ rowLength width * (1 + 4 * rowsOf (now words) .size) ≤ length (now out) ⌝ }
     ensures { λ r. ⌜ r .at ≡ length (output (now (bytes .entry))) ⌝ }
 {
     let mut printer = Printer::start();
@@ -83,7 +85,7 @@ fn print_sequents(bytes: &[u8], words: &[u64], table: Table, count: u64, out: &m
 // Prints the sequents of a table with these words, or its refusal by checks 3 to 12.
 fn print_rows(bytes: &[u8], words: &[u64], out: &mut [u8]) -> Printer
     requires { ⌜ (now words ≡ wordsOf (now bytes)) × (verdictOf (now bytes) ≡ judgeOf (rowsOf (now words))) ⌝ }
-    requires { ⌜ (length (now words) ≤ 6896) × (262086 ≤ length (now out)) ⌝ }
+    requires { ⌜ (length (now words) ≤ mostWords) × (rowLength width * (1 + mostWords) ≤ length (now out)) ⌝ }
     ensures { λ r. ⌜ r .at ≡ length (output (now (bytes .entry))) ⌝ }
 {
     match judge(words) {
@@ -94,26 +96,28 @@ fn print_rows(bytes: &[u8], words: &[u64], out: &mut [u8]) -> Printer
 
 // Prints the whole output for a table.
 fn print_table(bytes: &[u8], out: &mut [u8]) -> Printer
-    requires { ⌜ 262086 ≤ length (now out) ⌝ }
+    requires { ⌜ rowLength width * (1 + mostWords) ≤ length (now out) ⌝ }
     ensures { λ r. ⌜ r .at ≡ length (output (now (bytes .entry))) ⌝ }
 {
-    let mut words = [0u64; 6896];
+    let mut words = [0u64; Table::WORDS];
     match load(bytes, &mut words) {
         Loaded::Refused(number, row) => print_refusal(bytes, number, row),
         Loaded::Words(n) => print_rows(bytes, &words[..n], out),
     }
 }
 
-// One byte more than a table may have is enough to tell that it is too long. After a short read the input has ended, or reading it fails. The
-// buffer has room for any sequent: at most four entries a row, and a header.
+// Room for any sequent: a header, and at most four entries a row.
+const ROOM: usize = Row::LENGTH * (1 + Table::WORDS);
+
+// One byte more than a table may have is enough to tell that it is too long. After a short read the input has ended, or reading it fails.
 fn main() {
-    let mut input = [0u8; 65537];
+    let mut input = [0u8; Table::BYTES + 1];
     let got = io::read_full(STDIN_FILENO, &mut input);
     let mut more = [0u8; 1];
     if libc::read(STDIN_FILENO, &mut more) < 0 {
         os::fail(b"standard input");
         return;
     }
-    let mut out = [0u8; 262086];
+    let mut out = [0u8; ROOM];
     print_table(&input[..got], &mut out);
 }
