@@ -74,13 +74,13 @@ impl Row {
 
     pub const A: usize = 4;
 
-    pub const B: usize = 15;
+    pub const B: usize = Row::A + Row::WIDTH;
 
-    pub const C: usize = 26;
+    pub const C: usize = Row::B + Row::WIDTH;
 
-    pub const LAST: usize = 37;
+    pub const LAST: usize = Row::C + Row::WIDTH;
 
-    pub const LENGTH: usize = 38;
+    pub const LENGTH: usize = Row::LAST + 1;
 
     // The row in bytes of its length.
     pub fn read(bytes: &[u8]) -> Line
