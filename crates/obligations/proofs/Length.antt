@@ -10,8 +10,7 @@ use Rattle.lists.proofs.All.{all-in, all-flat}
 use Rattle.lists.proofs.Below.{in-numbers}
 use Rattle.row.specs.Row.{width}
 use Rattle.row.proofs.Form.{row-length}
-use Rattle.table.specs.Rows.{Rows}
-use Rattle.table.proofs.Sections.{Rising}
+use Rattle.table.specs.Rows.{Rows, Rising}
 use Rattle.machine.specs.Described.{machineOf}
 use Rattle.sequent.specs.Entry.{written}
 use Rattle.sequent.specs.Sequent.{Sequent}
