@@ -9,7 +9,7 @@ use Rattle.lists.specs.Below.{numbers}
 use Rattle.lists.proofs.Range.{table-rest}
 use Rattle.table.specs.Rows.{Rows}
 use Rattle.sequent.specs.Entry.{written, defined}
-use Rattle.sequent.specs.Listed.{WD, WFIS}
+use Rattle.sequent.specs.Sequent.{WD, WFIS}
 use Rattle.sequent.specs.Segments.{kinds, isWFIS, headerKind, items, headerItem, goals, goalOf, segmentTests, segmentTest, segmentEntries, segmentEntry}
 
 -- the kind: of a WFIS, and of a group

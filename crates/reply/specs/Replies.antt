@@ -11,8 +11,8 @@ use Rattle.row.specs.declared.Row.{Row}
 use Rattle.row.specs.Row.{rowBytes, width}
 use Rattle.machine.specs.Machine.{Machine}
 use Rattle.sequent.specs.Entry.{Entry, written, formula}
-use Rattle.sequent.specs.Sequent.{Sequent}
-use Rattle.sequent.specs.Listed.{sequent, sequents}
+use Rattle.sequent.specs.Sequent.{Sequent, sequent}
+use Rattle.sequent.specs.Listed.{sequents}
 use Rattle.rules.specs.declared.Verdict.{Verdict}
 use Rattle.rules.specs.declared.Verdict.the-variants as verdict
 use Rattle.rules.specs.Verdict.{verdict as verdictOf, machine}

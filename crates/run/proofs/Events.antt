@@ -7,8 +7,8 @@ use Rattle.lists.proofs.All.{all-left, all-right, all-at, all-imp, all-unmap, a
 use Rattle.machine.specs.Machine.{Machine}
 use Rattle.machine.specs.Machine.{Role, abstractInitialisation, abstractOrdinary, concreteInitialisation, refining, convergent}
 use Rattle.sequent.specs.Entry.{written, primed, defined, moves}
-use Rattle.sequent.specs.Sequent.{Valid}
-use Rattle.sequent.specs.Listed.{sequent, WD, INV, GRD, SIM, inOrder, actionWD, actionFIS, matching, refined, allWritten, base, variables}
+use Rattle.sequent.specs.Sequent.{Valid, sequent, WD, INV, GRD, SIM}
+use Rattle.sequent.specs.Listed.{inOrder, actionWD, actionFIS, matching, refined, allWritten, base, variables}
 use Rattle.sequent.specs.Listed.{invariants, guarded, moved}
 use Rattle.sequent.specs.Listed.{witnessEntries, witnessSequents, parameterWitnesses, grd, sim, invHypotheses, inv, variantSequents, eventSequents}
 use Rattle.sequent.specs.Listed.{formulas, sequents}

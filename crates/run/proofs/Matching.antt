@@ -13,8 +13,8 @@ use Rattle.formula.proofs.Values.{eq-equal-value}
 use Rattle.machine.specs.Machine.{Machine}
 use Rattle.machine.specs.Machine.{Role, abstractInitialisation, abstractOrdinary, concreteInitialisation, refining, convergent}
 use Rattle.sequent.specs.Entry.{written, primed, moves, natural, decreases, actionTree}
-use Rattle.sequent.specs.Sequent.{Meets, Valid}
-use Rattle.sequent.specs.Listed.{sequent, NAT, VAR, matching, refined, base, invariants, guarded, moved, witnessEntries, invHypotheses, sequents}
+use Rattle.sequent.specs.Sequent.{Meets, Valid, sequent, NAT, VAR}
+use Rattle.sequent.specs.Listed.{matching, refined, base, invariants, guarded, moved, witnessEntries, invHypotheses, sequents}
 use Rattle.run.specs.Run.{State, blank, world, Step, ofRun, Match, Matches}
 use Rattle.run.specs.SafeRun.{ownState, notInitial, oneMore, Bounded}
 use Rattle.run.proofs.WellFormed.{WitnessSees, WellFormed}

@@ -21,8 +21,8 @@ use Rattle.formula.proofs.Choose.{choose-present, choose-after}
 use Rattle.machine.specs.Machine.{Kind, constantKind, abstractVariable, concreteVariable, abstractParameter, concreteParameter, isVariable}
 use Rattle.machine.specs.Machine.{Machine, Role}
 use Rattle.sequent.specs.Entry.{written, witnessed, variable, witnessTree}
-use Rattle.sequent.specs.Sequent.{Meets, Valid}
-use Rattle.sequent.specs.Listed.{sequent, WFIS, guarded, moved, witnessEntries, parameterWitnesses}
+use Rattle.sequent.specs.Sequent.{Meets, Valid, sequent, WFIS}
+use Rattle.sequent.specs.Listed.{guarded, moved, witnessEntries, parameterWitnesses}
 use Rattle.run.specs.Run.{State, blank, world}
 use Rattle.run.proofs.WellFormed.{kinds, WitnessSees}
 use Rattle.run.proofs.Agreement.{true-agree}

@@ -17,8 +17,8 @@ use Rattle.lists.proofs.Distinct.{pairwise-map, pairwise-unmap, pairwise-flat}
 use Rattle.machine.specs.Machine.{Action, unassigned, becomesEqual, becomesSuchThat, Witness, Machine}
 use Rattle.machine.specs.Machine.{Role, abstractInitialisation, abstractOrdinary, concreteInitialisation, refining, convergent}
 use Rattle.sequent.specs.Entry.{Entry, written, primed, defined, moves, natural, decreases}
-use Rattle.sequent.specs.Sequent.{Sequent}
-use Rattle.sequent.specs.Listed.{sequent, WD, INV, FIS, GRD, SIM, WFIS, NAT, VAR, inOrder, actionWD, actionFIS, matching, refined}
+use Rattle.sequent.specs.Sequent.{Sequent, sequent, WD, INV, FIS, GRD, SIM, WFIS, NAT, VAR}
+use Rattle.sequent.specs.Listed.{inOrder, actionWD, actionFIS, matching, refined}
 use Rattle.sequent.specs.Listed.{allWritten, base, variables, invariants, guarded, witnessSequents, grd, sim, inv, variantSequents}
 use Rattle.sequent.specs.Listed.{eventSequents, formulas, sequents}
 use Rattle.sequent.specs.Required.{SameHeader}

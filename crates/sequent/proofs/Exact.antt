@@ -11,8 +11,8 @@ use Rattle.lists.proofs.All.{in-nil, in-cons, in-left, in-right, in-either, in-
 use Rattle.machine.specs.Machine.{Action, unassigned, becomesEqual, becomesSuchThat, Witness, Machine}
 use Rattle.machine.specs.Machine.{Role, abstractInitialisation, abstractOrdinary, concreteInitialisation, refining, convergent}
 use Rattle.sequent.specs.Entry.{Entry, written, defined, moves, feasible, natural, decreases, variable}
-use Rattle.sequent.specs.Sequent.{Sequent}
-use Rattle.sequent.specs.Listed.{sequent, WD, FIS, NAT, VAR, inOrder, actionWD, actionFIS, matching, refined}
+use Rattle.sequent.specs.Sequent.{Sequent, sequent, WD, FIS, NAT, VAR}
+use Rattle.sequent.specs.Listed.{inOrder, actionWD, actionFIS, matching, refined}
 use Rattle.sequent.specs.Listed.{allWritten, base, variables, invariants, guarded, moved, witnessEntries, witnessHypotheses, witnessSequents}
 use Rattle.sequent.specs.Listed.{parameterWitnesses, invHypotheses, variantSequents, eventSequents, formulas, sequents}
 use Rattle.sequent.specs.Listed.{grd as grdOf, sim as simOf, inv as invOf}

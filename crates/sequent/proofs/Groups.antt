@@ -19,8 +19,8 @@ use Rattle.machine.specs.Machine.{Action, unassigned, becomesEqual, becomesSuch
 use Rattle.machine.specs.Machine.{Role, abstractInitialisation, abstractOrdinary, concreteInitialisation, refining, convergent}
 use Rattle.machine.specs.Described.{roleNumbered, actionOf, belonging, identifiersOf, machineOf}
 use Rattle.sequent.specs.Entry.{Entry, written, defined, feasible}
-use Rattle.sequent.specs.Sequent.{Sequent}
-use Rattle.sequent.specs.Listed.{sequent, WD, FIS, inOrder, actionWD, actionFIS, matching, refined, allWritten, base, variables}
+use Rattle.sequent.specs.Sequent.{Sequent, sequent, WD, FIS}
+use Rattle.sequent.specs.Listed.{inOrder, actionWD, actionFIS, matching, refined, allWritten, base, variables}
 use Rattle.sequent.specs.Listed.{invariants, witnessSequents, grd, sim, inv, variantSequents, formulas}
 use Rattle.sequent.specs.Walk.{hasGroup, before, one, isFormula, rowOfEvent, isAbstract, isRefining, isMatched, isConvergent, matchedBy, ownKind, ownInvariantTag}
 use Rattle.sequent.specs.Walk.{identifierAt, actionRow, isAssigned, becomesSuch, groupTests, makes, roleOf, guardedAt, groupSequents, made, slot, groupSlots}

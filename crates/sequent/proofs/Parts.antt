@@ -4,8 +4,8 @@ use mathlib.Core.List.{List, _++_, map, flatMap}
 use Prim.Native.Nat.{ℕ}
 use Rattle.machine.specs.Machine.{Role, Machine}
 use Rattle.sequent.specs.Entry.{natural, decreases}
-use Rattle.sequent.specs.Sequent.{Sequent}
-use Rattle.sequent.specs.Listed.{sequent, NAT, VAR, inOrder, actionWD, actionFIS, matching, refined, base, variables, guarded, moved}
+use Rattle.sequent.specs.Sequent.{Sequent, sequent, NAT, VAR}
+use Rattle.sequent.specs.Listed.{inOrder, actionWD, actionFIS, matching, refined, base, variables, guarded, moved}
 use Rattle.sequent.specs.Listed.{witnessSequents, grd, sim, inv, variantSequents, eventSequents}
 
 module _ (m : Machine) (ro : Role) (e : ℕ) where

@@ -20,8 +20,8 @@ use Rattle.machine.specs.Machine.{Witness}
 use Rattle.machine.specs.Described.{machineOf}
 use Rattle.machine.proofs.Variables.{variable-numbered}
 use Rattle.sequent.specs.Entry.{Entry, written, moves, variable}
-use Rattle.sequent.specs.Sequent.{Sequent}
-use Rattle.sequent.specs.Listed.{sequent, formulas, base, guarded, moved, allWritten, variables, witnessEntries, parameterWitnesses, invHypotheses}
+use Rattle.sequent.specs.Sequent.{Sequent, sequent}
+use Rattle.sequent.specs.Listed.{formulas, base, guarded, moved, allWritten, variables, witnessEntries, parameterWitnesses, invHypotheses}
 use Rattle.sequent.specs.Walk.{groups, before, isFormula, rowOfEvent, isAbstract, isConvergent, ownKind, identifierAt, makes, roleOf, baseAt, guardedAt, movedAt, made, slotCount}
 use Rattle.sequent.specs.Segments.{headerKind, beforeIn, headerItem, goalOf, goalAt, isInitial, hasAbstract, hasConcrete, hasMoves, hasWitnesses, witnessIn}
 use Rattle.sequent.specs.Segments.{hasAbstractMoves, segmentTest, segmentEntry, segment, hypothesisWalk, entryWalk, slotSequent}

@@ -7,35 +7,7 @@ use Rattle.lists.specs.Below.{keep}
 use Rattle.machine.specs.Machine.{Action, unassigned, becomesEqual, becomesSuchThat, Witness, Machine}
 use Rattle.machine.specs.Machine.{Role, abstractInitialisation, abstractOrdinary, concreteInitialisation, refining, convergent}
 use Rattle.sequent.specs.Entry.{Entry, written, primed, defined, moves, feasible, witnessed, natural, decreases, variable}
-use Rattle.sequent.specs.Sequent.{Sequent}
-
-abbrev pub sequent : ℕ → ℕ → ℕ → List Entry → Entry → Sequent
-sequent k e i hs g = record { kind = k; event = e; item = i; hypotheses = hs; goal = g }
-
--- 01, the numbers of the kinds: 1 WD, 2 INV, 3 FIS, 4 GRD, 5 SIM, 6 WFIS, 7 NAT, 8 VAR
-abbrev pub WD : ℕ
-WD = 1
-
-abbrev pub INV : ℕ
-INV = 2
-
-abbrev pub FIS : ℕ
-FIS = 3
-
-abbrev pub GRD : ℕ
-GRD = 4
-
-abbrev pub SIM : ℕ
-SIM = 5
-
-abbrev pub WFIS : ℕ
-WFIS = 6
-
-abbrev pub NAT : ℕ
-NAT = 7
-
-abbrev pub VAR : ℕ
-VAR = 8
+use Rattle.sequent.specs.Sequent.{Sequent, sequent, WD, INV, FIS, GRD, SIM, WFIS, NAT, VAR}
 
 -- "WD of axiom, invariant: those before it", "WD of guard: base, earlier guards": each formula under the hypotheses and those before it
 unfoldable pub inOrder : ℕ → List Entry → List ℕ → List Sequent

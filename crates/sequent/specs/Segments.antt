@@ -9,8 +9,7 @@ use Rattle.lists.specs.Choice.{pick}
 use Rattle.lists.specs.Below.{countBelow, sumBelow, numbers, keep}
 use Rattle.table.specs.Rows.{Rows, tagged, classOf, isVariableNumber}
 use Rattle.sequent.specs.Entry.{Entry, written, primed, defined, moves, feasible, witnessed, natural, decreases}
-use Rattle.sequent.specs.Sequent.{Sequent}
-use Rattle.sequent.specs.Listed.{sequent, WD, INV, FIS, GRD, SIM, WFIS, NAT, VAR}
+use Rattle.sequent.specs.Sequent.{Sequent, sequent, WD, INV, FIS, GRD, SIM, WFIS, NAT, VAR}
 use Rattle.sequent.specs.Walk.{rowOfEvent, isAbstract, isConvergent, matchedBy, ownKind, identifierAt, actionRow}
 
 -- how many segments there are; the last is the goal

@@ -9,8 +9,8 @@ use lib.ListN.{length, getD}
 use Rattle.table.specs.Rows.{Rows, count, Rising}
 use Rattle.machine.specs.Described.{machineOf}
 use Rattle.sequent.specs.Entry.{written}
-use Rattle.sequent.specs.Sequent.{Sequent}
-use Rattle.sequent.specs.Listed.{sequent, sequents}
+use Rattle.sequent.specs.Sequent.{Sequent, sequent}
+use Rattle.sequent.specs.Listed.{sequents}
 use Rattle.sequent.specs.Walk.{slotCount, walkTo, walkCount}
 use Rattle.sequent.proofs.Walk.{walk-count}
 use Rattle.sequent.proofs.Find.{found-left, counted-made}

@@ -7,8 +7,8 @@ use Rattle.table.specs.Rows.{rowsOf, section, count, start}
 use Rattle.machine.specs.Machine.{Machine}
 use Rattle.machine.specs.Described.{kindNumbered, roleNumbered, actionOf, belonging, identifiersOf, machineOf}
 use Rattle.sequent.specs.Entry.{Entry, written, primed, defined, moves, feasible, witnessed, natural, decreases}
-use Rattle.sequent.specs.Sequent.{Sequent}
-use Rattle.sequent.specs.Listed.{sequent, inOrder, eventSequents, sequents, WD, INV, FIS, GRD, SIM, WFIS, NAT, VAR}
+use Rattle.sequent.specs.Sequent.{Sequent, sequent, WD, INV, FIS, GRD, SIM, WFIS, NAT, VAR}
+use Rattle.sequent.specs.Listed.{inOrder, eventSequents, sequents}
 use Rattle.worked.proofs.Decoded.{words}
 
 unfoldable pub worked : Machine

@@ -22,8 +22,8 @@ use Rattle.formula.proofs.NoDivision.{noDivision, no-division-defined}
 use Rattle.machine.specs.Operator.{operatorNumbered}
 use Rattle.machine.specs.Described.{treeTo, treeOf, machineOf}
 use Rattle.sequent.specs.Entry.{Entry, written, primed, defined, moves, feasible, witnessed, natural, decreases, formula}
-use Rattle.sequent.specs.Sequent.{Sequent, Meets, Valid}
-use Rattle.sequent.specs.Listed.{sequent, WD, sequents}
+use Rattle.sequent.specs.Sequent.{Sequent, Meets, Valid, sequent, WD}
+use Rattle.sequent.specs.Listed.{sequents}
 use Rattle.worked.proofs.Decoded.{words}
 use Rattle.worked.proofs.Listed.{worked, listed, list0, list1, list2, list3, list4, list5}
 use Rattle.worked.proofs.Formulas as f

@@ -2,7 +2,7 @@
 use mathlib.Core.Path.{_≡_, sym, ap, _∙_}
 use native.Mathlib.Omega.{arith}
 use lib.ListN.{getD}
-use Rattle.sequent.specs.Listed.{WD}
+use Rattle.sequent.specs.Sequent.{WD}
 use Rattle.sequent.specs.Segments.{kinds}
 use Rattle.entries.proofs.Tables.{kind-wfis, kind-other, kind-rest}
 use borrow.Author.Needs.{needs}
