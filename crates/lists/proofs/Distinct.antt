@@ -10,7 +10,7 @@ use native.Mathlib.Omega.{arith}
 use lib.ListN.{length, getD}
 use Rattle.lists.specs.Choice.{pick}
 use Rattle.lists.specs.All.{All, all-nil, In, here, there}
-use Rattle.lists.specs.Distinct.{Pairwise, pairwise-nil, pairwise-cons, Distinct}
+use Rattle.lists.specs.Distinct.{Pairwise, pairwise-nil, pairwise-cons, Distinct, Rising}
 use Rattle.lists.specs.Below.{numbers, keep}
 use Rattle.lists.proofs.All.{all-left, all-right, all-join, all-at, all-in, all-map, all-unmap, in-nil, in-cons, in-flat, in-unflat}
 
@@ -125,8 +125,13 @@ unfolding numbers
 numbers-from zero i j = absurd (in-nil j)
 numbers-from (suc n) i j = ⊎-elim (λ e. omega arith) (λ k. omega (arith, numbers-from n (suc i) k)) (in-cons j)
 
-pub numbers-distinct : (n i : ℕ) → Distinct (numbers n i)
+pub numbers-rise : (n i : ℕ) → Rising (numbers n i)
 unfolding numbers
-numbers-distinct zero i = pairwise-nil
-numbers-distinct (suc n) i =
-    pairwise-cons (all-in (numbers n (suc i)) (λ k j (e : i ≡ k). omega (arith, numbers-from n (suc i) j))) (numbers-distinct n (suc i))
+numbers-rise zero i = pairwise-nil
+numbers-rise (suc n) i = pairwise-cons (all-in (numbers n (suc i)) (λ k j. numbers-from n (suc i) j)) (numbers-rise n (suc i))
+
+pub rising-distinct : {xs : List ℕ} → Rising xs → Distinct xs
+rising-distinct h = pairwise-imp h (λ x y i j less same. omega arith)
+
+pub numbers-distinct : (n i : ℕ) → Distinct (numbers n i)
+numbers-distinct n i = rising-distinct (numbers-rise n i)

@@ -6,4 +6,5 @@ pub mod Flat
 pub mod Keep
 pub mod Over
 pub mod Range
+pub mod Sorted
 pub mod Below
