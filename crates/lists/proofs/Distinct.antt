@@ -77,11 +77,6 @@ module _ {A : Type 0} {R : A → A → Type 0} where
   pairwise-places (pairwise-cons {xs = xs} h hs) d zero (suc j) l k = all-at h (in-place xs d j (omega arith))
   pairwise-places (pairwise-cons h hs) d (suc i) (suc j) l k = pairwise-places hs d i j (omega arith) (omega arith)
 
-pub pairwise-both : {A : Type 0} {R S : A → A → Type 0} {xs : List A} → Pairwise R xs → Pairwise S xs → Pairwise (λ x y. R x y × S x y) xs
-pairwise-both pairwise-nil k = pairwise-nil
-pairwise-both (pairwise-cons {xs = xs} h hs) k =
-    pairwise-cons (all-in xs (λ y j. (all-at h j, all-at (pairwise-head k) j))) (pairwise-both hs (pairwise-tail k))
-
 -- where nothing later is S-related, and S is symmetric, S-related places are one place
 pub pairwise-once : {A : Type 0} {S : A → A → Type 0} {xs : List A} → ((x y : A) → S x y → S y x) → Pairwise (λ x y. ¬ S x y) xs
     → (d : A) (i j : ℕ) → i < length xs → j < length xs → S (getD xs i d) (getD xs j d) → i ≡ j

@@ -7,10 +7,10 @@ use native.Mathlib.Omega.{arith}
 use lib.Dec.{T, ltb, eqb, ltb→lt, eqb→eq}
 use borrow.Author.Tests.{ltb-true, ltb-false}
 use Rattle.lists.specs.All.{In}
-use Rattle.lists.specs.Distinct.{Distinct}
+use Rattle.lists.specs.Distinct.{Distinct, Rising}
 use Rattle.lists.specs.Choice.{pick}
 use Rattle.lists.specs.Below.{first, numbers}
-use Rattle.lists.proofs.Distinct.{pairwise-keep, numbers-distinct}
+use Rattle.lists.proofs.Distinct.{pairwise-keep, numbers-rise}
 use Rattle.lists.proofs.First.{Least, first-least}
 use Rattle.lists.proofs.Below.{numbers-in, in-numbers, in-keep}
 use Rattle.table.specs.Rows.{Rows, tagged, section, count, named, kindOf, operandNode, operatorOf, leftOf, rightOf, isAction}
@@ -60,9 +60,9 @@ module _ (t : Rows) where
       let r = in-numbers (count t 10) 1 x (k .0) in
       (bounds-named t 10 x (r .0) (omega (arith, r .1)), eqb→eq (kindOf t x) kind (k .1))
 
-  pub identifiers-distinct : (kind : ℕ) → Distinct (identifiersOf t kind)
+  pub identifiers-rise : (kind : ℕ) → Rising (identifiersOf t kind)
   unfolding identifiersOf
-  identifiers-distinct kind = pairwise-keep (λ x. eqb (kindOf t x) kind) (numbers-distinct (count t 10) 1)
+  identifiers-rise kind = pairwise-keep (λ x. eqb (kindOf t x) kind) (numbers-rise (count t 10) 1)
 
   -- the rows of a section that belong to an event
   pub belonging-row : (k e i : ℕ) → In i (belonging t k e) → (i < t .size) × (t .tag i ≡ k) × (t .a i ≡ e)

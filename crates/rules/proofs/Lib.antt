@@ -4,7 +4,7 @@ pub mod Events
 pub mod Identifiers
 pub mod Missing
 pub mod Obeys
-pub mod Once
+pub mod Ordered
 pub mod References
 pub mod Separate
 pub mod Sight

@@ -1,23 +1,24 @@
--- A table that meets every rule keeps its machines' roots, targets, identifiers and events apart. Roots are images of distinct rows, and a root is named by
--- one row (check 9); the rows of different parts have different tags. Targets differ by check 11; identifiers and events are numbered.
-use Prim.Native.Nat.{ℕ, _≤_, _<_}
+-- A table that meets every rule keeps its machines' roots and targets apart, and its identifiers and events rise. Roots are images of distinct rows, and a
+-- root is named by one row (check 9); the rows of different parts have different tags. Targets differ by check 11; identifiers and events are numbered.
+use Prim.Native.Nat.{ℕ, suc, _≤_, _<_}
 use mathlib.Core.Path.{_≡_, refl, sym, ap, _∙_}
 use mathlib.Core.List.{List, [], _∷_, _++_, map, map-map, flatMap}
 use mathlib.Core.Logic.{⊎-elim}
 use native.Mathlib.Omega.{arith}
 use lib.Dec.{T}
 use Rattle.lists.specs.All.{In}
-use Rattle.lists.specs.Distinct.{Distinct}
+use Rattle.lists.specs.Below.{numbers}
+use Rattle.lists.specs.Distinct.{Distinct, Rising}
 use Rattle.lists.proofs.All.{in-nil, in-unmap, in-either, in-unflat}
-use Rattle.lists.proofs.Distinct.{pairwise-join, pairwise-imp, pairwise-flat, distinct-map, numbers-from, numbers-distinct}
+use Rattle.lists.proofs.Distinct.{pairwise-join, pairwise-imp, pairwise-flat, distinct-map, numbers-rise, rising-distinct}
 use Rattle.table.specs.Rows.{Rows, section, count}
 use Rattle.table.proofs.Sections.{section-row, section-distinct}
 use Rattle.machine.specs.Machine.{Witness}
 use Rattle.machine.specs.Described.{actionOf, belonging, machineOf}
-use Rattle.machine.proofs.Described.{identifiers-distinct, belonging-row, belonging-distinct, SetBy, action-row}
-use Rattle.sequent.specs.Listed.{variables}
+use Rattle.machine.proofs.Described.{identifiers-rise, belonging-row, belonging-distinct, SetBy, action-row}
 use Rattle.sequent.proofs.Exact.{in-one}
-use Rattle.sequent.proofs.Distinct.{actionRoots, actionRoots-distinct, variables-either, Separate}
+use Rattle.sequent.specs.Order.{actionRoots, actionRootsOf}
+use Rattle.sequent.proofs.Ordered.{actionRoots-distinct, variables-either, Separate}
 use Rattle.rules.specs.Rules.{rootAt, namesRoot}
 use Rattle.rules.proofs.Obeys.{Obeys}
 use Rattle.rules.proofs.References.{rootTag, rootOf, names-root, root-at}
@@ -106,15 +107,14 @@ module _ (t : Rows) (ok : Obeys t) where
       apart-by-variable different (i, h, p) (j, k, s) same = different (sym p ∙ ap (t .b) (same-row h k same) ∙ s)
 
 pub obeys-separate : (t : Rows) → Obeys t → Separate (machineOf t)
-unfolding machineOf
+unfolding machineOf numbers
 obeys-separate t ok = record {
   formulaRoots = formula-roots .apart;
   eventRoots = λ e. event-roots e .apart;
   targets = targets-apart;
-  abstractVariables = identifiers-distinct t 2;
-  concreteVariables = identifiers-distinct t 3;
-  events = numbers-distinct (count t 40) 1;
-  eventsFromOne = λ m. omega (arith, numbers-from (count t 40) 1 m);
+  abstractVariables = identifiers-rise t 2;
+  concreteVariables = identifiers-rise t 3;
+  events = numbers-rise (suc (count t 40)) 0;
 }
   where
     formula-roots : Roots t 30 71 ((map (t .a) (section t 30) ++ (map (t .a) (section t 31) ++ map (t .a) (section t 32))) ++ map (t .a) (section t 70))
@@ -128,12 +128,11 @@ obeys-separate t ok = record {
     witness i = record { target = t .b i; root = t .c i }
 
     event-roots : (e : ℕ)
-        → Roots t 50 61 (map (t .b) (belonging t 50 e)
-        ++ (flatMap (λ x. actionRoots (actionOf t e x)) (variables (machineOf t) (machineOf t .role e)) ++ map (λ w. w .root) (map witness (belonging t 60 e))))
+        → Roots t 50 61 (map (t .b) (belonging t 50 e) ++ (actionRootsOf (machineOf t) e ++ map (λ w. w .root) (map witness (belonging t 60 e))))
     event-roots e =
         roots-join t ok {mid = 51} (omega arith) (belonging-roots t ok 50 e tt (omega arith))
         (roots-join t ok {mid = 60} (omega arith)
-        (action-roots t ok e (variables-either (machineOf t) Distinct (identifiers-distinct t 2) (identifiers-distinct t 3) (machineOf t .role e)))
+        (action-roots t ok e (rising-distinct (variables-either (machineOf t) Rising (identifiers-rise t 2) (identifiers-rise t 3) (machineOf t .role e))))
         (rw map-map (belonging-roots t ok 60 e tt (omega arith))))
 
     targets-apart : (e : ℕ) → Distinct (map (λ w. w .target) (map witness (belonging t 60 e)))

@@ -86,7 +86,7 @@ actionFIS-at : {e x : ℕ} {hs : List Entry} {a : Action} {r : ℕ} → a ≡ be
 actionFIS-at {e} {x} {hs} p = subst (λ a. In (sequent FIS e x hs (feasible e x)) (actionFIS e x hs a)) (sym p) (here refl)
 
 -- the abstract event of a role
-refined-role : (ro : Role) {f : ℕ} → In f (refined ro) → ro ≡ refining f
+pub refined-role : (ro : Role) {f : ℕ} → In f (refined ro) → ro ≡ refining f
 refined-role abstractInitialisation i = absurd (in-nil i)
 refined-role abstractOrdinary i = absurd (in-nil i)
 refined-role (concreteInitialisation f) i = absurd (in-nil i)
@@ -115,14 +115,14 @@ module _ (m : Machine) where
   base-same (refining f) = refl
   base-same convergent = refl
 
-  variables-same : (ro : Role) → ownVariables m ro ≡ variables m ro
+  pub variables-same : (ro : Role) → ownVariables m ro ≡ variables m ro
   variables-same abstractInitialisation = refl
   variables-same abstractOrdinary = refl
   variables-same (concreteInitialisation f) = refl
   variables-same (refining f) = refl
   variables-same convergent = refl
 
-  invariants-same : (ro : Role) → ownInvariants m ro ≡ invariants m ro
+  pub invariants-same : (ro : Role) → ownInvariants m ro ≡ invariants m ro
   invariants-same abstractInitialisation = refl
   invariants-same abstractOrdinary = refl
   invariants-same (concreteInitialisation f) = refl

@@ -3,6 +3,7 @@ pub mod Numbers
 pub mod Sequent
 pub mod Listed
 pub mod Required
+pub mod Order
 pub mod Walk
 pub mod Segments
 pub mod Formed
