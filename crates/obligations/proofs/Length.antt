@@ -14,7 +14,8 @@ use Rattle.table.specs.Rows.{Rows, Rising}
 use Rattle.machine.specs.Described.{machineOf}
 use Rattle.sequent.specs.Entry.{written}
 use Rattle.sequent.specs.Sequent.{Sequent}
-use Rattle.sequent.specs.Listed.{sequent, sequents}
+use Rattle.sequent.specs.Sequent.{sequent}
+use Rattle.sequent.specs.Listed.{sequents}
 use Rattle.sequent.specs.Walk.{groups, slot, slotCount, groupSlots, eventSlots}
 use Rattle.sequent.proofs.Walk.{slot-count, walked, walk-count}
 use Rattle.sequent.proofs.Find.{counted-made}

@@ -64,8 +64,8 @@ module _ (m : Machine) where
       -- "each witness's WD"
       (group WFIS ∷ placeIn (map (λ w. w .root) (m .witnesses e)) r ∷ 0 ∷ [])))
 
-  abbrev pub place : ℕ → ℕ → ℕ → List ℕ
-  place kind e i =
+  abbrev pub groupPlace : ℕ → ℕ → ℕ → List ℕ
+  groupPlace kind e i =
       -- "FIS by variable", "SIM, each abstract variable"
       pick (eqb kind FIS || eqb kind SIM) (i ∷ [])
       -- "each witness's WD then WFIS"
@@ -79,7 +79,7 @@ module _ (m : Machine) where
 
   -- "event by event"; WD of axioms, invariants and variant have event 0
   unfoldable pub key : ℕ → ℕ → ℕ → List ℕ
-  key kind e i = e ∷ pick (eqb kind WD) (wdPlace e i) (group kind ∷ place kind e i)
+  key kind e i = e ∷ pick (eqb kind WD) (wdPlace e i) (group kind ∷ groupPlace kind e i)
 
 -- of two lists of numbers the lesser: the first number that differs decides
 abbrev pub Less : List ℕ → List ℕ → Type 0
