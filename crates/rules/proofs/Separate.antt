@@ -8,7 +8,7 @@ use native.Mathlib.Omega.{arith}
 use lib.Dec.{T}
 use Rattle.lists.specs.All.{In}
 use Rattle.lists.specs.Below.{numbers}
-use Rattle.lists.specs.Distinct.{Distinct, Rising}
+use Rattle.lists.specs.Distinct.{Distinct}
 use Rattle.lists.proofs.All.{in-nil, in-unmap, in-either, in-unflat}
 use Rattle.lists.proofs.Distinct.{pairwise-join, pairwise-imp, pairwise-flat, distinct-map, numbers-rise, rising-distinct}
 use Rattle.table.specs.Rows.{Rows, section, count}
@@ -18,7 +18,7 @@ use Rattle.machine.specs.Described.{actionOf, belonging, machineOf}
 use Rattle.machine.proofs.Described.{identifiers-rise, belonging-row, belonging-distinct, SetBy, action-row}
 use Rattle.sequent.proofs.Exact.{in-one}
 use Rattle.sequent.specs.Order.{actionRoots, actionRootsOf}
-use Rattle.sequent.proofs.Ordered.{actionRoots-distinct, variables-either, Separate}
+use Rattle.sequent.proofs.Ordered.{actionRoots-distinct, own-either, Separate}
 use Rattle.rules.specs.Rules.{rootAt, namesRoot}
 use Rattle.rules.proofs.Obeys.{Obeys}
 use Rattle.rules.proofs.References.{rootTag, rootOf, names-root, root-at}
@@ -132,7 +132,7 @@ obeys-separate t ok = record {
     event-roots e =
         roots-join t ok {mid = 51} (omega arith) (belonging-roots t ok 50 e tt (omega arith))
         (roots-join t ok {mid = 60} (omega arith)
-        (action-roots t ok e (rising-distinct (variables-either (machineOf t) Rising (identifiers-rise t 2) (identifiers-rise t 3) (machineOf t .role e))))
+        (action-roots t ok e (own-either Distinct (rising-distinct (identifiers-rise t 3)) (rising-distinct (identifiers-rise t 2)) (machineOf t .role e)))
         (rw map-map (belonging-roots t ok 60 e tt (omega arith))))
 
     targets-apart : (e : ℕ) → Distinct (map (λ w. w .target) (map witness (belonging t 60 e)))

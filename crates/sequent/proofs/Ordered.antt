@@ -32,11 +32,11 @@ use Rattle.sequent.proofs.Places.{places-rise, places-agree, isIn-membe
 use Rattle.sequent.proofs.Blocks.{less-asymmetric, less-by, Block, blocks-apart, block-join, block-up, item-block, flat-block, map-block, one-block}
 use Rattle.sequent.proofs.Blocks.{nil-block}
 
--- an event's variables are those of the abstract or of the concrete machine
-pub variables-either : (m : Machine) (P : List ℕ → Type 0) → P (m .abstractVariables) → P (m .concreteVariables) → (ro : Role) → P (ownVariables m ro)
-variables-either m P a c ro = by-machine (isConcrete ro)
+-- what an event's own machine has is the concrete one's or the abstract one's
+pub own-either : (P : List ℕ → Type 0) {xs ys : List ℕ} → P xs → P ys → (ro : Role) → P (pick (isConcrete ro) xs ys)
+own-either P {xs} {ys} c a ro = by-machine (isConcrete ro)
   where
-    by-machine : (b : Bool) → P (pick b (m .concreteVariables) (m .abstractVariables))
+    by-machine : (b : Bool) → P (pick b xs ys)
     by-machine true = c
     by-machine false = a
 
@@ -99,7 +99,7 @@ module _ (m : Machine) (separate : Separate m) where
   guards-distinct e = pairwise-left (m .guards e) _ (separate .eventRoots e)
 
   variables-rise : (ro : Role) → Rising (ownVariables m ro)
-  variables-rise = variables-either m Rising (separate .abstractVariables) (separate .concreteVariables)
+  variables-rise = own-either Rising (separate .concreteVariables) (separate .abstractVariables)
 
   variants-distinct : Distinct (m .variants)
   variants-distinct = pairwise-right (axiomsInvariants m) (separate .formulaRoots)
@@ -108,11 +108,9 @@ module _ (m : Machine) (separate : Separate m) where
   bothInvariants-distinct = pairwise-right (m .axioms) (pairwise-left (axiomsInvariants m) (m .variants) (separate .formulaRoots))
 
   ownInvariants-distinct : (ro : Role) → Distinct (ownInvariants m ro)
-  ownInvariants-distinct ro = by-machine (isConcrete ro)
-    where
-      by-machine : (b : Bool) → Distinct (pick b (m .concreteInvariants) (m .abstractInvariants))
-      by-machine true = pairwise-right (m .abstractInvariants) bothInvariants-distinct
-      by-machine false = pairwise-left (m .abstractInvariants) (m .concreteInvariants) bothInvariants-distinct
+  ownInvariants-distinct =
+      own-either Distinct (pairwise-right (m .abstractInvariants) bothInvariants-distinct)
+      (pairwise-left (m .abstractInvariants) (m .concreteInvariants) bothInvariants-distinct)
 
   -- the sequents of one event
   module _ (e : ℕ) (positive : 0 < e) where
