@@ -10,9 +10,17 @@ use native.Mathlib.Omega.{arith}
 use lib.ListN.{length, getD}
 use Rattle.lists.specs.Choice.{pick}
 use Rattle.lists.specs.All.{All, all-nil, In, here, there}
-use Rattle.lists.specs.Distinct.{Pairwise, pairwise-nil, pairwise-cons, Distinct, Rising}
+use Rattle.lists.specs.Pairwise.{Pairwise, pairwise-nil, pairwise-cons}
 use Rattle.lists.specs.Below.{numbers, keep}
 use Rattle.lists.proofs.All.{all-left, all-right, all-join, all-at, all-in, all-map, all-unmap, in-nil, in-cons, in-flat, in-unflat}
+
+-- no member stands twice
+abbrev pub Distinct : {A : Type 0} → List A → Type 0
+Distinct xs = Pairwise (λ x y. ¬ (x ≡ y)) xs
+
+-- each number is less than all later ones
+abbrev pub Ascending : List ℕ → Type 0
+Ascending xs = Pairwise (λ x y. x < y) xs
 
 pub in-kept : {A : Type 0} (P : A → Bool) (xs : List A) {a : A} → In a (keep P xs) → In a xs
 unfolding keep
@@ -120,12 +128,12 @@ unfolding numbers
 numbers-from zero i j = absurd (in-nil j)
 numbers-from (suc n) i j = ⊎-elim (λ e. omega arith) (λ k. omega (arith, numbers-from n (suc i) k)) (in-cons j)
 
-pub numbers-rise : (n i : ℕ) → Rising (numbers n i)
+pub numbers-rise : (n i : ℕ) → Ascending (numbers n i)
 unfolding numbers
 numbers-rise zero i = pairwise-nil
 numbers-rise (suc n) i = pairwise-cons (all-in (numbers n (suc i)) (λ k j. numbers-from n (suc i) j)) (numbers-rise n (suc i))
 
-pub rising-distinct : {xs : List ℕ} → Rising xs → Distinct xs
+pub rising-distinct : {xs : List ℕ} → Ascending xs → Distinct xs
 rising-distinct h = pairwise-imp h (λ x y i j less same. omega arith)
 
 pub numbers-distinct : (n i : ℕ) → Distinct (numbers n i)

@@ -4,7 +4,7 @@ use mathlib.Core.Path.{_≡_, refl, sym, ap₂, subst, _∙_}
 use mathlib.Core.List.{List, [], _∷_}
 use mathlib.Core.Logic.{_↔_, ⊎-elim}
 use Rattle.lists.specs.All.{In, here, there}
-use Rattle.lists.specs.Distinct.{Pairwise}
+use Rattle.lists.specs.Pairwise.{Pairwise}
 use Rattle.lists.proofs.All.{all-at, in-nil, in-cons}
 use Rattle.lists.proofs.Distinct.{pairwise-head, pairwise-tail}
 

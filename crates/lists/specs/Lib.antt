@@ -1,5 +1,5 @@
 pub mod All
 pub mod Choice
-pub mod Distinct
+pub mod Pairwise
 pub mod Over
 pub mod Below

@@ -7,7 +7,7 @@ use native.Mathlib.Omega.{arith}
 use lib.Dec.{T, ltb, eqb, ltb→lt, eqb→eq}
 use borrow.Author.Tests.{ltb-true, ltb-false}
 use Rattle.lists.specs.All.{In}
-use Rattle.lists.specs.Distinct.{Distinct, Rising}
+use Rattle.lists.proofs.Distinct.{Distinct, Ascending}
 use Rattle.lists.specs.Choice.{pick}
 use Rattle.lists.specs.Below.{first, numbers}
 use Rattle.lists.proofs.Distinct.{pairwise-keep, numbers-rise}
@@ -60,7 +60,7 @@ module _ (t : Rows) where
       let r = in-numbers (count t 10) 1 x (k .0) in
       (bounds-named t 10 x (r .0) (omega (arith, r .1)), eqb→eq (kindOf t x) kind (k .1))
 
-  pub identifiers-rise : (kind : ℕ) → Rising (identifiersOf t kind)
+  pub identifiers-rise : (kind : ℕ) → Ascending (identifiersOf t kind)
   unfolding identifiersOf
   identifiers-rise kind = pairwise-keep (λ x. eqb (kindOf t x) kind) (numbers-rise (count t 10) 1)
 

@@ -6,7 +6,7 @@ use mathlib.Core.List.{List}
 use mathlib.Core.Logic.{_↔_}
 use lib.ListN.{getD}
 use Rattle.lists.specs.All.{In}
-use Rattle.lists.specs.Distinct.{Pairwise}
+use Rattle.lists.specs.Pairwise.{Pairwise}
 use Rattle.sequent.specs.Sequent.{Sequent}
 use Rattle.sequent.specs.Listed.{sequents}
 use Rattle.sequent.specs.Required.{Required, SameHeader}

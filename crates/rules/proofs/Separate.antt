@@ -8,7 +8,7 @@ use native.Mathlib.Omega.{arith}
 use lib.Dec.{T}
 use Rattle.lists.specs.All.{In}
 use Rattle.lists.specs.Below.{numbers}
-use Rattle.lists.specs.Distinct.{Distinct}
+use Rattle.lists.proofs.Distinct.{Distinct}
 use Rattle.lists.proofs.All.{in-nil, in-unmap, in-either, in-unflat}
 use Rattle.lists.proofs.Distinct.{pairwise-join, pairwise-imp, pairwise-flat, distinct-map, numbers-rise, rising-distinct}
 use Rattle.table.specs.Rows.{Rows, section, count}

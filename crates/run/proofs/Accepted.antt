@@ -21,7 +21,7 @@ use Rattle.machine.specs.Described.{typeNumbered, kindNumbered, roleNumbered, t
 use Rattle.machine.proofs.Described.{SetBy, action-row, belonging-row, identifier-named, event-named, named-event}
 use Rattle.machine.proofs.Roles.{RoleSays}
 use Rattle.sequent.specs.Entry.{witnessRoot}
-use Rattle.sequent.specs.Listed.{variables}
+use Rattle.sequent.specs.Required.{ownVariables}
 use Rattle.rules.specs.Sight.{hasKind}
 use Rattle.rules.specs.Rules.{guardEvent, actionTarget}
 use Rattle.rules.proofs.Obeys.{Obeys}
@@ -144,7 +144,7 @@ accepted-well-formed t ok = record {
       formulas-see t ok 70 S tt (λ i. refl) (λ i x s. or-cases (hasKind t 1 x) (hasKind t 3 x) s (kind-seen t S 1 x tt) (kind-seen t S 3 x tt)) (λ i x s. s));
   variantsInteger = all-map (t .a) (all-in (section t 70) (λ i j. let q = section-row t 70 i j in variant-type t ok i (q .0) (q .1)));
   guardsSee = λ e i. guards-see t ok e (event-named t e i);
-  actionsSee = λ e i. all-in (variables (machineOf t) (roleIn t e)) (λ x j.
+  actionsSee = λ e i. all-in (ownVariables (machineOf t) (roleIn t e)) (λ x j.
       let n = event-named t e i in
       let p = variable-kind t ok e x n j in
       action-sees t ok e x n (p .0) (p .1));

@@ -21,7 +21,7 @@ use Rattle.machine.specs.Machine.{Role, abstractInitialisation, abstractOrdinar
 use Rattle.machine.specs.Described.{typeNumbered, kindNumbered, roleNumbered, treeOf, sets, actionOf, belonging, identifiersOf, machineOf}
 use Rattle.machine.proofs.Described.{SetBy, action-row, belonging-row, identifier-named}
 use Rattle.machine.proofs.Roles.{RoleSays}
-use Rattle.sequent.specs.Listed.{variables}
+use Rattle.sequent.specs.Required.{ownVariables}
 use Rattle.rules.specs.Sorts.{sortOf}
 use Rattle.rules.specs.Sight.{hasKind, presentVariable, ownParameter, eventSees}
 use Rattle.rules.specs.Rules.{namedVariable, witnessTarget}
@@ -116,14 +116,14 @@ module _ (t : Rows) where
         let q = belonging-row t 50 e i j in own-row-sees 50 e i never n (q .0) (q .1) (q .2) tt (λ x s. s) (λ x s. s)))
 
     -- the variables of an event's machine
-    pub variable-kind : (e x : ℕ) → T (named t 40 e) → In x (variables (machineOf t) (roleIn e)) → T (named t 10 x) × (kindOf t x ≡ 1 + machineNumber t e)
+    pub variable-kind : (e x : ℕ) → T (named t 40 e) → In x (ownVariables (machineOf t) (roleIn e)) → T (named t 10 x) × (kindOf t x ≡ 1 + machineNumber t e)
     unfolding machineOf
     variable-kind e x n = go (roleIn e) (event-says t ok e (roleIn e) n refl)
       where
         of : (kind : ℕ) → kind ≡ 1 + machineNumber t e → In x (identifiersOf t kind) → T (named t 10 x) × (kindOf t x ≡ 1 + machineNumber t e)
         of kind q i = let p = identifier-named t kind x i in (p .0, p .1 ∙ q)
 
-        go : (ro : Role) → RoleSays (machineNumber t e) (classOf t e) (refinedBy t e) ro → In x (variables (machineOf t) ro)
+        go : (ro : Role) → RoleSays (machineNumber t e) (classOf t e) (refinedBy t e) ro → In x (ownVariables (machineOf t) ro)
             → T (named t 10 x) × (kindOf t x ≡ 1 + machineNumber t e)
         go abstractInitialisation s i = of 2 (omega (arith, s .0)) i
         go abstractOrdinary s i = of 2 (omega (arith, s .0)) i

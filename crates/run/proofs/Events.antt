@@ -8,54 +8,55 @@ use Rattle.machine.specs.Machine.{Machine}
 use Rattle.machine.specs.Machine.{Role, abstractInitialisation, abstractOrdinary, concreteInitialisation, refining, convergent}
 use Rattle.sequent.specs.Entry.{written, primed, defined, moves}
 use Rattle.sequent.specs.Sequent.{Valid, sequent, WD, INV, GRD, SIM}
-use Rattle.sequent.specs.Listed.{inOrder, actionWD, actionFIS, matching, refined, allWritten, base, variables}
-use Rattle.sequent.specs.Listed.{invariants, guarded, moved}
+use Rattle.sequent.specs.Listed.{inOrder, actionWD, actionFIS, matching, refined, allWritten, base}
+use Rattle.sequent.specs.Listed.{guarded, moved}
 use Rattle.sequent.specs.Listed.{witnessEntries, witnessSequents, parameterWitnesses, grd, sim, invHypotheses, inv, variantSequents, eventSequents}
 use Rattle.sequent.specs.Listed.{formulas, sequents}
+use Rattle.sequent.specs.Required.{ownInvariants, ownVariables}
 use Rattle.run.proofs.WellFormed.{ownKinds, never, variableKind, Sees, ActionSees, WellFormed}
 
 module _ (m : Machine) (ro : Role) (e : ℕ) where
   -- what the formulas of an event with this role mention
   pub record EventSees : Type 0 where
     pub guards : All (Sees m (ownKinds ro) never) (m .guards e)
-    pub actions : All (λ x. ActionSees m (ownKinds ro) x (m .action e x)) (variables m ro)
-    pub kind : All (λ x. m .kind x ≡ variableKind ro) (variables m ro)
+    pub actions : All (λ x. ActionSees m (ownKinds ro) x (m .action e x)) (ownVariables m ro)
+    pub kind : All (λ x. m .kind x ≡ variableKind ro) (ownVariables m ro)
 
   -- the event's sequents are valid, kind by kind
   pub record EventValid : Type 0 where
     pub guards : All (Valid m) (inOrder e (base m ro) (m .guards e))
-    pub actions : All (λ x. All (Valid m) (actionWD e (guarded m ro e) (m .action e x))) (variables m ro)
-    pub feasible : All (λ x. All (Valid m) (actionFIS e x (guarded m ro e) (m .action e x))) (variables m ro)
+    pub actions : All (λ x. All (Valid m) (actionWD e (guarded m ro e) (m .action e x))) (ownVariables m ro)
+    pub feasible : All (λ x. All (Valid m) (actionFIS e x (guarded m ro e) (m .action e x))) (ownVariables m ro)
     pub witnesses : All (λ w. All (Valid m) (witnessSequents m ro e w)) (m .witnesses e)
     pub strengthened : All (λ f. All (λ r. Valid m (sequent GRD e r (guarded m ro e ++ witnessEntries m (parameterWitnesses m e)) (written r))) (m .guards f))
         (refined ro)
     pub simulated : All (λ f. All (λ x. Valid m (sequent SIM e x (moved m ro e ++ witnessEntries m (m .witnesses e)) (moves f x))) (m .abstractVariables))
         (matching ro)
-    pub invariant : All (λ r. Valid m (sequent INV e r (invHypotheses m ro e) (primed r))) (invariants m ro)
+    pub invariant : All (λ r. Valid m (sequent INV e r (invHypotheses m ro e) (primed r))) (ownInvariants m ro)
     pub variant : All (Valid m) (variantSequents m ro e)
 
   pub event-valid : All (Valid m) (eventSequents m e ro) → EventValid
   unfolding eventSequents
   event-valid v₁ =
       let v₂ = all-right (inOrder e (base m ro) (m .guards e)) v₁ in
-      let v₃ = all-right (flatMap (λ x. actionWD e (guarded m ro e) (m .action e x)) (variables m ro)) v₂ in
-      let v₄ = all-right (flatMap (λ x. actionFIS e x (guarded m ro e) (m .action e x)) (variables m ro)) v₃ in
+      let v₃ = all-right (flatMap (λ x. actionWD e (guarded m ro e) (m .action e x)) (ownVariables m ro)) v₂ in
+      let v₄ = all-right (flatMap (λ x. actionFIS e x (guarded m ro e) (m .action e x)) (ownVariables m ro)) v₃ in
       let v₅ = all-right (flatMap (witnessSequents m ro e) (m .witnesses e)) v₄ in
       let v₆ = all-right (flatMap (grd m ro e) (refined ro)) v₅ in
       let v₇ = all-right (flatMap (sim m ro e) (matching ro)) v₆ in
       record {
         guards = all-left _ _ v₁;
-        actions = all-unflat _ (variables m ro) (all-left _ _ v₂);
-        feasible = all-unflat _ (variables m ro) (all-left _ _ v₃);
+        actions = all-unflat _ (ownVariables m ro) (all-left _ _ v₂);
+        feasible = all-unflat _ (ownVariables m ro) (all-left _ _ v₃);
         witnesses = all-unflat _ (m .witnesses e) (all-left _ _ v₄);
         strengthened = all-imp (λ f v. all-unmap _ (m .guards f) v) (all-unflat _ (refined ro) (all-left _ _ v₅));
         simulated = all-imp (λ f v. all-unmap _ (m .abstractVariables) v) (all-unflat _ (matching ro) (all-left _ _ v₆));
-        invariant = all-unmap _ (invariants m ro) (all-left _ _ v₇);
+        invariant = all-unmap _ (ownInvariants m ro) (all-left _ _ v₇);
         variant = all-right (inv m ro e) v₇;
       }
 
 module _ (m : Machine) (wf : WellFormed m) where
-  variables-kind : (ro : Role) → All (λ x. m .kind x ≡ variableKind ro) (variables m ro)
+  variables-kind : (ro : Role) → All (λ x. m .kind x ≡ variableKind ro) (ownVariables m ro)
   variables-kind abstractInitialisation = wf .abstractVariablesKind
   variables-kind abstractOrdinary = wf .abstractVariablesKind
   variables-kind (concreteInitialisation f) = wf .concreteVariablesKind
@@ -65,7 +66,7 @@ module _ (m : Machine) (wf : WellFormed m) where
   pub event-sees : (e : ℕ) → In e (m .events) → {ro : Role} → m .role e ≡ ro → EventSees m ro e
   event-sees e i {ro} q = record {
     guards = subst (λ o. All (Sees m (ownKinds o) never) (m .guards e)) q (wf .guardsSee e i);
-    actions = subst (λ o. All (λ x. ActionSees m (ownKinds o) x (m .action e x)) (variables m o)) q (wf .actionsSee e i);
+    actions = subst (λ o. All (λ x. ActionSees m (ownKinds o) x (m .action e x)) (ownVariables m o)) q (wf .actionsSee e i);
     kind = variables-kind ro;
   }
 

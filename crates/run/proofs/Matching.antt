@@ -14,7 +14,8 @@ use Rattle.machine.specs.Machine.{Machine}
 use Rattle.machine.specs.Machine.{Role, abstractInitialisation, abstractOrdinary, concreteInitialisation, refining, convergent}
 use Rattle.sequent.specs.Entry.{written, primed, moves, natural, decreases, actionTree}
 use Rattle.sequent.specs.Sequent.{Meets, Valid, sequent, NAT, VAR}
-use Rattle.sequent.specs.Listed.{matching, refined, base, invariants, guarded, moved, witnessEntries, invHypotheses, sequents}
+use Rattle.sequent.specs.Listed.{matching, refined, base, guarded, moved, witnessEntries, invHypotheses, sequents}
+use Rattle.sequent.specs.Required.{ownInvariants}
 use Rattle.run.specs.Run.{State, blank, world, Step, ofRun, Match, Matches}
 use Rattle.run.specs.SafeRun.{ownState, notInitial, oneMore, Bounded}
 use Rattle.run.proofs.WellFormed.{WitnessSees, WellFormed}
@@ -27,7 +28,7 @@ use Rattle.run.proofs.Variant.{one-more-bounded}
 
 -- the goals of an event's INV are true where the hypotheses are
 invariants-true : (m : Machine) (ro : Role) (e : ℕ) → EventValid m ro e → (ρ : Env (m .type)) → All (Meets m ρ) (invHypotheses m ro e)
-    → All (λ r. Meets m ρ (primed r)) (invariants m ro)
+    → All (λ r. Meets m ρ (primed r)) (ownInvariants m ro)
 unfolding Valid
 invariants-true m ro e valid ρ h = all-imp (λ r v. v ρ h) (valid .invariant)
 

@@ -10,7 +10,8 @@ use Rattle.formula.proofs.Mentions.{agree-sym}
 use Rattle.machine.specs.Machine.{Machine, Role}
 use Rattle.sequent.specs.Entry.{written, moves}
 use Rattle.sequent.specs.Sequent.{Meets}
-use Rattle.sequent.specs.Listed.{base, variables, guarded, moved}
+use Rattle.sequent.specs.Listed.{base, guarded, moved}
+use Rattle.sequent.specs.Required.{ownVariables}
 use Rattle.run.specs.Run.{State, blank, world, view, ActionDefined, Enabled, Step}
 use Rattle.run.specs.SafeRun.{ownState, notInitial}
 use Rattle.run.proofs.Reading.{AllTrue, all-read-true, in-order-read, action-defined, true-allows, allows-true}
@@ -37,7 +38,7 @@ module _ (m : Machine) (ro : Role) (e : ℕ) (see : EventSees m ro e) (c a k q p
   -- a step makes the event's guards and moves true
   pub step-moved : All (Meets m W) (base m ro) → Step m ro e c (ownState m ro a k) r (ownState m ro a′ k′) → All (Meets m W) (moved m ro e)
   step-moved b s =
-      all-join (enabled-guarded b (s .enabled)) (all-map (moves e) (all-in (variables m ro) (λ x i.
+      all-join (enabled-guarded b (s .enabled)) (all-map (moves e) (all-in (ownVariables m ro) (λ x i.
       action-true-agree m _ x seen W (agree-sym (action-agree m ro c a k q p a′ k′ r h x (all-at (see .kind) i))) (m .action e x) (all-at (see .actions) i)
       (allows-true m seen x (m .action e x) (all-at (s .allowed) i)))))
 
@@ -47,16 +48,16 @@ module _ (m : Machine) (ro : Role) (e : ℕ) (see : EventSees m ro e) (c a k q p
         all-read-agree m W _ (guard-agree m ro c a k q p a′ k′ r h (blank m)) (see .guards)
         (in-order-read m W e (base m ro) (m .guards e) (valid .guards) b g)
 
-    pub actions-defined : (x : ℕ) → In x (variables m ro) → ActionDefined m seen (m .action e x)
+    pub actions-defined : (x : ℕ) → In x (ownVariables m ro) → ActionDefined m seen (m .action e x)
     actions-defined x i =
         action-defined-agree m _ x W seen (action-agree m ro c a k q p a′ k′ r h x (all-at (see .kind) i)) (m .action e x) (all-at (see .actions) i)
         (action-defined m W e (guarded m ro e) (m .action e x) (all-at (valid .actions) i) (all-join b (all-map written g)))
 
     -- guards and moves that are true make a step
-    pub moved-step : All (λ x. Meets m W (moves e x)) (variables m ro) → Step m ro e c (ownState m ro a k) r (ownState m ro a′ k′)
+    pub moved-step : All (λ x. Meets m W (moves e x)) (ownVariables m ro) → Step m ro e c (ownState m ro a k) r (ownState m ro a′ k′)
     moved-step ts = record {
       enabled = true-enabled;
-      allowed = all-in (variables m ro) (λ x i.
+      allowed = all-in (ownVariables m ro) (λ x i.
           true-allows m seen x (m .action e x) (actions-defined x i)
           (action-true-agree m _ x W seen (action-agree m ro c a k q p a′ k′ r h x (all-at (see .kind) i)) (m .action e x) (all-at (see .actions) i)
           (all-at ts i)));

@@ -17,7 +17,8 @@ use Rattle.formula.proofs.Choose.{choose-after}
 use Rattle.machine.specs.Machine.{Kind, Action, unassigned, becomesEqual, becomesSuchThat, Machine, Role}
 use Rattle.sequent.specs.Entry.{Entry, actionTree}
 use Rattle.sequent.specs.Sequent.{Meets, Valid}
-use Rattle.sequent.specs.Listed.{actionFIS, base, variables, guarded}
+use Rattle.sequent.specs.Listed.{actionFIS, base, guarded}
+use Rattle.sequent.specs.Required.{ownVariables}
 use Rattle.run.specs.Run.{State, blank, world, view, NoneUndefined, ActionDefined, Enabled, Step}
 use Rattle.run.specs.SafeRun.{ownState, notInitial, EventSafe}
 use Rattle.run.proofs.WellFormed.{ownKinds, never, variableKind, ActionSees}
@@ -60,13 +61,13 @@ module _ (m : Machine) (ro : Role) (e : ℕ) (see : EventSees m ro e) (valid : E
       (in-order-defined m (at (blank m)) e (base m ro) (m .guards e) (valid .guards) (b (blank m)))
 
   module _ (en : Enabled m ro e c own p) where
-    chosen : (x : ℕ) → In x (variables m ro) → (v : Value (m .type x)) × True (withAfter (at (blank m)) x v) (actionTree m (m .action e x) x)
+    chosen : (x : ℕ) → In x (ownVariables m ro) → (v : Value (m .type x)) × True (withAfter (at (blank m)) x v) (actionTree m (m .action e x) x)
     chosen x i =
         after-value m (ownKinds ro) e x (at (blank m)) (guarded m ro e) (enabled-guarded m ro e see c a k p p _ _ p parameters (b (blank m)) en)
         (m .action e x) refl (all-at (see .actions) i) (all-at (valid .feasible) i)
 
-    results : (s : State m) × ((x : ℕ) → In x (variables m ro) → True (withAfter (at (blank m)) x (s x)) (actionTree m (m .action e x) x))
-    results = values-found m (variables m ro) (λ x v. True (withAfter (at (blank m)) x v) (actionTree m (m .action e x) x)) chosen
+    results : (s : State m) × ((x : ℕ) → In x (ownVariables m ro) → True (withAfter (at (blank m)) x (s x)) (actionTree m (m .action e x) x))
+    results = values-found m (ownVariables m ro) (λ x v. True (withAfter (at (blank m)) x v) (actionTree m (m .action e x) x)) chosen
 
     result : State m
     result = results .0
@@ -85,12 +86,12 @@ module _ (m : Machine) (ro : Role) (e : ℕ) (see : EventSees m ro e) (valid : E
       result,
       subst (λ s. Step m ro e c own p s) (own-same m ro result)
           (moved-step m ro e see c a k p p result result p parameters valid (b result) (enabled-true m ro e see c a k p p result result p parameters en)
-          (all-in (variables m ro) (λ x i.
+          (all-in (ownVariables m ro) (λ x i.
           action-true-agree m _ x _ (at result) (result-agree x (all-at (see .kind) i)) (m .action e x) (all-at (see .actions) i) (results .1 x i)))),
     )
 
-    all-defined : (s′ : State m) → All (λ x. ActionDefined m (view m ro c own p s′) (m .action e x)) (variables m ro)
-    all-defined s′ = all-in (variables m ro) (λ x i.
+    all-defined : (s′ : State m) → All (λ x. ActionDefined m (view m ro c own p s′) (m .action e x)) (ownVariables m ro)
+    all-defined s′ = all-in (ownVariables m ro) (λ x i.
         subst (λ s. ActionDefined m (view m ro c own p s) (m .action e x)) (own-same m ro s′)
         (actions-defined m ro e see c a k p p s′ s′ p parameters valid (b s′) (enabled-true m ro e see c a k p p s′ s′ p parameters en) x i))
 

@@ -12,7 +12,7 @@ use Rattle.machine.specs.Machine.{Kind, constantKind, abstractVariable, concret
 use Rattle.machine.specs.Machine.{Action, unassigned, becomesEqual, becomesSuchThat, Witness, Machine}
 use Rattle.machine.specs.Machine.{Role, abstractInitialisation, abstractOrdinary, concreteInitialisation, refining, convergent}
 use Rattle.sequent.specs.Entry.{witnessRoot}
-use Rattle.sequent.specs.Listed.{variables}
+use Rattle.sequent.specs.Required.{ownVariables}
 
 -- a set of kinds: constant, abstract variable, concrete variable, abstract parameter, concrete parameter
 abbrev pub kinds : Bool → Bool → Bool → Bool → Bool → Kind → Bool
@@ -66,7 +66,7 @@ module _ (m : Machine) where
     pub variantsSee : All (Sees (kinds true false true false false) never) (m .variants)
     pub variantsInteger : All (λ r. treeType (m .type) (m .tree r) ≡ integer) (m .variants)
     pub guardsSee : (e : ℕ) → In e (m .events) → All (Sees (ownKinds (m .role e)) never) (m .guards e)
-    pub actionsSee : (e : ℕ) → In e (m .events) → All (λ x. ActionSees (ownKinds (m .role e)) x (m .action e x)) (variables m (m .role e))
+    pub actionsSee : (e : ℕ) → In e (m .events) → All (λ x. ActionSees (ownKinds (m .role e)) x (m .action e x)) (ownVariables m (m .role e))
     pub witnessesSee : (e : ℕ) → In e (m .events) → All (WitnessSees e) (m .witnesses e)
     pub abstractVariablesKind : All (λ x. m .kind x ≡ abstractVariable) (m .abstractVariables)
     pub concreteVariablesKind : All (λ x. m .kind x ≡ concreteVariable) (m .concreteVariables)

@@ -12,7 +12,7 @@ use Rattle.formula.specs.Evaluate.{Valuation, Env, readTree}
 use Rattle.machine.specs.Machine.{Kind, constantKind, abstractVariable, concreteVariable, abstractParameter, concreteParameter}
 use Rattle.machine.specs.Machine.{Action, unassigned, becomesEqual, becomesSuchThat, Machine}
 use Rattle.machine.specs.Machine.{Role, abstractInitialisation, abstractOrdinary, concreteInitialisation, refining, convergent}
-use Rattle.sequent.specs.Listed.{variables}
+use Rattle.sequent.specs.Required.{ownVariables}
 
 -- one of five by an identifier's kind: constant, abstract variable, concrete variable, abstract parameter, concrete parameter
 abbrev pub byKind : {A : Type 0} → Kind → A → A → A → A → A → A
@@ -83,7 +83,7 @@ module _ (m : Machine) where
   -- "A step needs parameter values that make every guard true", and each variable's action allows its after value
   pub record Step (ro : Role) (e : ℕ) (c s p s′ : State) : Type 0 where
     pub enabled : Enabled ro e c s p
-    pub allowed : All (λ x. Allows (view ro c s p s′) x (m .action e x)) (variables m ro)
+    pub allowed : All (λ x. Allows (view ro c s p s′) x (m .action e x)) (ownVariables m ro)
 
   -- one step of a run: the event, its parameters, and the state that it leaves
   pub record Taken : Type 0 where

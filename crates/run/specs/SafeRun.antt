@@ -10,7 +10,7 @@ use Rattle.lists.specs.All.{All, In}
 use Rattle.formula.specs.Values.{number, atMostℤ}
 use Rattle.formula.specs.Evaluate.{readTree}
 use Rattle.machine.specs.Machine.{Role, abstractInitialisation, abstractOrdinary, concreteInitialisation, refining, convergent, Machine}
-use Rattle.sequent.specs.Listed.{variables}
+use Rattle.sequent.specs.Required.{ownVariables}
 use Rattle.run.specs.Run.{State, blank, world, view, Defined, AllReadTrue, NoneUndefined, ActionDefined, Enabled, Step, Taken, Follows, Match, Matches}
 
 -- "every unbroken stretch of one or more convergent steps has at most as many steps as the variant's value before it plus one"
@@ -22,7 +22,7 @@ module _ (m : Machine) where
   -- "every event enabled at a state of the run has a successor there"
   pub record EventSafe (ro : Role) (e : ℕ) (c s p : State m) : Type 0 where
     pub guardsDefined : NoneUndefined m (view m ro c s p (blank m)) (m .guards e)
-    pub actionsDefined : Enabled m ro e c s p → (s′ : State m) → All (λ x. ActionDefined m (view m ro c s p s′) (m .action e x)) (variables m ro)
+    pub actionsDefined : Enabled m ro e c s p → (s′ : State m) → All (λ x. ActionDefined m (view m ro c s p s′) (m .action e x)) (ownVariables m ro)
     pub successor : Enabled m ro e c s p → (s′ : State m) × Step m ro e c s p s′
 
   -- the state of an event's own machine, and whether the event is no initialisation

@@ -6,7 +6,7 @@ use mathlib.Core.Logic.{_⊎_, inl, inr, ⊎-elim}
 use Prim.Native.Nat.{ℕ, suc, _≤_, _<_}
 use native.Mathlib.Omega.{arith}
 use Rattle.lists.specs.All.{In}
-use Rattle.lists.specs.Distinct.{Pairwise, pairwise-nil}
+use Rattle.lists.specs.Pairwise.{Pairwise, pairwise-nil}
 use Rattle.lists.proofs.All.{in-nil, in-either, in-unflat}
 use Rattle.lists.proofs.Distinct.{pairwise-join, pairwise-one, pairwise-imp, pairwise-unmap, pairwise-flat}
 use Rattle.lists.proofs.Flat.{flat-one}

@@ -13,7 +13,7 @@ use Rattle.machine.specs.Machine.{Role, abstractInitialisation, abstractOrdinar
 use Rattle.sequent.specs.Entry.{Entry, written, defined, moves, feasible, natural, decreases, variable}
 use Rattle.sequent.specs.Sequent.{Sequent, sequent, WD, FIS, NAT, VAR}
 use Rattle.sequent.specs.Listed.{inOrder, actionWD, actionFIS, matching, refined}
-use Rattle.sequent.specs.Listed.{allWritten, base, variables, invariants, guarded, moved, witnessEntries, witnessHypotheses, witnessSequents}
+use Rattle.sequent.specs.Listed.{allWritten, base, guarded, moved, witnessEntries, witnessHypotheses, witnessSequents}
 use Rattle.sequent.specs.Listed.{parameterWitnesses, invHypotheses, variantSequents, eventSequents, formulas, sequents}
 use Rattle.sequent.specs.Listed.{grd as grdOf, sim as simOf, inv as invOf}
 use Rattle.sequent.proofs.Parts.{guardWDs, actionWDs, actionFISs, ofWitnesses, grds, sims, nats, vars}
@@ -115,20 +115,6 @@ module _ (m : Machine) where
   base-same (refining f) = refl
   base-same convergent = refl
 
-  pub variables-same : (ro : Role) → ownVariables m ro ≡ variables m ro
-  variables-same abstractInitialisation = refl
-  variables-same abstractOrdinary = refl
-  variables-same (concreteInitialisation f) = refl
-  variables-same (refining f) = refl
-  variables-same convergent = refl
-
-  pub invariants-same : (ro : Role) → ownInvariants m ro ≡ invariants m ro
-  invariants-same abstractInitialisation = refl
-  invariants-same abstractOrdinary = refl
-  invariants-same (concreteInitialisation f) = refl
-  invariants-same (refining f) = refl
-  invariants-same convergent = refl
-
   inv-hypotheses : (ro : Role) (e : ℕ)
       → ((ro ≡ convergent) × (invHypotheses m ro e ≡ moved m ro e ++ map (moves e) (m .abstractVariables)))
       ⊎ ((¬ (ro ≡ convergent)) × (invHypotheses m ro e ≡ moved m ro e ++ witnessEntries m (m .witnesses e)))
@@ -160,7 +146,7 @@ module _ (m : Machine) where
     guarded-same = ap (λ hs. hs ++ asWritten (m .guards e)) (base-same role)
 
     moved-same : baseGuards m e ++ movesOf m e ≡ moved m role e
-    moved-same = ap₂ (λ (hs : List Entry) (gs : List Entry). hs ++ gs) guarded-same (ap (map (moves e)) (variables-same role))
+    moved-same = ap (λ hs. hs ++ movesOf m e) guarded-same
 
     witness-same : (w : Witness) → baseGuards m e ++ pick (variable m (w .target)) (movesOf m e) [] ≡ witnessHypotheses m role e w
     witness-same w = by-target (variable m (w .target))
@@ -185,15 +171,15 @@ module _ (m : Machine) where
 
     action-required : In s (actionWDs m (m .role e) e) → Required m s
     action-required i =
-        let (x, j, k) = in-unflat _ (variables m (m .role e)) i in
+        let (x, j, k) = in-unflat _ (ownVariables m (m .role e)) i in
         let (r, a, p) = actionWD-root (m .action e x) k in
-        required-as p (guarded-same e) (wd-action at (subst (In x) (sym (variables-same (m .role e))) j) a)
+        required-as p (guarded-same e) (wd-action at j a)
 
     feasible-required : In s (actionFISs m (m .role e) e) → Required m s
     feasible-required i =
-        let (x, j, k) = in-unflat _ (variables m (m .role e)) i in
+        let (x, j, k) = in-unflat _ (ownVariables m (m .role e)) i in
         let (r, a, p) = actionFIS-such (m .action e x) k in
-        required-as p (guarded-same e) (fis at (subst (In x) (sym (variables-same (m .role e))) j) a)
+        required-as p (guarded-same e) (fis at j a)
 
     witness-required : In s (ofWitnesses m (m .role e) e) → Required m s
     witness-required i =
@@ -217,11 +203,10 @@ module _ (m : Machine) where
 
     inv-required : In s (invOf m (m .role e) e) → Required m s
     inv-required i =
-        let (r, j, p) = in-unmap _ (invariants m (m .role e)) i in
-        let own : In r (ownInvariants m (m .role e)) = subst (In r) (sym (invariants-same (m .role e))) j in
+        let (r, j, p) = in-unmap _ (ownInvariants m (m .role e)) i in
         ⊎-elim
-        (λ c. required-as p (ap (λ hs. hs ++ map (moves e) (m .abstractVariables)) (moved-same e) ∙ sym (c .1)) (inv-convergent at (c .0) own))
-        (λ c. required-as p (ap (λ hs. hs ++ witnessesOf m e) (moved-same e) ∙ sym (c .1)) (inv at (c .0) own))
+        (λ c. required-as p (ap (λ hs. hs ++ map (moves e) (m .abstractVariables)) (moved-same e) ∙ sym (c .1)) (inv-convergent at (c .0) j))
+        (λ c. required-as p (ap (λ hs. hs ++ witnessesOf m e) (moved-same e) ∙ sym (c .1)) (inv at (c .0) j))
         (inv-hypotheses (m .role e) e)
 
     variant-required : In s (variantSequents m (m .role e) e) → Required m s
@@ -298,9 +283,9 @@ module _ (m : Machine) where
       (subst (λ rs. In (sequent WD e r (base m (m .role e) ++ asWritten before) (defined r)) (inOrder e (base m (m .role e)) rs)) (sym p)
       (inOrder-at e (base m (m .role e)) before r rest))))
   required-listed (wd-action {e} {x} at i a) =
-      listed-as (guarded-same e) (actions-listed at (in-left _ (in-flat _ (subst (In x) (variables-same (m .role e)) i) (actionWD-at a))))
+      listed-as (guarded-same e) (actions-listed at (in-left _ (in-flat _ i (actionWD-at a))))
   required-listed (fis {e} {x} at i a) =
-      listed-as (guarded-same e) (fiss-listed at (in-left _ (in-flat _ (subst (In x) (variables-same (m .role e)) i) (actionFIS-at a))))
+      listed-as (guarded-same e) (fiss-listed at (in-left _ (in-flat _ i (actionFIS-at a))))
   required-listed (wd-witness {e} {w} at i) =
       listed-as (witness-same e w) (witnesses-listed at (in-left _ (in-flat (witnessSequents m (m .role e) e) i (here refl))))
   required-listed (wfis {e} {w} at i) =
@@ -314,12 +299,12 @@ module _ (m : Machine) where
   required-listed (inv {e} {r} at c i) =
       listed-as
       (ap (λ hs. hs ++ witnessesOf m e) (moved-same e) ∙ ⊎-elim (λ k. absurd (c (k .0))) (λ k. sym (k .1)) (inv-hypotheses (m .role e) e))
-      (invs-listed at (in-left _ (in-map _ (subst (In r) (invariants-same (m .role e)) i))))
+      (invs-listed at (in-left _ (in-map _ i)))
   required-listed (inv-convergent {e} {r} at c i) =
       listed-as
       (ap (λ hs. hs ++ map (moves e) (m .abstractVariables)) (moved-same e)
       ∙ ⊎-elim (λ k. sym (k .1)) (λ k. absurd (k .0 c)) (inv-hypotheses (m .role e) e))
-      (invs-listed at (in-left _ (in-map _ (subst (In r) (invariants-same (m .role e)) i))))
+      (invs-listed at (in-left _ (in-map _ i)))
   required-listed (nat {e} at c i) = listed-as (guarded-same e) (variants-listed at (variants-at e c (in-left _ (in-map _ i))))
   required-listed (var {e} at c i) =
       listed-as (moved-same e) (variants-listed at (variants-at e c (in-right (nats m (m .role e) e) (in-map _ i))))

@@ -20,11 +20,12 @@ use Rattle.machine.specs.Machine.{Role, abstractInitialisation, abstractOrdinar
 use Rattle.machine.specs.Described.{roleNumbered, actionOf, belonging, identifiersOf, machineOf}
 use Rattle.sequent.specs.Entry.{Entry, written, defined, feasible}
 use Rattle.sequent.specs.Sequent.{Sequent, sequent, WD, FIS}
-use Rattle.sequent.specs.Listed.{inOrder, actionWD, actionFIS, matching, refined, allWritten, base, variables}
-use Rattle.sequent.specs.Listed.{invariants, witnessSequents, grd, sim, inv, variantSequents, formulas}
+use Rattle.sequent.specs.Listed.{inOrder, actionWD, actionFIS, matching, refined, allWritten, base}
+use Rattle.sequent.specs.Listed.{witnessSequents, grd, sim, inv, variantSequents, formulas}
 use Rattle.sequent.specs.Walk.{hasGroup, before, one, isFormula, rowOfEvent, isAbstract, isRefining, isMatched, isConvergent, matchedBy, ownKind, ownInvariantTag}
 use Rattle.sequent.specs.Walk.{identifierAt, actionRow, isAssigned, becomesSuch, groupTests, makes, roleOf, guardedAt, groupSequents, made, slot, groupSlots}
 use Rattle.sequent.proofs.Parts.{guardWDs, actionWDs, actionFISs, ofWitnesses, grds, sims, nats, vars}
+use Rattle.sequent.specs.Required.{ownInvariants, ownVariables}
 
 -- a role by the tests that its numbers meet
 role-cases : (machine class refined : ℕ) (P : Bool → Bool → Bool → Role → Type 0) → ((o : Bool) → P true true o abstractInitialisation)
@@ -179,13 +180,13 @@ module _ (t : Rows) where
     unfolding machineOf
     by-role P = role-cases (machineNumber t e) (classOf t e) (refinedBy t e) P
 
-    pub variables-own : variables (machineOf t) (roleOf t e) ≡ identifiersOf t (ownKind t e)
+    pub variables-own : ownVariables (machineOf t) (roleOf t e) ≡ identifiersOf t (ownKind t e)
     unfolding machineOf
-    variables-own = by-role (λ a z o r. variables (machineOf t) r ≡ identifiersOf t (pick a 2 3)) (λ o. refl) (λ o. refl) refl refl refl
+    variables-own = by-role (λ a z o r. ownVariables (machineOf t) r ≡ identifiersOf t (pick a 2 3)) (λ o. refl) (λ o. refl) refl refl refl
 
-    invariants-own : invariants (machineOf t) (roleOf t e) ≡ map (t .a) (section t (ownInvariantTag t e))
+    invariants-own : ownInvariants (machineOf t) (roleOf t e) ≡ map (t .a) (section t (ownInvariantTag t e))
     unfolding machineOf
-    invariants-own = by-role (λ a z o r. invariants (machineOf t) r ≡ map (t .a) (section t (pick a 31 32))) (λ o. refl) (λ o. refl) refl refl refl
+    invariants-own = by-role (λ a z o r. ownInvariants (machineOf t) r ≡ map (t .a) (section t (pick a 31 32))) (λ o. refl) (λ o. refl) refl refl refl
 
     refined-own : refined (roleOf t e) ≡ pick (isRefining t e) (refinedBy t e ∷ []) []
     refined-own = by-role (λ a z o r. refined r ≡ pick (not a && o) (refinedBy t e ∷ []) []) (λ o. refl) (λ o. refl) refl refl refl
@@ -216,7 +217,7 @@ module _ (t : Rows) where
 
     -- a list over the variables of the event's machine, of which each makes its part where a test passes
     variables-rows : (f : ℕ → List Sequent) (Q : ℕ → Bool) (s : ℕ → List Sequent) → ((x : ℕ) → f x ≡ pick (Q x) (s x) [])
-        → flatMap f (variables (machineOf t) (roleOf t e)) ≡ flatMap (λ i. pick (identifierAt t (ownKind t e) i && Q (i + 1)) (s (i + 1)) []) rows
+        → flatMap f (ownVariables (machineOf t) (roleOf t e)) ≡ flatMap (λ i. pick (identifierAt t (ownKind t e) i && Q (i + 1)) (s (i + 1)) []) rows
     variables-rows f Q s h =
         ap (flatMap f) (variables-own e)
         ∙ identifiers-rows (ownKind t e) f

@@ -11,7 +11,8 @@ use lib.ListN.{length, getD}
 use borrow.Author.Tests.{ne-eqb}
 use Rattle.lists.specs.Choice.{pick}
 use Rattle.lists.specs.All.{all-nil, all-cons, In, here}
-use Rattle.lists.specs.Distinct.{Pairwise, pairwise-nil, pairwise-cons, Distinct, Rising}
+use Rattle.lists.proofs.Distinct.{Distinct, Ascending}
+use Rattle.lists.specs.Pairwise.{Pairwise, pairwise-nil, pairwise-cons}
 use Rattle.lists.proofs.Choice.{chosen, not-chosen}
 use Rattle.lists.proofs.All.{all-at, in-cons, in-left, in-right, in-either, in-map, in-unmap, in-flat, in-unflat}
 use Rattle.lists.proofs.Distinct.{pairwise-head, pairwise-tail, pairwise-left, pairwise-right, pairwise-across, pairwise-join, pairwise-one, pairwise-imp}
@@ -25,7 +26,7 @@ use Rattle.sequent.specs.Listed.{inOrder, actionWD, actionFIS, matching,
 use Rattle.sequent.specs.Listed.{witnessSequents, grd, sim, inv, invHypotheses, variantSequents, eventSequents, sequents}
 use Rattle.sequent.specs.Required.{axiomsInvariants, isConcrete, ownVariables, ownInvariants, Required, SameHeader}
 use Rattle.sequent.specs.Order.{placeIn, isIn, group, actionRoots, actionRootsOf, refinedGuards, key, keyOf, Before}
-use Rattle.sequent.proofs.Exact.{in-one, inOrder-split, actionWD-root, actionFIS-such, refined-role, variables-same, invariants-same}
+use Rattle.sequent.proofs.Exact.{in-one, inOrder-split, actionWD-root, actionFIS-such, refined-role}
 use Rattle.sequent.proofs.Exact.{listed-required, required-listed}
 use Rattle.sequent.proofs.Parts.{guardWDs, actionWDs, actionFISs, ofWitnesses, grds, sims, fromFISs, eventSequents-parts}
 use Rattle.sequent.proofs.Places.{places-rise, places-agree, isIn-member, isIn-other, variable-found}
@@ -56,9 +57,9 @@ pub record Separate (m : Machine) : Type 0 where
   -- refusal 11: no second witness for one target
   pub targets : (e : ℕ) → Distinct (map (λ w. w .target) (m .witnesses e))
   -- "Identifiers, nodes and events are each numbered from 1 in table order."
-  pub abstractVariables : Rising (m .abstractVariables)
-  pub concreteVariables : Rising (m .concreteVariables)
-  pub events : Rising (0 ∷ m .events)
+  pub abstractVariables : Ascending (m .abstractVariables)
+  pub concreteVariables : Ascending (m .concreteVariables)
+  pub events : Ascending (0 ∷ m .events)
 
 -- at most one abstract event is refined, and one matched
 refined-one : (ro : Role) → Pairwise (λ f g. ⊥) (refined ro)
@@ -98,8 +99,8 @@ module _ (m : Machine) (separate : Separate m) where
   guards-distinct : (e : ℕ) → Distinct (m .guards e)
   guards-distinct e = pairwise-left (m .guards e) _ (separate .eventRoots e)
 
-  variables-rise : (ro : Role) → Rising (ownVariables m ro)
-  variables-rise = own-either Rising (separate .concreteVariables) (separate .abstractVariables)
+  variables-rise : (ro : Role) → Ascending (ownVariables m ro)
+  variables-rise = own-either Ascending (separate .concreteVariables) (separate .abstractVariables)
 
   variants-distinct : Distinct (m .variants)
   variants-distinct = pairwise-right (axiomsInvariants m) (separate .formulaRoots)
@@ -176,10 +177,9 @@ module _ (m : Machine) (separate : Separate m) where
 
     action-block : Block m (e ∷ group WD ∷ []) 1 2 (actionWDs m role e)
     action-block =
-        subst (λ xs. Block m (e ∷ group WD ∷ []) 1 2 (flatMap (λ x. actionWD e (guarded m role e) (m .action e x)) xs)) (variables-same m role)
-        (flat-block m (e ∷ group WD ∷ []) (λ x. x) (λ x. actionWD e (guarded m role e) (m .action e x)) (variables-rise role)
+        flat-block m (e ∷ group WD ∷ []) (λ x. x) (λ x. actionWD e (guarded m role e) (m .action e x)) (variables-rise role)
         (λ x i. actionWD-one e (guarded m role e) (m .action e x))
-        (λ x s i j. let (r, a, p) = actionWD-root (m .action e x) j in ([], ap (keyOf m) p ∙ action-key x r i (actionRoots-at a))))
+        (λ x s i j. let (r, a, p) = actionWD-root (m .action e x) j in ([], ap (keyOf m) p ∙ action-key x r i (actionRoots-at a)))
 
     wd-block : Of WD (guardWDs m role e ++ actionWDs m role e)
     wd-block = block-up m (e ∷ []) (block-join m (omega arith) guard-block action-block)
@@ -187,10 +187,9 @@ module _ (m : Machine) (separate : Separate m) where
     fis-block : Of FIS (actionFISs m role e)
     unfolding key
     fis-block =
-        subst (λ xs. Of FIS (flatMap (λ x. actionFIS e x (guarded m role e) (m .action e x)) xs)) (variables-same m role)
-        (flat-block m (e ∷ []) (λ x. x) (λ x. actionFIS e x (guarded m role e) (m .action e x)) (variables-rise role)
+        flat-block m (e ∷ []) (λ x. x) (λ x. actionFIS e x (guarded m role e) (m .action e x)) (variables-rise role)
         (λ x i. actionFIS-one e x (guarded m role e) (m .action e x))
-        (λ x s i j. let (r, a, p) = actionFIS-such (m .action e x) j in ([], ap (keyOf m) p)))
+        (λ x s i j. let (r, a, p) = actionFIS-such (m .action e x) j in ([], ap (keyOf m) p))
 
     witness-block : Of WFIS (ofWitnesses m role e)
     witness-block =
@@ -214,8 +213,7 @@ module _ (m : Machine) (separate : Separate m) where
     inv-block : Of INV (inv m role e)
     unfolding key
     inv-block =
-        subst (λ rs. Of INV (map (λ r. sequent INV e r (invHypotheses m role e) (primed r)) rs)) (invariants-same m role)
-        (map-block m (placeIn (ownInvariants m role)) INV (invHypotheses m role e) primed (places-rise (ownInvariants-distinct role)) (λ r. refl))
+        map-block m (placeIn (ownInvariants m role)) INV (invHypotheses m role e) primed (places-rise (ownInvariants-distinct role)) (λ r. refl)
 
     variant-block : (ro : Role) → Block m (e ∷ []) (group NAT) (suc (group VAR)) (variantSequents m ro e)
     unfolding key placeIn

@@ -5,18 +5,19 @@ use Prim.Native.Nat.{ℕ}
 use Rattle.machine.specs.Machine.{Role, Machine}
 use Rattle.sequent.specs.Entry.{natural, decreases}
 use Rattle.sequent.specs.Sequent.{Sequent, sequent, NAT, VAR}
-use Rattle.sequent.specs.Listed.{inOrder, actionWD, actionFIS, matching, refined, base, variables, guarded, moved}
+use Rattle.sequent.specs.Listed.{inOrder, actionWD, actionFIS, matching, refined, base, guarded, moved}
 use Rattle.sequent.specs.Listed.{witnessSequents, grd, sim, inv, variantSequents, eventSequents}
+use Rattle.sequent.specs.Required.{ownVariables}
 
 module _ (m : Machine) (ro : Role) (e : ℕ) where
   abbrev pub guardWDs : List Sequent
   guardWDs = inOrder e (base m ro) (m .guards e)
 
   abbrev pub actionWDs : List Sequent
-  actionWDs = flatMap (λ x. actionWD e (guarded m ro e) (m .action e x)) (variables m ro)
+  actionWDs = flatMap (λ x. actionWD e (guarded m ro e) (m .action e x)) (ownVariables m ro)
 
   abbrev pub actionFISs : List Sequent
-  actionFISs = flatMap (λ x. actionFIS e x (guarded m ro e) (m .action e x)) (variables m ro)
+  actionFISs = flatMap (λ x. actionFIS e x (guarded m ro e) (m .action e x)) (ownVariables m ro)
 
   abbrev pub ofWitnesses : List Sequent
   ofWitnesses = flatMap (witnessSequents m ro e) (m .witnesses e)

@@ -21,12 +21,13 @@ use Rattle.machine.specs.Described.{machineOf}
 use Rattle.machine.proofs.Variables.{variable-numbered}
 use Rattle.sequent.specs.Entry.{Entry, written, moves, variable}
 use Rattle.sequent.specs.Sequent.{Sequent, sequent}
-use Rattle.sequent.specs.Listed.{formulas, base, guarded, moved, allWritten, variables, witnessEntries, parameterWitnesses, invHypotheses}
+use Rattle.sequent.specs.Listed.{formulas, base, guarded, moved, allWritten, witnessEntries, parameterWitnesses, invHypotheses}
 use Rattle.sequent.specs.Walk.{groups, before, isFormula, rowOfEvent, isAbstract, isConvergent, ownKind, identifierAt, makes, roleOf, baseAt, guardedAt, movedAt, made, slotCount}
 use Rattle.sequent.specs.Segments.{headerKind, beforeIn, headerItem, goalOf, goalAt, isInitial, hasAbstract, hasConcrete, hasMoves, hasWitnesses, witnessIn}
 use Rattle.sequent.specs.Segments.{hasAbstractMoves, segmentTest, segmentEntry, segment, hypothesisWalk, entryWalk, slotSequent}
 use Rattle.sequent.proofs.Walk.{formulas-below}
 use Rattle.sequent.proofs.Groups.{by-role, variables-own, guards-rows, witnesses-rows, map-identifiers}
+use Rattle.sequent.specs.Required.{ownVariables}
 
 module _ (t : Rows) where
   abbrev rows : List ℕ
@@ -109,7 +110,7 @@ module _ (t : Rows) where
       other : Witness → Bool
       other w = not (variable (machineOf t) (w .target))
 
-  moves-own : (e : ℕ) → map (moves e) (variables (machineOf t) (roleOf t e)) ≡ moving e (ownKind t e)
+  moves-own : (e : ℕ) → map (moves e) (ownVariables (machineOf t) (roleOf t e)) ≡ moving e (ownKind t e)
   moves-own e = ap (map (moves e)) (variables-own t e) ∙ map-identifiers t (ownKind t e) (moves e)
 
   moves-abstract : (e : ℕ) → map (moves e) (machineOf t .abstractVariables) ≡ moving e 2
@@ -147,8 +148,8 @@ module _ (t : Rows) where
   moved-then : (e : ℕ) (rest : List Entry)
       → moved (machineOf t) (roleOf t e) e ++ rest ≡ basic e (rooted (t .b) (rowOfEvent t 50 e) ++ (moving e (ownKind t e) ++ rest))
   moved-then e rest =
-      append-assoc (guarded (machineOf t) (roleOf t e) e) (map (moves e) (variables (machineOf t) (roleOf t e))) rest
-      ∙ guarded-then e (map (moves e) (variables (machineOf t) (roleOf t e)) ++ rest)
+      append-assoc (guarded (machineOf t) (roleOf t e) e) (map (moves e) (ownVariables (machineOf t) (roleOf t e))) rest
+      ∙ guarded-then e (map (moves e) (ownVariables (machineOf t) (roleOf t e)) ++ rest)
       ∙ ap (λ xs. basic e (rooted (t .b) (rowOfEvent t 50 e) ++ (xs ++ rest))) (moves-own e)
 
   -- axioms and invariants, before whatever follows them: those before a row, and all

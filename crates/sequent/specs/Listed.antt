@@ -7,6 +7,7 @@ use Rattle.lists.specs.Below.{keep}
 use Rattle.machine.specs.Machine.{Action, unassigned, becomesEqual, becomesSuchThat, Witness, Machine}
 use Rattle.machine.specs.Machine.{Role, abstractInitialisation, abstractOrdinary, concreteInitialisation, refining, convergent}
 use Rattle.sequent.specs.Entry.{Entry, written, primed, defined, moves, feasible, witnessed, natural, decreases, variable}
+use Rattle.sequent.specs.Required.{ownVariables, ownInvariants}
 use Rattle.sequent.specs.Sequent.{Sequent, sequent, WD, INV, FIS, GRD, SIM, WFIS, NAT, VAR}
 
 -- "WD of axiom, invariant: those before it", "WD of guard: base, earlier guards": each formula under the hypotheses and those before it
@@ -53,28 +54,13 @@ module _ (m : Machine) where
   base (refining f) = allWritten (m .axioms) ++ (allWritten (m .abstractInvariants) ++ allWritten (m .concreteInvariants))
   base convergent = allWritten (m .axioms) ++ (allWritten (m .abstractInvariants) ++ allWritten (m .concreteInvariants))
 
-  -- the variables and the invariants of an event's own machine
-  abbrev pub variables : Role → List ℕ
-  variables abstractInitialisation = m .abstractVariables
-  variables abstractOrdinary = m .abstractVariables
-  variables (concreteInitialisation f) = m .concreteVariables
-  variables (refining f) = m .concreteVariables
-  variables convergent = m .concreteVariables
-
-  abbrev pub invariants : Role → List ℕ
-  invariants abstractInitialisation = m .abstractInvariants
-  invariants abstractOrdinary = m .abstractInvariants
-  invariants (concreteInitialisation f) = m .concreteInvariants
-  invariants (refining f) = m .concreteInvariants
-  invariants convergent = m .concreteInvariants
-
   -- "base, guards"
   abbrev pub guarded : Role → ℕ → List Entry
   guarded ro e = base ro ++ allWritten (m .guards e)
 
   -- "'Moves' means form 4 of the event for its machine's variables in identifier order."
   abbrev pub moved : Role → ℕ → List Entry
-  moved ro e = guarded ro e ++ map (moves e) (variables ro)
+  moved ro e = guarded ro e ++ map (moves e) (ownVariables m ro)
 
   abbrev pub witnessEntries : List Witness → List Entry
   witnessEntries ws = map (λ w. written (w .root)) ws
@@ -109,7 +95,7 @@ module _ (m : Machine) where
   invHypotheses convergent e = moved convergent e ++ map (moves e) (m .abstractVariables)
 
   abbrev pub inv : Role → ℕ → List Sequent
-  inv ro e = map (λ r. sequent INV e r (invHypotheses ro e) (primed r)) (invariants ro)
+  inv ro e = map (λ r. sequent INV e r (invHypotheses ro e) (primed r)) (ownInvariants m ro)
 
   -- "NAT; VAR (convergent): base, guards; VAR also moves"
   abbrev pub variantSequents : Role → ℕ → List Sequent
@@ -125,8 +111,8 @@ module _ (m : Machine) where
   unfoldable pub eventSequents : ℕ → Role → List Sequent
   eventSequents e ro =
       inOrder e (base ro) (m .guards e)
-      ++ (flatMap (λ x. actionWD e (guarded ro e) (m .action e x)) (variables ro)
-      ++ (flatMap (λ x. actionFIS e x (guarded ro e) (m .action e x)) (variables ro)
+      ++ (flatMap (λ x. actionWD e (guarded ro e) (m .action e x)) (ownVariables m ro)
+      ++ (flatMap (λ x. actionFIS e x (guarded ro e) (m .action e x)) (ownVariables m ro)
       ++ (flatMap (witnessSequents ro e) (m .witnesses e)
       ++ (flatMap (grd ro e) (refined ro)
       ++ (flatMap (sim ro e) (matching ro)
