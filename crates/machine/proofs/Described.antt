@@ -13,7 +13,8 @@ use Rattle.lists.specs.Below.{first, numbers}
 use Rattle.lists.proofs.Distinct.{pairwise-keep, numbers-rise}
 use Rattle.lists.proofs.First.{Least, first-least}
 use Rattle.lists.proofs.Below.{numbers-in, in-numbers, in-keep}
-use Rattle.table.specs.Rows.{Rows, tagged, section, count, named, kindOf, operandNode, operatorOf, leftOf, rightOf, isAction}
+use Rattle.table.specs.Rows.{Rows, tagged, section, count, named, kindOf, operatorOf, leftOf, rightOf, isAction}
+use Rattle.table.specs.Lookups.{operandNode}
 use Rattle.table.proofs.Sections.{section-row, section-distinct, named-bounds, bounds-named}
 use Rattle.formula.specs.Tree.{bottom, Tree, constant}
 use Rattle.formula.proofs.Truth.{and-split, test-true, true-test}

@@ -2,7 +2,8 @@
 use Prim.Native.Nat.{ℕ, _≤_, _<_}
 use mathlib.Core.Path.{_≡_, ap, ap₂, _∙_}
 use lib.Dec.{T, ltb, lt→ltb}
-use Rattle.table.specs.Rows.{Rows, named, operandNode, leftOf, rightOf}
+use Rattle.table.specs.Rows.{Rows, named, leftOf, rightOf}
+use Rattle.table.specs.Lookups.{operandNode}
 use Rattle.table.proofs.Sections.{named-bounds}
 use Rattle.lists.proofs.Choice.{chosen}
 use Rattle.formula.specs.Tree.{Tree, unary, binary, division, connective}

@@ -6,7 +6,8 @@ use native.Mathlib.Omega.{arith}
 use lib.Dec.{eqb}
 use borrow.Author.Tests.{eqb-true, ne-eqb}
 use Rattle.lists.specs.Choice.{pick}
-use Rattle.table.specs.Rows.{Rows, kindOf, isVariableNumber}
+use Rattle.table.specs.Rows.{Rows, kindOf}
+use Rattle.table.specs.Lookups.{isVariableNumber}
 use Rattle.machine.specs.Machine.{Kind, isVariable, constantKind, abstractVariable, concreteVariable, abstractParameter, concreteParameter}
 use Rattle.machine.specs.Described.{kindNumbered, machineOf}
 

@@ -14,7 +14,8 @@ use Rattle.formula.specs.Evaluate.{Env, readTree}
 use Rattle.machine.specs.Machine.{Machine}
 use Rattle.rules.specs.declared.Verdict.{Verdict}
 use Rattle.rules.specs.declared.Verdict.the-variants as verdict
-use Rattle.rules.specs.Verdict.{verdict as verdictOf, machine}
+use Rattle.rules.specs.Verdict.{verdict as verdictOf}
+use Rattle.rules.specs.Offence.{machine}
 use Rattle.run.specs.Run.{State, blank, world, Taken}
 use Rattle.run.specs.SafeRun.{withinBound, stretch}
 use Rattle.reply.specs.declared.Reply.{Reply}

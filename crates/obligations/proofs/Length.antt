@@ -24,7 +24,8 @@ use Rattle.sequent.proofs.Seek.{entries-at-most}
 use Rattle.rules.specs.declared.Verdict.{Verdict}
 use Rattle.rules.specs.declared.Verdict.the-variants.{Accepted, Refused}
 use Rattle.rules.specs.Decoded.{decoded}
-use Rattle.rules.specs.Verdict.{verdict, machine}
+use Rattle.rules.specs.Verdict.{verdict}
+use Rattle.rules.specs.Offence.{machine}
 use Rattle.walk.specs.Slots.{slotAt}
 use Rattle.walk.proofs.Counts.{count-small}
 use Rattle.verdict.proofs.Filled.{accepted-words}

@@ -17,7 +17,8 @@ use Rattle.sequent.proofs.Find.{slot-at-most}
 use Rattle.sequent.specs.Segments.{segments, entriesTo}
 use Rattle.rules.specs.declared.Verdict.the-variants.{Accepted}
 use Rattle.rules.specs.Decoded.{wordsOf}
-use Rattle.rules.specs.Verdict.{judge, verdict, machine}
+use Rattle.rules.specs.Verdict.{judge, verdict}
+use Rattle.rules.specs.Offence.{machine}
 use Rattle.verdict.proofs.Filled.{accepted-words}
 use Rattle.reply.specs.Printed.{sequentRows, rowsBytes}
 use Rattle.reply.specs.Replies.{sequentBytes}

@@ -24,7 +24,8 @@ use Rattle.sequent.specs.Sequent.{Sequent}
 use Rattle.rules.specs.declared.Verdict.{Verdict}
 use Rattle.rules.specs.declared.Verdict.the-variants as verdict
 use Rattle.rules.specs.Decoded.{rowCount}
-use Rattle.rules.specs.Verdict.{verdict as verdictOf, machine}
+use Rattle.rules.specs.Verdict.{verdict as verdictOf}
+use Rattle.rules.specs.Offence.{machine}
 use Rattle.rules.proofs.Refused.{refused-number, refused-inside, refused-row}
 use Rattle.reply.specs.declared.Reply.the-variants as reply
 use Rattle.reply.specs.Printed.{rowsBytes}

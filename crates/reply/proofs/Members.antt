@@ -12,7 +12,8 @@ use Rattle.sequent.specs.Entry.{written}
 use Rattle.sequent.specs.Sequent.{Sequent}
 use Rattle.sequent.specs.Listed.{sequents}
 use Rattle.rules.specs.declared.Verdict.the-variants.{Accepted}
-use Rattle.rules.specs.Verdict.{verdict, machine}
+use Rattle.rules.specs.Verdict.{verdict}
+use Rattle.rules.specs.Offence.{machine}
 use Rattle.rules.proofs.Accepted.{accepted-none}
 use Rattle.reply.specs.Replies.{sequentAt, entries}
 

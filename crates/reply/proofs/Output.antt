@@ -16,7 +16,8 @@ use Rattle.row.specs.Row.{rowBytes, width}
 use Rattle.sequent.specs.Sequent.{Sequent}
 use Rattle.sequent.specs.Listed.{sequents}
 use Rattle.rules.specs.declared.Verdict.the-variants.{Accepted, Refused}
-use Rattle.rules.specs.Verdict.{verdict, machine}
+use Rattle.rules.specs.Verdict.{verdict}
+use Rattle.rules.specs.Offence.{machine}
 use Rattle.rules.proofs.Accepted.{accepted-none}
 use Rattle.reply.specs.declared.Reply.the-variants as reply
 use Rattle.reply.specs.Printed.{row, sequentRows, rowsBytes}

@@ -24,7 +24,8 @@ use Rattle.sequent.specs.Sequent.{Sequent}
 use Rattle.sequent.specs.Listed.{sequents}
 use Rattle.rules.specs.declared.Verdict.{Verdict}
 use Rattle.rules.specs.declared.Verdict.the-variants as verdict
-use Rattle.rules.specs.Verdict.{verdict as verdictOf, machine}
+use Rattle.rules.specs.Verdict.{verdict as verdictOf}
+use Rattle.rules.specs.Offence.{machine}
 use Rattle.reply.specs.Printed.{row, sequentRows, rowsBytes}
 use Rattle.reply.specs.Spelled.{spell}
 use Rattle.reply.specs.Replies.{entries, printed, output}

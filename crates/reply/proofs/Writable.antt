@@ -29,7 +29,8 @@ use Rattle.sequent.specs.Sequent.{Sequent}
 use Rattle.sequent.specs.Listed.{sequents}
 use Rattle.rules.specs.declared.Verdict.the-variants as verdict
 use Rattle.rules.specs.Decoded.{decoded}
-use Rattle.rules.specs.Verdict.{verdict as verdictOf, machine}
+use Rattle.rules.specs.Verdict.{verdict as verdictOf}
+use Rattle.rules.specs.Offence.{machine}
 use Rattle.rules.proofs.Accepted.{accepted-none}
 use Rattle.rules.proofs.Range.{Ranged, small-ranged, zero-ranged, RangedRows, framed-ranged, accepted-framed}
 use Rattle.rules.proofs.Refused.{refused-number, refused-few}

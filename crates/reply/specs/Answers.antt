@@ -10,7 +10,8 @@ use Rattle.sequent.specs.Entry.{written, formula}
 use Rattle.sequent.specs.Sequent.{Sequent}
 use Rattle.sequent.specs.Listed.{sequents}
 use Rattle.rules.specs.declared.Verdict.the-variants as verdict
-use Rattle.rules.specs.Verdict.{verdict as verdictOf, machine}
+use Rattle.rules.specs.Verdict.{verdict as verdictOf}
+use Rattle.rules.specs.Offence.{machine}
 use Rattle.reply.specs.declared.Reply.the-variants as reply
 use Rattle.reply.specs.Printed.{sequentRows, rowsBytes}
 use Rattle.reply.specs.Spelled.{spell}

@@ -5,7 +5,8 @@ use mathlib.Core.Bool.{Bool, true, _&&_}
 use native.Mathlib.Omega.{arith}
 use Rattle.formula.specs.Tree.{Tree}
 use Rattle.formula.specs.Mentions.{mentions}
-use Rattle.table.specs.Rows.{Rows, operandNode, operatorOf, leftOf, rightOf}
+use Rattle.table.specs.Rows.{Rows, operatorOf, leftOf, rightOf}
+use Rattle.table.specs.Lookups.{operandNode}
 use Rattle.machine.specs.Operator as meaning
 use Rattle.machine.specs.Operator.{Operator, literalOf, identifierOf, afterOf, constantOf, unaryOf, binaryOf, divisionOf, connectiveOf, operatorNumbered}
 use Rattle.machine.specs.Described.{node, treeTo, treeOf}

@@ -19,7 +19,8 @@ use Rattle.rules.specs.declared.Verdict.{Verdict}
 use Rattle.rules.specs.declared.Verdict.the-variants.{Accepted, Refused}
 use Rattle.rules.specs.Decoded.{framed, rowCount, lineOf, notRow, decoded}
 use Rattle.rules.specs.Rules.{offends, missing, tagOffends, fullOffends, eventOffends, identifierOffends, referenceOffends, sortOffends, useOffends, sightOffends, twiceOffends}
-use Rattle.rules.specs.Verdict.{firstRow, firstCheck, judge, verdict, machine, Offence, frame, column, row, lack, FirstOffence, NoOffence, sequentCount}
+use Rattle.rules.specs.Verdict.{firstRow, firstCheck, judge, verdict}
+use Rattle.rules.specs.Offence.{machine, Offence, frame, column, row, lack, FirstOffence, NoOffence, sequentCount}
 use Rattle.rules.proofs.Cases.{judge-row, judge-missing, judge-accepted, verdict-frame, verdict-column, verdict-judge}
 use Rattle.rules.proofs.Obeys.{Obeys}
 

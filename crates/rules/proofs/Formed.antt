@@ -10,7 +10,8 @@ use lib.Dec.{T, eqb}
 use Rattle.lists.specs.All.{All, all-nil, all-cons, In}
 use Rattle.lists.proofs.All.{all-join, all-imp, in-unmap}
 use Rattle.formula.proofs.Truth.{and-split}
-use Rattle.table.specs.Rows.{Rows, section, named, rowOf, operandNode, operatorOf, leftOf, rightOf}
+use Rattle.table.specs.Rows.{Rows, section, named, rowOf, operatorOf, leftOf, rightOf}
+use Rattle.table.specs.Lookups.{operandNode}
 use Rattle.table.proofs.Sections.{section-row, named-bounds}
 use Rattle.machine.specs.Operator as meaning
 use Rattle.machine.specs.Operator.{Operator, literalOf, identifierOf, afterOf, constantOf, unaryOf, binaryOf, divisionOf, connectiveOf, operatorNumbered}
@@ -28,7 +29,8 @@ use Rattle.sequent.proofs.Entries.{EntryOf, of-written, of-primed, of-defined, 
 use Rattle.sequent.proofs.Entries.{action-root-has, witness-for, listed-made}
 use Rattle.rules.specs.declared.Verdict.the-variants.{Accepted}
 use Rattle.rules.specs.Decoded.{decoded}
-use Rattle.rules.specs.Verdict.{verdict, machine}
+use Rattle.rules.specs.Verdict.{verdict}
+use Rattle.rules.specs.Offence.{machine}
 use Rattle.rules.proofs.Accepted.{accepted-none, none-obeys}
 use Rattle.rules.specs.Sorts.{shape}
 use Rattle.rules.specs.Rules.{earlierNode, goodColumns}

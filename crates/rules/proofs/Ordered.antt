@@ -14,7 +14,8 @@ use Rattle.sequent.specs.Order.{Before}
 use Rattle.sequent.proofs.Ordered.{Separate, sequents-sorted, sequents-determined, sequents-once}
 use Rattle.rules.specs.declared.Verdict.the-variants.{Accepted}
 use Rattle.rules.specs.Decoded.{decoded}
-use Rattle.rules.specs.Verdict.{verdict, machine}
+use Rattle.rules.specs.Verdict.{verdict}
+use Rattle.rules.specs.Offence.{machine}
 use Rattle.rules.proofs.Accepted.{accepted-none, none-obeys}
 use Rattle.rules.proofs.Separate.{obeys-separate}
 

@@ -21,7 +21,7 @@ use Rattle.row.proofs.Form.{row-form}
 use Rattle.table.specs.Rows.{Rows}
 use Rattle.formula.proofs.Truth.{and-split, true-test}
 use Rattle.rules.specs.Decoded.{framed, rowCount, lineOf, lineWords, wordsOf, decoded}
-use Rattle.rules.specs.Verdict.{frame, NoOffence}
+use Rattle.rules.specs.Offence.{frame, NoOffence}
 
 -- 01, Rows: "from −2147483648 to 2147483647"
 abbrev pub Ranged : ℕ → Type 0

@@ -9,7 +9,8 @@ use borrow.Author.Tests.{eqb-true, eqb-false}
 use lib.Dec.{eqb}
 use Rattle.rules.specs.declared.Verdict.the-variants.{Refused}
 use Rattle.rules.specs.Decoded.{framed, rowCount}
-use Rattle.rules.specs.Verdict.{verdict, Offence, frame, column, row, lack}
+use Rattle.rules.specs.Verdict.{verdict}
+use Rattle.rules.specs.Offence.{Offence, frame, column, row, lack}
 use Rattle.rules.proofs.Accepted.{refused-first}
 use Rattle.rules.proofs.Range.{size-rows, rows-few}
 

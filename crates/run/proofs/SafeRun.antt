@@ -8,7 +8,8 @@ use Rattle.sequent.specs.Sequent.{Valid}
 use Rattle.sequent.specs.Listed.{sequents}
 use Rattle.rules.specs.declared.Verdict.the-variants.{Accepted}
 use Rattle.rules.specs.Decoded.{decoded}
-use Rattle.rules.specs.Verdict.{verdict, machine}
+use Rattle.rules.specs.Verdict.{verdict}
+use Rattle.rules.specs.Offence.{machine}
 use Rattle.rules.proofs.Accepted.{accepted-none, none-obeys}
 use Rattle.run.specs.SafeRun.{Safe}
 use Rattle.run.proofs.Accepted.{accepted-well-formed}

@@ -1,7 +1,8 @@
 -- An entry is known by its form and its numbers: by cases.
 use mathlib.Core.Path.{_≡_, refl}
 use Rattle.sequent.specs.Entry.{Entry, written, primed, defined, moves, feasible, witnessed, natural, decreases}
-use Rattle.sequent.specs.Numbers.{numbersOf, entryOf}
+use Rattle.sequent.specs.Numbers.{numbersOf}
+use Rattle.sequent.specs.Forms.{entryOf}
 
 pub entry-of-numbers : (h : Entry) → entryOf (numbersOf h) ≡ h
 unfolding entryOf

@@ -15,7 +15,8 @@ use Rattle.lists.specs.Below.{numbers, keep}
 use Rattle.lists.proofs.All.{all-at}
 use Rattle.lists.proofs.Below.{numbers-in}
 use Rattle.lists.proofs.Flat.{keep-keep, keep-below, keep-only, keep-map, map-when, flat-next}
-use Rattle.table.specs.Rows.{Rows, tagged, section, isVariableNumber, Rising}
+use Rattle.table.specs.Rows.{Rows, tagged, section, Rising}
+use Rattle.table.specs.Lookups.{isVariableNumber}
 use Rattle.machine.specs.Machine.{Witness}
 use Rattle.machine.specs.Described.{machineOf}
 use Rattle.machine.proofs.Variables.{variable-numbered}

@@ -7,3 +7,4 @@ pub mod Order
 pub mod Walk
 pub mod Segments
 pub mod Formed
+pub mod Forms

@@ -1,8 +1,5 @@
 -- 01, Sequents: "An entry has a form and two numbers": an entry as the code holds it and as rows 81 and 82 write it.
 use Prim.Native.Nat.{ℕ}
-use mathlib.Core.Bool.{true, false}
-use mathlib.Core.List.{List, [], _∷_}
-use lib.ListN.{getD}
 use Rattle.sequent.specs.declared.Entry.{Entry as Numbers}
 use Rattle.sequent.specs.Entry.{Entry, written, primed, defined, moves, feasible, witnessed, natural, decreases}
 
@@ -19,13 +16,3 @@ numbersOf (feasible e x) = numbers 5 e x
 numbersOf (witnessed e x) = numbers 6 e x
 numbersOf (natural r) = numbers 7 r 0
 numbersOf (decreases r) = numbers 8 r 0
-
--- the forms by number, each an entry of two numbers; 0 is no form and counts as 1
-abbrev pub forms : List (ℕ → ℕ → Entry)
-forms =
-    (λ a b. written a) ∷ (λ a b. written a) ∷ (λ a b. primed a) ∷ (λ a b. defined a) ∷ (λ a b. moves a b) ∷ (λ a b. feasible a b) ∷ (λ a b. witnessed a b)
-    ∷ (λ a b. natural a) ∷ (λ a b. decreases a) ∷ []
-
--- the entry of a form and two numbers
-unfoldable pub entryOf : Numbers → Entry
-entryOf n = getD forms (n .form) (λ a b. written a) (n .first) (n .second)

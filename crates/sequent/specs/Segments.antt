@@ -7,7 +7,8 @@ use lib.Dec.{ltb, leb, eqb}
 use lib.ListN.{getD}
 use Rattle.lists.specs.Choice.{pick}
 use Rattle.lists.specs.Below.{countBelow, sumBelow, numbers, keep}
-use Rattle.table.specs.Rows.{Rows, tagged, classOf, isVariableNumber}
+use Rattle.table.specs.Rows.{Rows, tagged, classOf}
+use Rattle.table.specs.Lookups.{isVariableNumber}
 use Rattle.sequent.specs.Entry.{Entry, written, primed, defined, moves, feasible, witnessed, natural, decreases}
 use Rattle.sequent.specs.Sequent.{Sequent, sequent, WD, INV, FIS, GRD, SIM, WFIS, NAT, VAR}
 use Rattle.sequent.specs.Walk.{rowOfEvent, isAbstract, isConvergent, matchedBy, ownKind, identifierAt, actionRow}

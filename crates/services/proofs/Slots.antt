@@ -15,7 +15,8 @@ use Rattle.table.specs.Rows.{Rows}
 use Rattle.machine.specs.Described.{machineOf}
 use Rattle.sequent.specs.declared.Entry.{Entry as Numbers}
 use Rattle.sequent.specs.Entry.{written, formula}
-use Rattle.sequent.specs.Numbers.{numbersOf, entryOf}
+use Rattle.sequent.specs.Numbers.{numbersOf}
+use Rattle.sequent.specs.Forms.{entryOf}
 use Rattle.sequent.specs.Segments.{segments, headerKind, headerItem, entryWalk, entriesTo}
 use Rattle.sequent.proofs.Numbers.{entry-of-numbers}
 use Rattle.sequent.proofs.Segments.{entry-walk}

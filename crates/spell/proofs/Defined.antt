@@ -8,7 +8,8 @@ use lib.Dec.{T, eqb, eqb→eq}
 use Rattle.row.specs.declared.Row.{Row}
 use Rattle.formula.specs.Tree.{Binary, plus, minus, times, equal, less, atMost, iff, Division, quotient, remainder, Connective, and, or, implies, Tree}
 use Rattle.formula.specs.WellDefined.{wellDefined}
-use Rattle.table.specs.Rows.{Rows, operandNode, operatorOf, leftOf, rightOf}
+use Rattle.table.specs.Rows.{Rows, operatorOf, leftOf, rightOf}
+use Rattle.table.specs.Lookups.{operandNode}
 use Rattle.machine.specs.Operator as meaning
 use Rattle.machine.specs.Operator.{Operator, literalOf, identifierOf, afterOf, constantOf, unaryOf, binaryOf, divisionOf, connectiveOf, operatorNumbered}
 use Rattle.machine.specs.Described.{node, treeTo, treeOf}

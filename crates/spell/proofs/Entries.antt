@@ -8,12 +8,13 @@ use lib.ListN.{getD, List·getD-eq-default}
 use Rattle.lists.specs.Choice.{pick}
 use Rattle.formula.specs.Tree.{Tree}
 use Rattle.formula.specs.Formula.{someValue, someAfterValue}
-use Rattle.table.specs.Rows.{Rows, isVariableNumber}
+use Rattle.table.specs.Rows.{Rows}
+use Rattle.table.specs.Lookups.{isVariableNumber}
 use Rattle.machine.specs.Described.{machineOf}
 use Rattle.machine.proofs.Variables.{variable-numbered}
 use Rattle.sequent.specs.declared.Entry.{Entry as Numbers}
 use Rattle.sequent.specs.Entry.{Entry, written, variable, formula}
-use Rattle.sequent.specs.Numbers.{forms, entryOf}
+use Rattle.sequent.specs.Forms.{forms, entryOf}
 use Rattle.reply.specs.Spelled.{spelled, spellTree, spell}
 use Rattle.spell.specs.Spell.{shownRows, definedRows, movesRows, witnessNode, entryRows}
 

@@ -12,7 +12,8 @@ use Rattle.lists.specs.Choice.{pick}
 use Rattle.row.specs.declared.Row.{Row}
 use Rattle.formula.specs.Tree.{Constant, literal, TRUE, FALSE, top, bottom, Tree, identifier, after}
 use Rattle.formula.specs.AfterValues.{atAfter}
-use Rattle.table.specs.Rows.{Rows, isVariableNumber, operandNode, operatorOf, leftOf, rightOf}
+use Rattle.table.specs.Rows.{Rows, operatorOf, leftOf, rightOf}
+use Rattle.table.specs.Lookups.{isVariableNumber, operandNode}
 use Rattle.machine.specs.Operator as meaning
 use Rattle.machine.specs.Operator.{Operator, literalOf, identifierOf, afterOf, constantOf, unaryOf, binaryOf, divisionOf, connectiveOf, operatorNumbered}
 use Rattle.machine.specs.Described.{node, treeTo, treeOf, machineOf}

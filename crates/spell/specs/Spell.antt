@@ -13,11 +13,12 @@ use Rattle.row.specs.Row.{width, rowLength}
 use Rattle.formula.specs.Tree.{Tree}
 use Rattle.formula.specs.AfterValues.{atAfter}
 use Rattle.formula.specs.WellDefined.{wellDefined}
-use Rattle.table.specs.Rows.{Rows, isVariableNumber, operandNode, operatorOf, leftOf, rightOf}
+use Rattle.table.specs.Rows.{Rows, operatorOf, leftOf, rightOf}
+use Rattle.table.specs.Lookups.{isVariableNumber, operandNode}
 use Rattle.machine.specs.Described.{treeOf, machineOf}
 use Rattle.sequent.specs.declared.Entry.{Entry as Numbers}
 use Rattle.sequent.specs.Entry.{variable, actionTree, witnessRoot, formula}
-use Rattle.sequent.specs.Numbers.{entryOf}
+use Rattle.sequent.specs.Forms.{entryOf}
 use Rattle.rules.specs.Sorts.{Shape, value, anIdentifier, aVariable, none, one, two, unknown, shapeOf}
 use Rattle.reply.specs.Printed.{rowsBytes}
 use Rattle.reply.specs.Spelled.{spelled, spellTree, spell}

@@ -25,10 +25,6 @@ rowsOf ws = record {
   c = λ i. getD ws (4 * i + 3) 0;
 }
 
--- 01: "Operands have smaller numbers than their node": the operand x of the node n; 0, which names no node, where x is no earlier one
-abbrev pub operandNode : ℕ → ℕ → ℕ
-operandNode n x = pick (ltb 0 x && ltb x n) x 0
-
 module _ (t : Rows) where
   abbrev pub tagged : ℕ → ℕ → Bool
   tagged k i = eqb (t .tag i) k
@@ -64,10 +60,6 @@ module _ (t : Rows) where
 
   abbrev pub ownerOf : ℕ → ℕ
   ownerOf x = t .c (rowOf 10 x)
-
-  -- "2 abstract variable, 3 concrete variable": whether an identifier is one of them
-  abbrev pub isVariableNumber : ℕ → Bool
-  isVariableNumber x = eqb (kindOf x) 2 || eqb (kindOf x) 3
 
   -- operator and operands of a node
   abbrev pub operatorOf : ℕ → ℕ

@@ -6,7 +6,8 @@ ghost use mathlib.Core.Bool.{_&&_};
 ghost use lib.Dec.{eqb, leb};
 ghost use lib.ListN.{length, getD};
 ghost use Rattle.lists.specs.Below.{oneIf};
-ghost use Rattle.table.specs.Rows.{rowsOf, named, rowOf, isVariableNumber, operandNode};
+ghost use Rattle.table.specs.Rows.{rowsOf, named, rowOf};
+ghost use Rattle.table.specs.Lookups.{isVariableNumber, operandNode};
 ghost use Rattle.table.specs.Counts.{emptyCounts, countedRow, countsOf, Small};
 
 // How many rows stand before the identifiers, the nodes and the events of a table, and how many of these there are.

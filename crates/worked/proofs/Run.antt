@@ -16,7 +16,7 @@ use Rattle.formula.proofs.Values.{equal-value-eq}
 use Rattle.machine.specs.Operator.{operatorNumbered}
 use Rattle.machine.specs.Machine.{abstractInitialisation, abstractOrdinary, concreteInitialisation}
 use Rattle.machine.specs.Described.{typeNumbered, kindNumbered, roleNumbered, treeTo, treeOf, actionOf, belonging, identifiersOf, machineOf}
-use Rattle.rules.specs.Verdict.{machine}
+use Rattle.rules.specs.Offence.{machine}
 use Rattle.run.specs.Run.{State, blank, world, AllReadTrue, Step, Follows, Match}
 use Rattle.run.specs.SafeRun.{PairSafe, stretch, Bounded, Along, Safe}
 use Rattle.worked.specs.Run.{constants, concrete, parameter, steps}

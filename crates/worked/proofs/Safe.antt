@@ -6,7 +6,7 @@ use Rattle.machine.specs.Machine.{Machine}
 use Rattle.machine.specs.Described.{machineOf}
 use Rattle.sequent.specs.Sequent.{Valid}
 use Rattle.sequent.specs.Listed.{sequents}
-use Rattle.rules.specs.Verdict.{machine}
+use Rattle.rules.specs.Offence.{machine}
 use Rattle.run.specs.SafeRun.{Safe}
 use Rattle.run.proofs.SafeRun.{safe-run}
 use Rattle.worked.specs.Worked.{bytes}

@@ -6,7 +6,8 @@ use native.Mathlib.Omega.{arith}
 use borrow.Author.Needs.{needs}
 use borrow.Fn.Kinds.{In}
 use borrow.Fn.PlainCycle.{Measures, is, falls, and}
-use Rattle.table.specs.Rows.{rowsOf, operandNode}
+use Rattle.table.specs.Rows.{rowsOf}
+use Rattle.table.specs.Lookups.{operandNode}
 use Rattle.machine.proofs.Described.{operand-falls}
 use Rattle.rules.specs.Sight.{mayMention, mayMentionAfter, seesOnly}
 use Rattle.rule_references.specs.declared.Shape.{Shape}

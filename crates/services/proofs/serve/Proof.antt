@@ -2,7 +2,8 @@
 use mathlib.Core.Path.{ap, sym, _∙_}
 use Rattle.table.specs.Rows.{rowsOf}
 use Rattle.machine.specs.Described.{machineOf}
-use Rattle.rules.specs.Verdict.{judge, machine}
+use Rattle.rules.specs.Verdict.{judge}
+use Rattle.rules.specs.Offence.{machine}
 use Rattle.verdict.specs.Loaded.{judged}
 use Rattle.verdict.proofs.Filled.{verdict-judged, filled}
 use Rattle.services.specs.Found.{serveBy}

@@ -1,0 +1,14 @@
+-- What the code asks of nodes and identifiers.
+use Prim.Native.Nat.{ℕ}
+use mathlib.Core.Bool.{Bool, _&&_, _||_}
+use lib.Dec.{ltb, eqb}
+use Rattle.lists.specs.Choice.{pick}
+use Rattle.table.specs.Rows.{Rows, kindOf}
+
+-- 01: "Operands have smaller numbers than their node": the operand x of the node n; 0, which names no node, where x is no earlier one
+abbrev pub operandNode : ℕ → ℕ → ℕ
+operandNode n x = pick (ltb 0 x && ltb x n) x 0
+
+-- "2 abstract variable, 3 concrete variable": whether an identifier is one of them
+abbrev pub isVariableNumber : Rows → ℕ → Bool
+isVariableNumber t x = eqb (kindOf t x) 2 || eqb (kindOf t x) 3
