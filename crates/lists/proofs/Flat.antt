@@ -13,7 +13,8 @@ use lib.Seq.{getD-append-add}
 use borrow.Author.Tests.{lt-ltb, le-ltb, eq-eqb, ne-eqb}
 use Rattle.lists.specs.Choice.{pick}
 use Rattle.lists.specs.All.{In, here, there}
-use Rattle.lists.specs.Below.{oneIf, countBelow, sumBelow, numbers, keep}
+use Rattle.lists.specs.Below.{oneIf, countBelow, numbers, keep}
+use Rattle.lists.specs.Sum.{sumBelow}
 use Rattle.lists.proofs.Below.{in-numbers}
 
 -- a choice by two tests

@@ -1,4 +1,4 @@
--- Notions over the numbers below a bound, as a table's rows are numbered: how many pass a test, a sum, the first that passes, and the list of those that do.
+-- Notions over the numbers below a bound, as a table's rows are numbered: how many pass a test, the first that passes, and the list of those that do.
 use Prim.Native.Nat.{ℕ, zero, suc, _+_}
 use mathlib.Core.Bool.{Bool, true, false}
 use mathlib.Core.List.{List, [], _∷_}
@@ -14,11 +14,6 @@ oneIf false = 0
 unfoldable pub countBelow : (ℕ → Bool) → ℕ → ℕ
 countBelow P zero = 0
 countBelow P (suc n) = countBelow P n + oneIf (P n)
-
--- the sum of f over the numbers below n
-unfoldable pub sumBelow : (ℕ → ℕ) → ℕ → ℕ
-sumBelow f zero = 0
-sumBelow f (suc n) = sumBelow f n + f n
 
 -- some number below n passes
 abbrev pub someBelow : (ℕ → Bool) → ℕ → Bool

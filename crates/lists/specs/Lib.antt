@@ -3,3 +3,4 @@ pub mod Choice
 pub mod Pairwise
 pub mod Over
 pub mod Below
+pub mod Sum

@@ -14,7 +14,7 @@ use Rattle.machine.specs.Operator.{operatorNumbered, operandSort, resultSort}
 use Rattle.machine.specs.Described.{typeNumbered, kindNumbered, roleNumbered, treeTo, treeOf, actionOf, belonging, identifiersOf, machineOf}
 use Rattle.sequent.specs.Listed.{inOrder, eventSequents, sequents}
 use Rattle.rules.specs.Decoded.{lineOf, wordsOf}
-use Rattle.rules.specs.Tags.{columnsUsed, mostRows}
+use Rattle.rules.specs.Tags.{columnsUsed, rowLimit}
 use Rattle.rules.specs.Sorts.{shapeOf, sortOf}
 use Rattle.rules.specs.Sight.{mayMention, mayMentionAfter, seesOnly}
 use Rattle.rules.specs.Rules.{tagOffends, fullOffends, eventOffends, identifierOffends, rootAt, referenceOffends, rootSort, sortOffends, usesTo}
@@ -25,5 +25,5 @@ use Rattle.reply.specs.Replies.{writeRows, writeSequent, output}
 use Rattle.marked.specs.Cases.{falling, cases, allAgree}
 
 marked : allAgree cases ≡ true
-unfolding cases falling flatMap over countBelow first numbers keep columnsOf numberOf scanFrom rowBytes section count start readTree mentions operatorNumbered typeNumbered kindNumbered roleNumbered treeTo treeOf actionOf belonging identifiersOf machineOf inOrder eventSequents sequents lineOf wordsOf columnsUsed mostRows shapeOf operandSort resultSort sortOf mayMention mayMentionAfter seesOnly tagOffends fullOffends eventOffends identifierOffends rootAt referenceOffends rootSort sortOffends usesTo useOffends sightOffends twiceOffends offends missing firstCheck judge verdict sequentRows rowsBytes writeRows writeSequent output
+unfolding cases falling flatMap over countBelow first numbers keep columnsOf numberOf scanFrom rowBytes section count start readTree mentions operatorNumbered typeNumbered kindNumbered roleNumbered treeTo treeOf actionOf belonging identifiersOf machineOf inOrder eventSequents sequents lineOf wordsOf columnsUsed rowLimit shapeOf operandSort resultSort sortOf mayMention mayMentionAfter seesOnly tagOffends fullOffends eventOffends identifierOffends rootAt referenceOffends rootSort sortOffends usesTo useOffends sightOffends twiceOffends offends missing firstCheck judge verdict sequentRows rowsBytes writeRows writeSequent output
 marked = refl

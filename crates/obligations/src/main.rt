@@ -17,7 +17,7 @@ ghost use mathlib.Core.Path.{_≡_};
 ghost use Prim.Native.Nat.{_+_, _*_, _<_, _≤_};
 ghost use lib.ListN.{length};
 ghost use Rattle.row.specs.Row.{width, rowLength};
-ghost use Rattle.table.specs.Limits.{mostWords};
+ghost use Rattle.table.specs.Lookups.{mostWords};
 ghost use Rattle.table.specs.Rows.{rowsOf};
 ghost use Rattle.table.specs.Counts.{countsOf};
 ghost use Rattle.rules.specs.declared.Verdict.the-variants.{Accepted, Refused};

@@ -4,14 +4,14 @@ use mathlib.Core.Path.{_≡_, refl, ap, sym}
 use mathlib.Core.List.{List, [], _∷_}
 use borrow.Author.Tests.{ne-eqb}
 use Rattle.lists.proofs.Range.{values, range-same}
-use Rattle.rules.specs.Tags.{Tag, tags, tagNumbered, columnsUsed, mostRows}
+use Rattle.rules.specs.Tags.{Tag, tags, tagNumbered, columnsUsed, rowLimit}
 
 abbrev pub Limited : ℕ → ℕ → ℕ → Type 0
-Limited columns most x = (columns ≡ columnsUsed x) × (most ≡ mostRows x)
+Limited columns most x = (columns ≡ columnsUsed x) × (most ≡ rowLimit x)
 
-pub limits-range : (columns most low k : ℕ) → values (λ x. columns) low k ≡ values columnsUsed low k → values (λ x. most) low k ≡ values mostRows low k
+pub limits-range : (columns most low k : ℕ) → values (λ x. columns) low k ≡ values columnsUsed low k → values (λ x. most) low k ≡ values rowLimit low k
     → (x : ℕ) → low ≤ x → x < low + k → Limited columns most x
-limits-range columns most low k h g x l m = (range-same (λ x. columns) columnsUsed low k h x l m, range-same (λ x. most) mostRows low k g x l m)
+limits-range columns most low k h g x l m = (range-same (λ x. columns) columnsUsed low k h x l m, range-same (λ x. most) rowLimit low k g x l m)
 
 abbrev pub NoneOf : ℕ → List Tag → Type 0
 NoneOf x [] = Unit {0}
@@ -22,5 +22,5 @@ find-none [] x h = refl
 find-none (t ∷ ts) x h = rw (ne-eqb (t .tag) x (h .0), tagNumbered) (find-none ts x (h .1))
 
 pub limits-unknown : (x : ℕ) → NoneOf x tags → Limited 0 0 x
-unfolding columnsUsed mostRows
+unfolding columnsUsed rowLimit
 limits-unknown x h = (sym (ap (λ t. t .columns) (find-none tags x h)), sym (ap (λ t. t .most) (find-none tags x h)))

@@ -12,7 +12,7 @@ ghost use mathlib.Core.Bool.{_&&_};
 ghost use Prim.Native.Nat.{_-_, _≤_};
 ghost use lib.Dec.{ltb};
 ghost use Rattle.table.specs.Rows.{rowsOf};
-ghost use Rattle.rules.specs.Tags.{columnsUsed, mostRows};
+ghost use Rattle.rules.specs.Tags.{columnsUsed, rowLimit};
 ghost use Rattle.rules.specs.Rules.{tagOffends, fullOffends, twiceOffends};
 
 // How many of the columns a, b, c a tag uses, and how many rows it may have; none of an unknown tag.
@@ -24,7 +24,7 @@ pub struct Limits {
 // Of 50, the guards; and of 51 and 52, the actions, whose rows are counted together.
 fn step_limits(tag: u64) -> Limits
     requires { ⌜ (50 ≤ tag) × (tag ≤ 52) ⌝ }
-    ensures { λ r. ⌜ (r .columns ≡ columnsUsed tag) × (r .most ≡ mostRows tag) ⌝ }
+    ensures { λ r. ⌜ (r .columns ≡ columnsUsed tag) × (r .most ≡ rowLimit tag) ⌝ }
 {
     if tag == 50 {
         return Limits {
@@ -40,7 +40,7 @@ fn step_limits(tag: u64) -> Limits
 
 // 01: "A tag is one of 10, 20, 30 to 32, 40, 50 to 52, 60, 70".
 fn tag_limits(tag: u64) -> Limits
-    ensures { λ r. ⌜ (r .columns ≡ columnsUsed tag) × (r .most ≡ mostRows tag) ⌝ }
+    ensures { λ r. ⌜ (r .columns ≡ columnsUsed tag) × (r .most ≡ rowLimit tag) ⌝ }
 {
     match tag {
         10 => Limits {

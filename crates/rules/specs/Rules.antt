@@ -6,7 +6,7 @@ use Rattle.lists.specs.Choice.{pick}
 use Rattle.lists.specs.Below.{oneIf, countBelow, someBelow}
 use Rattle.table.specs.Rows.{Rows, tagged, count, named, rowOf, numberIn, isAction, kindOf, typeOf, ownerOf, machineNumber, classOf, refinedBy}
 use Rattle.machine.specs.Operator.{operandSort}
-use Rattle.rules.specs.Tags.{columnsUsed, mostRows}
+use Rattle.rules.specs.Tags.{columnsUsed, rowLimit}
 use Rattle.rules.specs.Sorts.{Shape, value, anIdentifier, aVariable, none, one, two, unknown, shapeOf, operandCount, sortOf, fitting}
 use Rattle.rules.specs.Sight.{hasKind, seesOnly}
 
@@ -24,7 +24,7 @@ module _ (t : Rows) where
   countedWith i j = eqb (t .tag j) (t .tag i) || (isAction t i && isAction t j)
 
   unfoldable pub fullOffends : ℕ → Bool
-  fullOffends i = leb (mostRows (t .tag i)) (countBelow (countedWith i) i)
+  fullOffends i = leb (rowLimit (t .tag i)) (countBelow (countedWith i) i)
 
   -- 5 event: "bad machine, class or refined event; machines out of order; class 0 anywhere but first of its machine"
   abbrev pub isEvent : ℕ → ℕ → Bool

@@ -27,5 +27,5 @@ tagNumbered (t ∷ ts) n = pick (eqb (t .tag) n) t (tagNumbered ts n)
 unfoldable pub columnsUsed : ℕ → ℕ
 columnsUsed n = tagNumbered tags n .columns
 
-unfoldable pub mostRows : ℕ → ℕ
-mostRows n = tagNumbered tags n .most
+unfoldable pub rowLimit : ℕ → ℕ
+rowLimit n = tagNumbered tags n .most

@@ -1,6 +1,6 @@
 -- Demand 3: what is claimed of every run, as one statement about runs of any length.
 use mathlib.Core.Path.{_≡_}
-use mathlib.Core.Bool.{Bool, true, false}
+use mathlib.Core.Bool.{Bool, not}
 use mathlib.Core.List.{List, [], _∷_, _++_}
 use mathlib.Core.Option.{some}
 use Prim.Native.Nat.{ℕ, zero, suc, _<_}
@@ -10,7 +10,7 @@ use Rattle.lists.specs.All.{All, In}
 use Rattle.formula.specs.Values.{number, atMostℤ}
 use Rattle.formula.specs.Evaluate.{readTree}
 use Rattle.machine.specs.Machine.{Role, abstractInitialisation, abstractOrdinary, concreteInitialisation, refining, convergent, Machine}
-use Rattle.sequent.specs.Required.{ownVariables}
+use Rattle.sequent.specs.Required.{isInitialisation, ownVariables}
 use Rattle.run.specs.Run.{State, blank, world, view, Defined, AllReadTrue, NoneUndefined, ActionDefined, Enabled, Step, Taken, Follows, Match, Matches}
 
 -- "every unbroken stretch of one or more convergent steps has at most as many steps as the variant's value before it plus one"
@@ -34,11 +34,7 @@ module _ (m : Machine) where
   ownState convergent a k = k
 
   abbrev pub notInitial : Role → Bool
-  notInitial abstractInitialisation = false
-  notInitial abstractOrdinary = true
-  notInitial (concreteInitialisation f) = false
-  notInitial (refining f) = true
-  notInitial convergent = true
+  notInitial ro = not (isInitialisation ro)
 
   -- a matched pair of states: "every invariant of both machines is true", the variant is defined, and every event is safe there
   pub record PairSafe (c a k : State m) : Type 0 where

@@ -9,7 +9,7 @@ use native.Mathlib.Numerals.{add-one}
 use lib.Dec.{eqb}
 use lib.ListN.{getD}
 use Rattle.lists.specs.Choice.{pick}
-use Rattle.lists.specs.Below.{sumBelow}
+use Rattle.lists.specs.Sum.{sumBelow}
 use Rattle.lists.proofs.Flat.{sum-reaches, sum-at-most, flat-at}
 use Rattle.table.specs.Rows.{Rows, count, Rising}
 use Rattle.machine.specs.Described.{machineOf}

@@ -10,7 +10,8 @@ use native.Mathlib.Decide.{ℕ-discrete}
 use lib.Dec.{leb, eqb}
 use lib.ListN.{length, getD, length-map}
 use borrow.Author.Tests.{eq-eqb, ne-eqb}
-use Rattle.lists.specs.Below.{oneIf, countBelow, sumBelow, numbers, keep}
+use Rattle.lists.specs.Below.{oneIf, countBelow, numbers, keep}
+use Rattle.lists.specs.Sum.{sumBelow}
 use Rattle.lists.proofs.Below.{count-at-most, count-passes, count-less}
 use Rattle.lists.proofs.Flat.{keep-length, flat-length, sum-same, sum-reaches, flat-at, kept-at}
 use Rattle.table.specs.Rows.{Rows, tagged}

@@ -6,7 +6,8 @@ use mathlib.Core.List.{List, [], _∷_, map, flatMap}
 use lib.Dec.{ltb, leb, eqb}
 use lib.ListN.{getD}
 use Rattle.lists.specs.Choice.{pick}
-use Rattle.lists.specs.Below.{countBelow, sumBelow, numbers, keep}
+use Rattle.lists.specs.Below.{countBelow, numbers, keep}
+use Rattle.lists.specs.Sum.{sumBelow}
 use Rattle.table.specs.Rows.{Rows, tagged, classOf}
 use Rattle.table.specs.Lookups.{isVariableNumber}
 use Rattle.sequent.specs.Entry.{Entry, written, primed, defined, moves, feasible, witnessed, natural, decreases}

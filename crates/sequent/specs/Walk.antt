@@ -6,7 +6,8 @@ use mathlib.Core.List.{List, [], _∷_, _++_, map, flatMap}
 use lib.Dec.{ltb, leb, eqb}
 use lib.ListN.{getD}
 use Rattle.lists.specs.Choice.{pick}
-use Rattle.lists.specs.Below.{sumBelow, first, numbers, keep}
+use Rattle.lists.specs.Below.{first, numbers, keep}
+use Rattle.lists.specs.Sum.{sumBelow}
 use Rattle.table.specs.Rows.{Rows, tagged, count, kindOf, machineNumber, classOf, refinedBy}
 use Rattle.machine.specs.Machine.{Role}
 use Rattle.machine.specs.Described.{sets, machineOf}

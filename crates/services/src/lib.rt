@@ -20,7 +20,7 @@ ghost use Prim.Native.Nat.{_+_, _*_, _<_, _≤_};
 ghost use lib.ListN.{length};
 ghost use Rattle.lists.specs.Over.{over};
 ghost use Rattle.row.specs.Row.{width, rowLength};
-ghost use Rattle.table.specs.Limits.{mostWords};
+ghost use Rattle.table.specs.Lookups.{mostWords};
 ghost use Rattle.table.specs.Rows.{rowsOf, Rising};
 ghost use Rattle.table.specs.Counts.{countsOf};
 ghost use Rattle.machine.specs.Described.{machineOf};

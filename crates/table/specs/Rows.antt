@@ -4,7 +4,6 @@ use mathlib.Core.Bool.{Bool, true, false, not, _&&_, _||_}
 use mathlib.Core.List.{List, [], _∷_, _++_, map}
 use lib.Dec.{ltb, leb, eqb}
 use lib.ListN.{length, getD}
-use Rattle.lists.specs.Choice.{pick}
 use Rattle.lists.specs.Below.{countBelow, numbers, keep}
 
 -- The rows, counted from 0: a tag and numbers a, b, c, each a word of 64 bits.

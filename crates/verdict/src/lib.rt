@@ -11,7 +11,7 @@ use walk::count;
 ghost use mathlib.Core.Path.{_≡_};
 ghost use Prim.Native.Nat.{_^_, _≤_, _<_};
 ghost use lib.ListN.{length};
-ghost use Rattle.table.specs.Limits.{mostWords};
+ghost use Rattle.table.specs.Lookups.{mostWords};
 ghost use Rattle.table.specs.Rows.{rowsOf};
 ghost use Rattle.rules.specs.Verdict.{judge as judgeOf, verdict as verdictOf};
 ghost use Rattle.verdict.specs.Loaded.{endRow, loadedRows, loadedOf, loadedWords};

@@ -14,7 +14,7 @@ ghost use Prim.Native.Nat.{_+_, _-_, _^_, _<_, _≤_};
 ghost use mathlib.Core.Bool.{_&&_, false};
 ghost use Rattle.lists.specs.Choice.{pick};
 ghost use lib.ListN.{getD, length};
-ghost use Rattle.table.specs.Limits.{mostWords};
+ghost use Rattle.table.specs.Lookups.{mostWords};
 ghost use Rattle.table.specs.Rows.{rowsOf, tagged, refinedBy};
 ghost use Rattle.table.specs.Counts.{countsOf};
 ghost use Rattle.sequent.specs.Walk.{hasGroup, groupTests, isFormula, rowOfEvent, isAbstract, isRefining, isMatched, isConvergent};

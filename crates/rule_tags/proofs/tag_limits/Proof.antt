@@ -1,14 +1,14 @@
 -- Each arm's tags, one or a range of them, are looked up in the table of tags; the other arms have none of its tags.
 use mathlib.Core.Path.{refl}
 use native.Mathlib.Omega.{arith}
-use Rattle.rules.specs.Tags.{columnsUsed, mostRows}
+use Rattle.rules.specs.Tags.{columnsUsed, rowLimit}
 use Rattle.rule_tags.proofs.TagLimits.{limits-range, limits-unknown}
 use borrow.Author.Needs.{needs}
 use Rattle.rule_tags.proofs.tag_limits.Statement.{statement}
 use Rattle.rule_tags.proofs.tag_limits.Tie as tie
 
 pub tag-limits-spec : {M : Type 1} → statement M
-unfolding columnsUsed mostRows
+unfolding columnsUsed rowLimit
 tag-limits-spec = tie.close (tie.spec
     (λ c κs. search needs)
     (λ c. limits-range 3 64 10 1 refl refl (c .before .args .tag) (omega arith) (omega arith))
