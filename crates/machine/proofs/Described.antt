@@ -7,10 +7,9 @@ use native.Mathlib.Omega.{arith}
 use lib.Dec.{T, ltb, eqb, ltb→lt, eqb→eq}
 use borrow.Author.Tests.{ltb-true, ltb-false}
 use Rattle.lists.specs.All.{In}
-use Rattle.lists.proofs.Distinct.{Distinct, Ascending}
+use Rattle.lists.proofs.Distinct.{Distinct, Ascending, pairwise-keep, numbers-rise}
 use Rattle.lists.specs.Choice.{pick}
 use Rattle.lists.specs.Below.{first, numbers}
-use Rattle.lists.proofs.Distinct.{pairwise-keep, numbers-rise}
 use Rattle.lists.proofs.First.{Least, first-least}
 use Rattle.lists.proofs.Below.{numbers-in, in-numbers, in-keep}
 use Rattle.table.specs.Rows.{Rows, tagged, section, count, named, kindOf, operatorOf, leftOf, rightOf, isAction}

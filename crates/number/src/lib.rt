@@ -5,8 +5,7 @@ ghost use lib.ListN.{length};
 ghost use Prim.Native.Nat.{_≤_, _<_, _^_};
 ghost use Rattle.lists.specs.Over.{over};
 ghost use Rattle.number.specs.Number.{mostOf, textOf, lastOf, beforeOf, beforeDigits, columnsOf};
-ghost use Rattle.number.specs.Reading.{wordOf};
-ghost use Rattle.number.specs.Reading.{digitOf, afterSpaces, afterMinus, afterDigits, afterText, stepOf, textValue, valueOf, numberOf};
+ghost use Rattle.number.specs.Reading.{wordOf, digitOf, afterSpaces, afterMinus, afterDigits, afterText, stepOf, textValue, valueOf, numberOf};
 
 // What the columns up to some place hold: only spaces, spaces and a minus, or these and digits (whether a minus stands before them,
 // and their value).

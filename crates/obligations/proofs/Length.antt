@@ -13,8 +13,7 @@ use Rattle.row.proofs.Form.{row-length}
 use Rattle.table.specs.Rows.{Rows, Rising}
 use Rattle.machine.specs.Described.{machineOf}
 use Rattle.sequent.specs.Entry.{written}
-use Rattle.sequent.specs.Sequent.{Sequent}
-use Rattle.sequent.specs.Sequent.{sequent}
+use Rattle.sequent.specs.Sequent.{Sequent, sequent}
 use Rattle.sequent.specs.Listed.{sequents}
 use Rattle.sequent.specs.Walk.{groups, slot, slotCount, groupSlots, eventSlots}
 use Rattle.sequent.proofs.Walk.{slot-count, walked, walk-count}

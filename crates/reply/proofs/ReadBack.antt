@@ -15,8 +15,8 @@ use Rattle.lists.proofs.Choice.{chosen, not-chosen}
 use Rattle.lists.proofs.Distinct.{in-place}
 use Rattle.row.specs.declared.Row.{Row}
 use Rattle.row.specs.declared.Read.the-variants as read
-use Rattle.row.specs.Row.{greatest, width, rowLength, rowBytes, Writable}
-use Rattle.row.specs.Reading.{part, lineAt, foundAt, readAt}
+use Rattle.row.specs.Row.{greatest, width, rowLength, rowBytes, Writable, part}
+use Rattle.row.specs.Reading.{lineAt, foundAt, readAt}
 use Rattle.row.proofs.Form.{row-length, written-row-reads}
 use Rattle.machine.specs.Machine.{Machine}
 use Rattle.sequent.specs.Entry.{Entry, formula}

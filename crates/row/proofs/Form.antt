@@ -19,8 +19,8 @@ use Rattle.number.proofs.Form.{number-form, written-reads}
 use Rattle.row.specs.declared.Row.{Row}
 use Rattle.row.specs.declared.Line.{Line}
 use Rattle.row.specs.declared.Line.the-variants as line
-use Rattle.row.specs.Row.{rowBytes, rowLength, Writable}
-use Rattle.row.specs.Reading.{part, joined, lineAt}
+use Rattle.row.specs.Row.{rowBytes, rowLength, Writable, part}
+use Rattle.row.specs.Reading.{joined, lineAt}
 
 pub row-length : (w : ℕ) (r : Row) → length (rowBytes w r) ≡ rowLength w
 unfolding rowBytes

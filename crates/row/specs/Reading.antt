@@ -1,9 +1,9 @@
 -- How a row is read, at a place. Whatever is read is the written form of the row, and every writable row is read (proofs/Form.antt).
-use Prim.Native.Nat.{ℕ, _+_, _-_, _*_}
+use Prim.Native.Nat.{ℕ, _+_, _*_}
 use mathlib.Core.List.{List}
 use mathlib.Core.Bool.{Bool, true, false}
 use lib.Dec.{ltb, eqb}
-use lib.ListN.{length, getD, take, drop}
+use lib.ListN.{length, getD}
 use Rattle.lists.specs.Choice.{pick}
 use Rattle.number.specs.Reading.{numberOf}
 use Rattle.number.specs.declared.Number.{Number}
@@ -12,11 +12,7 @@ use Rattle.row.specs.declared.Line.{Line}
 use Rattle.row.specs.declared.Line.the-variants as line
 use Rattle.row.specs.declared.Read.{Read}
 use Rattle.row.specs.declared.Read.the-variants as read
-use Rattle.row.specs.Row.{rowLength}
-
--- the columns from a to e
-abbrev pub part : List ℕ → ℕ → ℕ → List ℕ
-part bytes a e = take (e - a) (drop a bytes)
+use Rattle.row.specs.Row.{rowLength, part}
 
 abbrev pub joined : Number → Number → Number → Number → Bool → Line
 joined (Value t) (Value a) (Value b) (Value c) true = line.Whole (record { tag = t; a = a; b = b; c = c })

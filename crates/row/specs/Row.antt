@@ -1,7 +1,8 @@
 -- 01, Rows: "A table is rows of 38 bytes: a tag in 4 columns, numbers a, b, c in 11 columns each, then byte 10." For any range and any
 -- width of a, b and c.
-use Prim.Native.Nat.{ℕ, _+_, _*_}
+use Prim.Native.Nat.{ℕ, _+_, _-_, _*_}
 use mathlib.Core.List.{List, [], _∷_, _++_}
+use lib.ListN.{take, drop}
 use Rattle.number.specs.Number.{columnsOf, textOf, InRange, Fits}
 use Rattle.row.specs.declared.Row.{Row}
 
@@ -14,6 +15,10 @@ width = 11
 
 abbrev pub rowLength : ℕ → ℕ
 rowLength w = 4 + 3 * w + 1
+
+-- the bytes from a to e
+abbrev pub part : List ℕ → ℕ → ℕ → List ℕ
+part bytes a e = take (e - a) (drop a bytes)
 
 -- a row as it is written
 unfoldable pub rowBytes : ℕ → Row → List ℕ

@@ -13,8 +13,7 @@ use Rattle.lists.proofs.All.{all-in, all-flat}
 use Rattle.lists.proofs.Below.{in-numbers}
 use Rattle.lists.proofs.Flat.{flat-length, sum-at-most}
 use Rattle.number.specs.Number.{InRange}
-use Rattle.row.specs.Row.{greatest, width, rowLength}
-use Rattle.row.specs.Reading.{part}
+use Rattle.row.specs.Row.{greatest, width, rowLength, part}
 use Rattle.row.specs.declared.Line.{Line}
 use Rattle.row.specs.declared.Line.the-variants as line
 use Rattle.row.proofs.Form.{row-form}

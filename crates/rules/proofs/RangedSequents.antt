@@ -13,8 +13,7 @@ use Rattle.lists.proofs.All.{all-at, all-in, all-imp, all-map}
 use Rattle.lists.proofs.Below.{count-at-most}
 use Rattle.table.specs.Rows.{Rows, tagged, section, count, named, rowOf, machineNumber, classOf, refinedBy}
 use Rattle.table.proofs.Sections.{named-bounds}
-use Rattle.machine.specs.Machine.{Witness, Machine}
-use Rattle.machine.specs.Machine.{Role, abstractInitialisation, abstractOrdinary, concreteInitialisation, refining, convergent}
+use Rattle.machine.specs.Machine.{Witness, Machine, Role, abstractInitialisation, abstractOrdinary, concreteInitialisation, refining, convergent}
 use Rattle.machine.specs.Described.{roleNumbered, belonging, identifiersOf, machineOf}
 use Rattle.machine.proofs.Described.{action-row, identifier-named, event-named}
 use Rattle.sequent.specs.Entry.{Entry}

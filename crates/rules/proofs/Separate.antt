@@ -8,9 +8,8 @@ use native.Mathlib.Omega.{arith}
 use lib.Dec.{T}
 use Rattle.lists.specs.All.{In}
 use Rattle.lists.specs.Below.{numbers}
-use Rattle.lists.proofs.Distinct.{Distinct}
+use Rattle.lists.proofs.Distinct.{Distinct, pairwise-join, pairwise-imp, pairwise-flat, distinct-map, numbers-rise, rising-distinct}
 use Rattle.lists.proofs.All.{in-nil, in-unmap, in-either, in-unflat}
-use Rattle.lists.proofs.Distinct.{pairwise-join, pairwise-imp, pairwise-flat, distinct-map, numbers-rise, rising-distinct}
 use Rattle.table.specs.Rows.{Rows, section, count}
 use Rattle.table.proofs.Sections.{section-row, section-distinct}
 use Rattle.machine.specs.Machine.{Witness}

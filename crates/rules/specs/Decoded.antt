@@ -5,8 +5,8 @@ use mathlib.Core.List.{List, [], _∷_, flatMap}
 use lib.Dec.{leb, eqb}
 use lib.ListN.{length}
 use Rattle.lists.specs.Below.{numbers}
-use Rattle.row.specs.Row.{greatest, width, rowLength}
-use Rattle.row.specs.Reading.{part, lineAt}
+use Rattle.row.specs.Row.{greatest, width, rowLength, part}
+use Rattle.row.specs.Reading.{lineAt}
 use Rattle.row.specs.declared.Line.{Line}
 use Rattle.row.specs.declared.Line.the-variants as line
 use Rattle.table.specs.Limits.{mostBytes}

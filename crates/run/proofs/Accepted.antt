@@ -15,8 +15,7 @@ use Rattle.table.proofs.Sections.{section-row, row-section, named-bounds}
 use Rattle.formula.specs.Values.{integer}
 use Rattle.formula.proofs.Sort.{treeType}
 use Rattle.formula.proofs.Truth.{and-split, or-cases, true-test}
-use Rattle.machine.specs.Machine.{Witness, unassigned}
-use Rattle.machine.specs.Machine.{Role, abstractInitialisation, abstractOrdinary, concreteInitialisation, refining, convergent}
+use Rattle.machine.specs.Machine.{Witness, unassigned, Role, abstractInitialisation, abstractOrdinary, concreteInitialisation, refining, convergent}
 use Rattle.machine.specs.Described.{typeNumbered, kindNumbered, roleNumbered, treeOf, actionOf, belonging, identifiersOf, machineOf}
 use Rattle.machine.proofs.Described.{SetBy, action-row, belonging-row, identifier-named, event-named, named-event}
 use Rattle.machine.proofs.Roles.{RoleSays}

@@ -10,8 +10,7 @@ use Rattle.lists.proofs.All.{all-left, all-right, all-join, all-at, all-in, all
 use Rattle.formula.specs.Values.{wrap}
 use Rattle.formula.specs.Evaluate.{Env, evaluate, True}
 use Rattle.formula.proofs.Values.{eq-equal-value}
-use Rattle.machine.specs.Machine.{Machine}
-use Rattle.machine.specs.Machine.{Role, abstractInitialisation, abstractOrdinary, concreteInitialisation, refining, convergent}
+use Rattle.machine.specs.Machine.{Machine, Role, abstractInitialisation, abstractOrdinary, concreteInitialisation, refining, convergent}
 use Rattle.sequent.specs.Entry.{written, primed, moves, natural, decreases, actionTree}
 use Rattle.sequent.specs.Sequent.{Meets, Valid, sequent, NAT, VAR}
 use Rattle.sequent.specs.Listed.{matching, refined, base, guarded, moved, witnessEntries, invHypotheses, sequents}

@@ -9,10 +9,9 @@ use Rattle.lists.proofs.All.{all-head, all-tail, all-join, all-imp}
 use Rattle.formula.specs.Values.{ValueType, Value, AnyValue, wrap, asValue}
 use Rattle.formula.specs.Evaluate.{Env, evaluate, readTree, True}
 use Rattle.formula.specs.WellDefined.{wellDefined}
-use Rattle.formula.proofs.Sort.{treeType}
+use Rattle.formula.proofs.Sort.{treeType, evaluate-type}
 use Rattle.formula.proofs.Values.{as-value-wrap, equal-value-eq, eq-equal-value}
 use Rattle.formula.proofs.WellDefined.{well-defined-reads, reads-total, reads-well-defined, true-reads, reads-true}
-use Rattle.formula.proofs.Sort.{evaluate-type}
 use Rattle.machine.specs.Machine.{Action, unassigned, becomesEqual, becomesSuchThat, Machine}
 use Rattle.sequent.specs.Entry.{Entry, written, actionTree}
 use Rattle.sequent.specs.Sequent.{Meets, Valid}

@@ -16,8 +16,7 @@ use Rattle.lists.proofs.Keep.{all-keep}
 use Rattle.machine.specs.Machine.{Role, Action, becomesEqual, becomesSuchThat, Witness, Machine}
 use Rattle.sequent.specs.Entry.{Entry, written, primed, defined, moves, feasible, witnessed, natural, decreases, variable}
 use Rattle.sequent.specs.Formed.{ActionRoot, WitnessFor}
-use Rattle.sequent.specs.Sequent.{Sequent}
-use Rattle.sequent.specs.Sequent.{sequent}
+use Rattle.sequent.specs.Sequent.{Sequent, sequent}
 use Rattle.sequent.specs.Listed.{sequents}
 use Rattle.sequent.specs.Required.{isInitialisation, isConcrete, MatchedBy, asWritten, axiomsInvariants, baseOf, ownVariables, ownInvariants}
 use Rattle.sequent.specs.Required.{baseGuards, movesOf, witnessesOf, Required, wd-formula, wd-variant, wd-guard, wd-action, fis, wd-witness, wfis}

@@ -26,8 +26,7 @@ use Rattle.sequent.specs.Listed.{inOrder, actionWD, actionFIS, matching,
 use Rattle.sequent.specs.Listed.{witnessSequents, grd, sim, inv, invHypotheses, variantSequents, eventSequents, sequents}
 use Rattle.sequent.specs.Required.{axiomsInvariants, isConcrete, ownVariables, ownInvariants, Required, SameHeader}
 use Rattle.sequent.specs.Order.{placeIn, isIn, group, actionRoots, actionRootsOf, refinedGuards, key, keyOf, Before}
-use Rattle.sequent.proofs.Exact.{in-one, inOrder-split, actionWD-root, actionFIS-such, refined-role}
-use Rattle.sequent.proofs.Exact.{listed-required, required-listed}
+use Rattle.sequent.proofs.Exact.{in-one, inOrder-split, actionWD-root, actionFIS-such, refined-role, listed-required, required-listed}
 use Rattle.sequent.proofs.Parts.{guardWDs, actionWDs, actionFISs, ofWitnesses, grds, sims, fromFISs, eventSequents-parts}
 use Rattle.sequent.proofs.Places.{places-rise, places-agree, isIn-member, isIn-other, variable-found}
 use Rattle.sequent.proofs.Blocks.{less-asymmetric, less-by, Block, blocks-apart, block-join, block-up, item-block, flat-block, map-block, one-block}

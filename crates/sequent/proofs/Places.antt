@@ -10,11 +10,10 @@ use lib.ListN.{length}
 use borrow.Author.Tests.{lt-ltb, le-ltb, eq-eqb, ne-eqb}
 use Rattle.lists.specs.Choice.{pick}
 use Rattle.lists.specs.All.{In, here, there}
-use Rattle.lists.proofs.Distinct.{Distinct}
+use Rattle.lists.proofs.Distinct.{Distinct, pairwise-head, pairwise-tail, pairwise-right, pairwise-across, pairwise-imp}
 use Rattle.lists.specs.Pairwise.{Pairwise, pairwise-nil, pairwise-cons}
 use Rattle.lists.proofs.Choice.{chosen, not-chosen}
 use Rattle.lists.proofs.All.{all-in, all-at, in-map, in-flat}
-use Rattle.lists.proofs.Distinct.{pairwise-head, pairwise-tail, pairwise-right, pairwise-across, pairwise-imp}
 use Rattle.machine.specs.Machine.{Action}
 use Rattle.sequent.specs.Order.{placeIn, isIn, actionRoots, variableOf}
 

@@ -13,8 +13,7 @@ use Rattle.machine.specs.Machine.{Role}
 use Rattle.machine.specs.Described.{sets, machineOf}
 use Rattle.sequent.specs.Entry.{Entry, written, primed, defined, moves, feasible, natural, decreases}
 use Rattle.sequent.specs.Sequent.{Sequent, sequent, WD, INV, FIS, GRD, SIM, NAT, VAR}
-use Rattle.sequent.specs.Listed.{allWritten, base, guarded, moved, witnessEntries, witnessSequents}
-use Rattle.sequent.specs.Listed.{parameterWitnesses, invHypotheses, formulas}
+use Rattle.sequent.specs.Listed.{allWritten, base, guarded, moved, witnessEntries, witnessSequents, parameterWitnesses, invHypotheses, formulas}
 
 -- how many groups 01's "Order" has
 abbrev pub groups : ℕ

@@ -14,8 +14,7 @@ use Rattle.machine.specs.Operator as meaning
 use Rattle.machine.specs.Operator.{Operator, literalOf, identifierOf, afterOf, constantOf, unaryOf, binaryOf, divisionOf, connectiveOf, operatorNumbered}
 use Rattle.machine.specs.Described.{node, treeTo, treeOf}
 use Rattle.machine.proofs.Described.{tree-step}
-use Rattle.rules.specs.Sorts.{shapeOf}
-use Rattle.rules.specs.Sorts.{shape, shapeOf}
+use Rattle.rules.specs.Sorts.{shapeOf, shape}
 use Rattle.reply.specs.Spelled.{spelled, binaryNumber, divisionNumber, connectiveNumber, spellTree}
 use Rattle.spell.specs.declared.Node.{Node}
 use Rattle.spell.specs.Spell.{divides, openingRows, guardRows, closingRows, nodeBy, nodeOf, shownRows, definedRows}

@@ -10,9 +10,8 @@ use native.Mathlib.Decide.{ℕ-discrete, decLt}
 use borrow.Author.Tests.{lt-ltb, le-ltb, eq-eqb, ne-eqb}
 use lib.Dec.{T, ltb, leb, eqb, ltb→lt, lt→ltb, leb→le, le→leb, eqb→eq, eqb-refl}
 use Rattle.lists.specs.All.{In}
-use Rattle.lists.proofs.Distinct.{Distinct}
+use Rattle.lists.proofs.Distinct.{Distinct, pairwise-keep, numbers-distinct}
 use Rattle.lists.specs.Below.{oneIf, numbers}
-use Rattle.lists.proofs.Distinct.{pairwise-keep, numbers-distinct}
 use Rattle.lists.proofs.Below.{count-boundary, count-at-most, count-sum, numbers-in, in-numbers, keep-in, in-keep}
 use Rattle.table.specs.Rows.{Rising, Rows, tagged, section, count, start, named, rowOf, numberIn}
 
