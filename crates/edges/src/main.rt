@@ -6,6 +6,7 @@ use libc::STDOUT_FILENO;
 use number::Number;
 use row::Place;
 use row::Read;
+use row::Row;
 ghost use Prim.Native.Nat.{_<_, _^_, _+_, _≤_};
 ghost use lib.ListN.{length};
 
@@ -75,7 +76,7 @@ fn line(bytes: &[u8], at: usize) {
     let place = Place { at };
     match place.read(bytes) {
         Read::Next(row, next) => {
-            let mut out = [63u8; 38];
+            let mut out = [63u8; Row::LENGTH];
             row.write(&mut out);
             text(&out);
             io::print_decimal(STDOUT_FILENO, next.at as u64);

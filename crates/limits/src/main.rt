@@ -6,9 +6,11 @@ use row::Place;
 use row::Read;
 use row::Row;
 use rules::Verdict;
+use table::Table;
 ghost use mathlib.Core.Path.{_≡_};
 ghost use Prim.Native.Nat.{_≤_, _<_, _^_, _*_, _+_};
 ghost use lib.ListN.{length};
+ghost use Rattle.row.specs.Row.{rowLength, width};
 
 // What is laid out: how many bytes, how often the next row stands, and what is added each time.
 struct Layout {
@@ -137,9 +139,11 @@ fn lay_out(row: Row, layout: Layout, table: &mut [u8]) -> Layout
 }
 
 fn read_row(lines: &[u8], i: usize) -> Row
-    requires { ⌜ 38 * i < 2 ^ 64 ⌝ }
+    requires { ⌜ rowLength width * i < 2 ^ 64 ⌝ }
 {
-    let place = Place { at: 38 * i };
+    let place = Place {
+        at: Row::LENGTH * i,
+    };
     match place.read(lines) {
         Read::Next(row, next) => row,
         _ => Row {
@@ -162,8 +166,8 @@ fn tables(lines: &[u8], table: &mut [u8]) {
 }
 
 fn main() {
-    let mut input = [0u8; 65536];
+    let mut input = [0u8; Table::BYTES];
     let got = io::read_full(STDIN_FILENO, &mut input);
-    let mut table = [0u8; 65550];
+    let mut table = [0u8; Row::LENGTH * (Table::ROWS + 1)];
     tables(&input[..got], &mut table);
 }
