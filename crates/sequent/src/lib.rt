@@ -1,4 +1,6 @@
 // 01, Sequents: the list of a table's sequents.
+pub mod form;
+pub mod kind;
 
 // "An entry has a form and two numbers."
 pub struct Entry {

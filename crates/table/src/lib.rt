@@ -1,4 +1,8 @@
 // 01, Rows: a table's rows as words, four a row (tag, a, b, c), and where its identifiers, nodes and events stand.
+pub mod event;
+pub mod identifier;
+pub mod tag;
+
 use row::Row;
 ghost use mathlib.Core.Path.{_≡_};
 ghost use Prim.Native.Nat.{_+_, _*_, _-_, _^_, _<_, _≤_};

@@ -1,0 +1,10 @@
+// 01, Rows: "machine: 1 abstract, 2 concrete; class: 0 initialisation, 1 ordinary, 2 convergent".
+pub const ABSTRACT: u64 = 1;
+
+pub const CONCRETE: u64 = 2;
+
+pub const INITIALISATION: u64 = 0;
+
+pub const ORDINARY: u64 = 1;
+
+pub const CONVERGENT: u64 = 2;
