@@ -1,6 +1,6 @@
 -- Laws of the counts, searches and lists over the numbers below a bound, each by recursion on the bound or on the list.
 use Prim.Native.Nat.{ℕ, zero, suc, _+_, _≤_, _<_}
-use mathlib.Core.Path.{_≡_, refl, ap, ap₂, sym, subst}
+use mathlib.Core.Path.{_≡_, refl, ap, sym, subst}
 use mathlib.Core.Bool.{Bool, true, false}
 use mathlib.Core.List.{List, [], _∷_}
 use mathlib.Core.Logic.{_⊎_, inl, inr, ⊎-elim}
@@ -62,11 +62,21 @@ module _ (P : ℕ → Bool) where
   count-all zero f = refl
   count-all (suc n) f = omega (arith, count-all n (λ i h. f i (omega arith)), one-where (P n) (f n (omega arith)))
 
-  -- where none passes, the count is 0
-  pub count-never : ((i : ℕ) → P i ≡ false) → (n : ℕ) → countBelow P n ≡ 0
+  -- where none passes from m on, the count stays
+  pub count-stays : (m n : ℕ) → m ≤ n → ((i : ℕ) → m ≤ i → i < n → P i ≡ false) → countBelow P m ≡ countBelow P n
   unfolding countBelow
-  count-never f zero = refl
-  count-never f (suc n) = ap₂ _+_ (count-never f n) (ap oneIf (f n))
+  count-stays m zero h f = let e : m ≡ 0 = omega arith in ap (countBelow P) e
+  count-stays m (suc n) h f =
+      ⊎-elim (λ (e : m ≡ suc n). ap (countBelow P) e)
+      (λ (l : m < suc n). omega (arith, count-stays m n (omega arith) (λ i g k. f i g (omega arith)), ap oneIf (f n (omega arith) (omega arith)))) (eq-or-lt-of-le h)
+
+  -- where none passes, it is 0
+  pub count-none-below : (n : ℕ) → ((i : ℕ) → i < n → P i ≡ false) → countBelow P n ≡ 0
+  unfolding countBelow
+  count-none-below n f = sym (count-stays 0 n (omega arith) (λ i g l. f i l))
+
+  pub count-never : ((i : ℕ) → P i ≡ false) → (n : ℕ) → countBelow P n ≡ 0
+  count-never f n = count-none-below n (λ i l. f i)
 
   -- P passes below whatever passes: below n, the numbers that pass are those below the count
   abbrev pub Downward : ℕ → Type 0

@@ -113,12 +113,6 @@ module _ {A B : Type 0} {R : B → B → Type 0} (f : A → List B) where
       pairwise-join (each x (here refl)) (pairwise-flat (λ y i. each y (there i)) hs)
       (λ a b i j. let (y, k, l) = in-unflat f xs j in all-at h k a b i l)
 
-  pub pairwise-unflat : (xs : List A) → Pairwise R (flatMap f xs) → Pairwise (λ x y. (a b : B) → In a (f x) → In b (f y) → R a b) xs
-  unfolding flatMap
-  pairwise-unflat [] h = pairwise-nil
-  pairwise-unflat (x ∷ xs) h =
-      pairwise-cons (all-in xs (λ y k a b i j. pairwise-across (f x) h i (in-flat f k j))) (pairwise-unflat xs (pairwise-right (f x) h))
-
 -- a function that is injective on the members keeps them distinct
 pub distinct-map : {A B : Type 0} (f : A → B) {xs : List A} → Distinct xs → ((x y : A) → In x xs → In y xs → f x ≡ f y → x ≡ y) → Distinct (map f xs)
 distinct-map f h injective = pairwise-map f (pairwise-imp h (λ x y i j different e. different (injective x y i j e)))

@@ -1,2 +1,3 @@
+pub mod Spans
 pub mod Tags
 pub mod Within

@@ -8,41 +8,43 @@ use native.Mathlib.Nat.{eq-or-lt-of-le}
 use native.Mathlib.Numerals.{add-one}
 use native.Mathlib.Decide.{decLt}
 use Rattle.lists.specs.Choice.{pick}
-use Rattle.lists.specs.Below.{first}
+use Rattle.lists.specs.Below.{first, countBelow}
 use Rattle.lists.proofs.Choice.{chosen, not-chosen}
+use Rattle.lists.proofs.Below.{count-stays, count-none-below}
 use Rattle.lists.proofs.First.{NoneBelow, first-least}
 use Rattle.scan.specs.declared.Span.{Span}
-use Rattle.scan.specs.Span.{pastLast, spanOf, Spans}
+use Rattle.scan.specs.Span.{spanOf, Spans}
+use Rattle.scan.specs.Spans.{spanTo}
 
 module _ (P : ℕ → Bool) where
-  pub past-none : (i : ℕ) → i ≡ 0 → 0 ≡ pastLast P i
-  unfolding pastLast
+  pub past-none : (i : ℕ) → i ≡ 0 → 0 ≡ spanTo P i
+  unfolding spanTo
   past-none zero e = refl
   past-none (suc i) e = absurd (omega arith)
 
-  pub past-here : (i k : ℕ) → i ≡ k + 1 → P k ≡ true → i ≡ pastLast P i
-  unfolding pastLast
-  past-here i k h e = (h ∙ add-one k) ∙ sym (chosen (P k) (suc k) (pastLast P k) e) ∙ ap (pastLast P) (sym (h ∙ add-one k))
+  pub past-here : (i k : ℕ) → i ≡ k + 1 → P k ≡ true → i ≡ spanTo P i
+  unfolding spanTo
+  past-here i k h e = (h ∙ add-one k) ∙ sym (chosen (P k) (suc k) (spanTo P k) e) ∙ ap (spanTo P) (sym (h ∙ add-one k))
 
-  pub past-next : (i k : ℕ) → i ≡ k + 1 → P k ≡ false → pastLast P k ≡ pastLast P i
-  unfolding pastLast
-  past-next i k h e = sym (not-chosen (P k) (suc k) (pastLast P k) e) ∙ ap (pastLast P) (sym (h ∙ add-one k))
+  pub past-next : (i k : ℕ) → i ≡ k + 1 → P k ≡ false → spanTo P k ≡ spanTo P i
+  unfolding spanTo
+  past-next i k h e = sym (not-chosen (P k) (suc k) (spanTo P k) e) ∙ ap (spanTo P) (sym (h ∙ add-one k))
 
-  past-at-most : (n : ℕ) → pastLast P n ≤ n
-  unfolding pastLast
+  pub past-at-most : (n : ℕ) → spanTo P n ≤ n
+  unfolding spanTo
   past-at-most zero = omega arith
   past-at-most (suc n) = go (P n) (past-at-most n)
     where
-      go : (b : Bool) → pastLast P n ≤ n → pick b (suc n) (pastLast P n) ≤ suc n
+      go : (b : Bool) → spanTo P n ≤ n → pick b (suc n) (spanTo P n) ≤ suc n
       go true h = omega arith
       go false h = omega arith
 
-  past-above : (n j : ℕ) → pastLast P n ≤ j → j < n → P j ≡ false
-  unfolding pastLast
+  pub past-above : (n j : ℕ) → spanTo P n ≤ j → j < n → P j ≡ false
+  unfolding spanTo
   past-above zero j h l = absurd (omega arith)
   past-above (suc n) j h l = go (P n) refl h (past-above n j)
     where
-      go : (b : Bool) → P n ≡ b → pick b (suc n) (pastLast P n) ≤ j → (pastLast P n ≤ j → j < n → P j ≡ false) → P j ≡ false
+      go : (b : Bool) → P n ≡ b → pick b (suc n) (spanTo P n) ≤ j → (spanTo P n ≤ j → j < n → P j ≡ false) → P j ≡ false
       go true e g above = absurd (omega arith)
       go false e g above = ⊎-elim (λ (q : j ≡ n). subst (λ x. P x ≡ false) (sym q) e) (λ (q : j < n). above g q) (eq-or-lt-of-le (omega arith))
 
@@ -64,3 +66,10 @@ module _ (P : ℕ → Bool) where
   -- the span of a test is one of every stricter test
   pub spans-stricter : (Q : ℕ → Bool) → ((j : ℕ) → P j ≡ false → Q j ≡ false) → {n : ℕ} {s : Span} → Spans P n s → Spans Q n s
   spans-stricter Q f h = record { within = h .within; below = λ j l. f j (h .below j l); above = λ j g l. f j (h .above j g l) }
+
+  -- none is counted before the span, and behind it the count stays
+  pub spans-count-from : {n : ℕ} {s : Span} → Spans P n s → countBelow P (s .from) ≡ 0
+  spans-count-from {s = s} h = count-none-below P (s .from) (h .below)
+
+  pub spans-count-to : {n : ℕ} {s : Span} → Spans P n s → countBelow P (s .to) ≡ countBelow P n
+  spans-count-to {n} {s} h = count-stays P (s .to) n (h .within) (h .above)

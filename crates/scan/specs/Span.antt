@@ -1,19 +1,14 @@
 -- Rows that pass a test by their tag stand together where 01's "tags never fall" holds; a later search among them starts and ends there.
-use Prim.Native.Nat.{ℕ, zero, suc, _≤_, _<_}
+use Prim.Native.Nat.{ℕ, _≤_, _<_}
 use mathlib.Core.Path.{_≡_}
-use mathlib.Core.Bool.{Bool, true, false}
-use Rattle.lists.specs.Choice.{pick}
+use mathlib.Core.Bool.{Bool, false}
 use Rattle.lists.specs.Below.{first}
 use Rattle.scan.specs.declared.Span.{Span}
-
--- one more than the last number below n that passes, or 0
-unfoldable pub pastLast : (ℕ → Bool) → ℕ → ℕ
-pastLast P zero = 0
-pastLast P (suc n) = pick (P n) (suc n) (pastLast P n)
+use Rattle.scan.specs.Spans.{spanTo}
 
 -- from the first to the last
 abbrev pub spanOf : (ℕ → Bool) → ℕ → Span
-spanOf P n = record { from = first P n 0; to = pastLast P n }
+spanOf P n = record { from = first P n 0; to = spanTo P n }
 
 -- no number below n passes but those of the span
 pub record Spans (P : ℕ → Bool) (n : ℕ) (s : Span) : Type 0 where

@@ -3,14 +3,19 @@ use table::a_at;
 use table::b_at;
 use table::one_if;
 use table::size;
+use table::tag;
 use table::tag_at;
 ghost use mathlib.Core.Path.{_≡_};
+ghost use Prim.Native.Nat.{ℕ, _+_, _^_, _≤_, _<_};
+ghost use lib.ListN.{length, getD};
+ghost use Rattle.table.specs.Names.{variantTag};
 ghost use Rattle.lists.specs.Below.{countBelow, someBelow, first};
 ghost use Rattle.table.specs.Rows.{rowsOf};
 ghost use Rattle.lists.specs.Choice.{pick};
 ghost use lib.Dec.{eqb};
 ghost use Rattle.scan.specs.Query.{holds, lowestTag, highestTag, passesOf};
-ghost use Rattle.scan.specs.Span.{pastLast, spanOf, Spans};
+ghost use Rattle.scan.specs.Span.{spanOf, Spans};
+ghost use Rattle.scan.specs.Spans.{spanTo, spanWords, tagSpan, Spanned, SpannedTo, noted};
 
 // A test of a row, with the numbers that it compares the row's with.
 pub enum Query {
@@ -144,9 +149,86 @@ pub struct Span {
     pub to: usize,
 }
 
+impl Span {
+    // How many numbers the spans of all tags take: those of the tag k, up to the highest, stand at 2 × k and 2 × k + 1.
+    pub const WORDS: usize = 142;
+}
+
+// One pass over the rows finds the spans of all tags, in every table, sorted or not.
+
+// Sets all numbers to 0.
+fn clear(spans: &mut [usize])
+    ensures { λ _. ⌜ (length (now (spans .exit)) ≡ length (now (spans .entry))) × ((k : ℕ) → getD (now (spans .exit)) k 0 ≡ 0) ⌝ }
+{
+    let mut k = 0;
+    while k < spans.len() {
+        spans[k] = 0;
+        k += 1;
+    }
+}
+
+// Where a span starts with row i: there if it ends at 0, so that it has no row yet.
+fn started(from: usize, to: usize, i: usize) -> usize
+    ensures { λ r. ⌜ r ≡ pick (eqb to 0) i from ⌝ }
+{
+    if to == 0 { i } else { from }
+}
+
+// Notes that row i has a tag.
+fn note(spans: &mut [usize], tag: u64, i: usize)
+    requires { ⌜ (length (now spans) ≡ spanWords) × (tag ≤ variantTag) × (i < 2 ^ 63) ⌝ }
+    ensures { λ _. ⌜ now (spans .exit) ≡ noted (now (spans .entry)) tag i ⌝ }
+{
+    let from = 2 * tag as usize;
+    let to = from + 1;
+    spans[from] = started(spans[from], spans[to], i);
+    spans[to] = i + 1;
+}
+
+// Notes the tag of row i; a 52 is also one of the actions, under 51.
+fn note_row(words: &[u64], spans: &mut [usize], i: usize)
+    requires { ⌜ SpannedTo (rowsOf (now words)) i (now spans) × (i < 2 ^ 63) ⌝ }
+    ensures { λ _. ⌜ SpannedTo (rowsOf (now (words .entry))) (i + 1) (now (spans .exit)) ⌝ }
+{
+    let tag = tag_at(words, i);
+    if tag::VARIANT < tag {
+        return;
+    }
+    note(spans, tag, i);
+    if tag == tag::BECOMES_SUCH {
+        note(spans, tag::BECOMES_EQUAL, i);
+    }
+}
+
+// Fills the spans of a table's rows.
+pub fn fill_spans(words: &[u64], spans: &mut [usize])
+    requires { ⌜ length (now spans) ≡ spanWords ⌝ }
+    ensures { λ _. ⌜ Spanned (rowsOf (now (words .entry))) (now (spans .exit)) ⌝ }
+{
+    clear(spans);
+    let rows = size(words);
+    let mut i = 0;
+    while i < rows {
+        note_row(words, spans, i);
+        i += 1;
+    }
+}
+
+// The rows between which those of a tag stand; of 51, those of 51 and 52.
+pub fn span_at(words: &[u64], spans: &[usize], tag: u64) -> Span
+    requires { ⌜ (tag ≤ variantTag) × Spanned (rowsOf (now words)) (now spans) ⌝ }
+    ensures { λ r. ⌜ r ≡ tagSpan (rowsOf (now (words .entry))) tag ⌝ }
+{
+    let at = 2 * tag as usize;
+    Span {
+        from: spans[at],
+        to: spans[at + 1],
+    }
+}
+
 // One more than the last row that passes, or 0.
 fn past_last(words: &[u64], query: Query) -> usize
-    ensures { λ r. ⌜ r ≡ pastLast (passesOf (rowsOf (now (words .entry))) query) (rowsOf (now (words .entry)) .size) ⌝ }
+    ensures { λ r. ⌜ r ≡ spanTo (passesOf (rowsOf (now (words .entry))) query) (rowsOf (now (words .entry)) .size) ⌝ }
 {
     let mut i = size(words);
     while 0 < i {

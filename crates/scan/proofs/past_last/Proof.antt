@@ -4,14 +4,14 @@ use mathlib.Core.Path.{_≡_, ap, sym, _∙_}
 use native.Mathlib.Omega.{arith}
 use Rattle.table.specs.Rows.{rowsOf}
 use Rattle.scan.specs.Query.{passesOf}
-use Rattle.scan.specs.Span.{pastLast}
+use Rattle.scan.specs.Spans.{spanTo}
 use Rattle.scan.proofs.Within.{past-none, past-here, past-next}
 use borrow.Author.Needs.{needs}
 use Rattle.scan.proofs.past_last.Statement.{statement}
 use Rattle.scan.proofs.past_last.Tie as tie
 
 abbrev Inv-loop : tie.InvT-loop
-Inv-loop words query i₀ i = pastLast (passesOf (rowsOf words) query) i ≡ pastLast (passesOf (rowsOf words) query) (rowsOf words .size)
+Inv-loop words query i₀ i = spanTo (passesOf (rowsOf words) query) i ≡ spanTo (passesOf (rowsOf words) query) (rowsOf words .size)
 
 abbrev μ-loop : tie.MeasureT-loop
 μ-loop words query i₀ i = i
@@ -21,7 +21,7 @@ past-last-spec = tie.close (tie.spec
     Inv-loop
     μ-loop
     (λ c κs. search needs)
-    (λ c. ap (pastLast (passesOf (rowsOf (c .before .before .args .words .now)) (c .before .before .args .query))) (c .size .ensures))
+    (λ c. ap (spanTo (passesOf (rowsOf (c .before .before .args .words .now)) (c .before .before .args .query))) (c .size .ensures))
     (λ c. search needs)
     (λ c κs. search needs)
     (λ c κs. search needs)

@@ -1,0 +1,47 @@
+-- Rows that pass a test by their tag stand together where 01's "tags never fall" holds; one pass finds between which rows each tag stands, in every table.
+use Prim.Native.Nat.{ℕ, zero, suc, _+_, _*_, _≤_}
+use mathlib.Core.Path.{_≡_}
+use mathlib.Core.Bool.{Bool, _&&_}
+use mathlib.Core.List.{List}
+use lib.Dec.{eqb}
+use lib.ListN.{length, getD, set}
+use Rattle.lists.specs.Choice.{pick}
+use Rattle.table.specs.Names.{becomesEqualTag, variantTag}
+use Rattle.table.specs.Rows.{Rows, tagged, isAction}
+use Rattle.scan.specs.declared.Span.{Span}
+
+-- one more than the last number below n that passes, or 0
+unfoldable pub spanTo : (ℕ → Bool) → ℕ → ℕ
+spanTo P zero = 0
+spanTo P (suc n) = pick (P n) (suc n) (spanTo P n)
+
+-- the first number below n that passes, or 0
+unfoldable pub spanFrom : (ℕ → Bool) → ℕ → ℕ
+spanFrom P zero = 0
+spanFrom P (suc n) = pick (P n && eqb (spanTo P n) 0) n (spanFrom P n)
+
+-- the rows of a tag; 51 stands for 51 and 52, the actions: "128 together"
+abbrev pub ofTag : Rows → ℕ → ℕ → Bool
+ofTag t k i = pick (eqb k becomesEqualTag) (isAction t i) (tagged t k i)
+
+-- the rows between which those of a tag stand
+abbrev pub tagSpan : Rows → ℕ → Span
+tagSpan t k = record { from = spanFrom (ofTag t k) (t .size); to = spanTo (ofTag t k) (t .size) }
+
+-- two numbers for each tag up to the highest
+abbrev pub spanWords : ℕ
+spanWords = 142
+
+-- a list holds the spans of all tags among the first n rows: from and to of the tag k at 2 × k and 2 × k + 1
+pub record SpannedTo (t : Rows) (n : ℕ) (spans : List ℕ) : Type 0 where
+  pub size : length spans ≡ spanWords
+  pub starts : (k : ℕ) → k ≤ variantTag → getD spans (2 * k) 0 ≡ spanFrom (ofTag t k) n
+  pub ends : (k : ℕ) → k ≤ variantTag → getD spans (2 * k + 1) 0 ≡ spanTo (ofTag t k) n
+
+-- among all rows
+abbrev pub Spanned : Rows → List ℕ → Type 0
+Spanned t spans = SpannedTo t (t .size) spans
+
+-- with the row i of a tag: from where the tag's span starts at it, and to
+abbrev pub noted : List ℕ → ℕ → ℕ → List ℕ
+noted spans k i = set (set spans (2 * k) (pick (eqb (getD spans (2 * k + 1) 0) 0) i (getD spans (2 * k) 0))) (2 * k + 1) (i + 1)
