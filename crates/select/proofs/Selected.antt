@@ -1,0 +1,80 @@
+-- Rows outside the span of a selection are none of it: by cases on the selection, from the law of a tag's span.
+use Prim.Native.Nat.{ℕ, _+_, _≤_, _<_}
+use mathlib.Core.Path.{_≡_, refl, sym, ap, _∙_}
+use mathlib.Core.Bool.{Bool, true, false, not, _&&_, _||_, true≢false}
+use native.Mathlib.Omega.{arith}
+use lib.Dec.{ltb, leb, eqb}
+use borrow.Author.Tests.{ltb-true, le-ltb, eqb-true}
+use Rattle.lists.specs.Choice.{pick}
+use Rattle.lists.proofs.Below.{count-at-most}
+use Rattle.table.specs.Names.{becomesEqualTag, witnessTag, variantTag}
+use Rattle.table.specs.Rows.{Rows, tagged, count, isAction}
+use Rattle.table.specs.Lookups.{isVariableNumber}
+use Rattle.scan.specs.declared.Query.the-variants.{Assigns}
+use Rattle.scan.specs.Query.{passesOf}
+use Rattle.scan.specs.Span.{Spans}
+use Rattle.scan.specs.Spans.{ofTag, tagSpan}
+use Rattle.scan.proofs.Spans.{tag-stricter}
+use Rattle.select.specs.declared.Selection.{Selection}
+use Rattle.select.specs.declared.Selection.the-variants.{None, Tagged, OfEvent, ForParameters, Identifiers, Assigned, SuchThat}
+use Rattle.select.specs.Selection.{between, rowOfEvent, identifierAt, selects, sectionSpan, selectedSpan}
+
+left-true : (p q : Bool) → p && q ≡ true → p ≡ true
+left-true true q e = refl
+left-true false q e = e
+
+left-false : (p q : Bool) → p ≡ false → p && q ≡ false
+left-false p q e = ap (λ b. b && q) e
+
+right-false : (p q : Bool) → q ≡ false → p && q ≡ false
+right-false true q e = e
+right-false false q e = refl
+
+module _ (t : Rows) where
+  -- a row that stands for an identifier is one of the table
+  pub identifier-within : (kind j : ℕ) → identifierAt t kind j ≡ true → j < t .size
+  unfolding count
+  identifier-within kind j e = omega (arith, ltb-true j (count t 10) (left-true (ltb j (count t 10)) _ e), count-at-most (tagged t 10) (t .size))
+
+  -- the rows of a tag
+  no-tag : (k j : ℕ) → ofTag t k j ≡ false → tagged t k j ≡ false
+  no-tag k j e = go (eqb k becomesEqualTag) refl e
+    where
+      either : (p q : Bool) → p || q ≡ false → p ≡ false
+      either true q e = e
+      either false q e = refl
+
+      go : (b : Bool) → eqb k becomesEqualTag ≡ b → pick b (isAction t j) (tagged t k j) ≡ false → tagged t k j ≡ false
+      go true q e = ap (eqb (t .tag j)) (eqb-true k becomesEqualTag q) ∙ either (tagged t 51 j) (tagged t 52 j) e
+      go false q e = e
+
+  section-spans : (k : ℕ) (Q : ℕ → Bool) → ((j : ℕ) → tagged t k j ≡ false → Q j ≡ false) → Spans Q (t .size) (sectionSpan t k)
+  section-spans k Q f = go (leb k variantTag)
+    where
+      go : (b : Bool) → Spans Q (t .size) (pick b (tagSpan t k) (between 0 (t .size)))
+      go true = tag-stricter t k Q (λ j e. f j (no-tag k j e))
+      go false = record { within = omega arith; below = λ j l. absurd (omega arith); above = λ j l h. absurd (omega arith) }
+
+  identifier-spans : (Q : ℕ → Bool) → ((j : ℕ) → ltb j (count t 10) ≡ false → Q j ≡ false) → Spans Q (t .size) (between 0 (count t 10))
+  unfolding count
+  identifier-spans Q f = record {
+    within = count-at-most (tagged t 10) (t .size);
+    below = λ j l. absurd (omega arith);
+    above = λ j l h. f j (le-ltb j _ l);
+  }
+
+  kind-none : (kind j : ℕ) → ltb j (count t 10) ≡ false → identifierAt t kind j ≡ false
+  kind-none kind j e = left-false (ltb j (count t 10)) _ e
+
+  pub selected-spans : (s : Selection) → Spans (selects t s) (t .size) (selectedSpan t s)
+  selected-spans None = record { within = omega arith; below = λ j l. refl; above = λ j l h. refl }
+  selected-spans (Tagged k) = section-spans k _ (λ j e. e)
+  selected-spans (OfEvent k e) = section-spans k _ (λ j p. left-false (tagged t k j) (eqb (t .a j) e) p)
+  selected-spans (ForParameters e) = section-spans witnessTag _ (λ j p. right-false (not (isVariableNumber t (t .b j))) (rowOfEvent t witnessTag e j) (left-false (tagged t witnessTag j) (eqb (t .a j) e) p))
+  selected-spans (Identifiers kind) = identifier-spans _ (kind-none kind)
+  selected-spans (Assigned kind e) = identifier-spans _ (λ j p. left-false (identifierAt t kind j) _ (kind-none kind j p))
+  selected-spans (SuchThat kind e) = identifier-spans _ (λ j p. left-false (identifierAt t kind j) _ (kind-none kind j p))
+
+  -- the actions of an event for a variable stand in the span of all actions
+  pub assigns-spans : (e x : ℕ) → Spans (passesOf t (Assigns e x)) (t .size) (tagSpan t becomesEqualTag)
+  assigns-spans e x = tag-stricter t becomesEqualTag (passesOf t (Assigns e x)) (λ j p. left-false (isAction t j) (eqb (t .a j) e && eqb (t .b j) x) p)
