@@ -1,3 +1,4 @@
 pub mod Seek
+pub mod Segments
 pub mod Tables
 pub mod Written

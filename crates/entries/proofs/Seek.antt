@@ -1,135 +1,167 @@
--- A step of the walk loses no entry and comes nearer to the end; so the walk from a place comes to the entry that is sought, or to the end where there are fewer.
-use Prim.Native.Nat.{ℕ, suc, _+_, _-_, _*_, _≤_, _<_}
+-- Where the k-th hypothesis of a slot comes from: `hypothesesTo` is how many stand before a row of a segment. A step of the walk, over the rows of a segment and then
+-- to the next, loses none; so the walk from a place comes to the hypothesis that is sought, or to the end where there are fewer.
+use Prim.Native.Nat.{ℕ, _+_, _-_, _*_, _≤_, _<_}
 use mathlib.Core.Path.{_≡_, refl, sym, ap, ap₂, subst, _∙_}
-use mathlib.Core.Bool.{Bool, true, false, true≢false, _&&_}
+use mathlib.Core.Bool.{Bool, true, false}
+use mathlib.Core.List.{List, map}
 use native.Mathlib.Omega.{arith}
-use native.Mathlib.Nat.{suc-mul}
+use native.Mathlib.Numerals.{add-one}
 use lib.Dec.{ltb, eqb}
-use lib.ListN.{getD, List·getD-eq-default}
-use borrow.Author.Tests.{ltb-true, ltb-false, eqb-true, eqb-false}
+use lib.ListN.{length, getD, length-map, List·getD-eq-default}
+use borrow.Author.Tests.{ltb-true, ltb-false}
 use Rattle.lists.specs.Choice.{pick}
-use Rattle.lists.specs.Below.{oneIf}
+use Rattle.lists.specs.All.{All, all-nil, all-cons}
+use Rattle.lists.specs.Below.{countBelow, numbers, keep}
+use Rattle.lists.specs.Sum.{sumBelow}
+use Rattle.lists.proofs.All.{all-at}
+use Rattle.lists.proofs.Below.{numbers-in, count-at-most, count-passes}
+use Rattle.lists.proofs.Flat.{keep-length, flat-length, sum-same, sum-at-most, sum-reaches, flat-at, kept-at}
 use Rattle.table.specs.Rows.{Rows}
 use Rattle.sequent.specs.Entry.{Entry}
-use Rattle.sequent.specs.Segments.{segments, segmentTest, segmentEntry, entryWalk, entriesTo}
-use Rattle.sequent.proofs.Seek.{entries-start, entries-row, entries-segment, entries-reach, entries-end, entry-at}
+use Rattle.select.specs.declared.Sought.{Sought}
+use Rattle.select.specs.declared.Selection.the-variants.{None}
+use Rattle.select.specs.Sought.{Passed}
+use Rattle.walk.specs.declared.Slot.{Slot}
+use Rattle.walk.specs.declared.Item.the-variants.{A}
 use Rattle.entries.specs.declared.Cursor.{Cursor}
-use Rattle.entries.specs.Seek.{cursorAt, nextCursor, Stands, entriesBefore, SoughtEntry}
+use Rattle.entries.specs.declared.Segment.{Segment}
+use Rattle.entries.specs.Segments.{segments, segmentOf, segmentTable, segmentAt, inSegment, segmentEntry, segment, hypothesisWalk, goalAt, segmentCount, hypothesesTo, hypothesisCount}
+use Rattle.entries.specs.Seek.{cursorAt, Stands, hypothesesBefore, OnEntry, SoughtEntry, entryAt}
 
--- a row has its entry passed where there is one left to pass, and is the one sought where there is none
-pub one-left : (b : Bool) (n : ℕ) → b && eqb n 0 ≡ false → oneIf b ≤ n
-one-left true n p = omega (arith, eqb-false n 0 p)
-one-left false n p = omega arith
+-- the row and what is left, as a walk over rows has them
+abbrev pub soughtIn : Cursor → Sought
+soughtIn c = record { row = c .row; left = c .left }
 
-pub on-entry : (b : Bool) (n : ℕ) → b && eqb n 0 ≡ true → (b ≡ true) × (n ≡ 0)
-on-entry true n p = (refl, eqb-true n 0 p)
-on-entry false n p = absurd (true≢false (sym p))
+module _ (t : Rows) (s : Slot) where
+  abbrev pub end : ℕ → ℕ
+  end k = segmentAt t s k .before
 
--- how many rows of segments lie ahead
-abbrev pub ahead : Rows → Cursor → ℕ
-ahead t c = (segments - c .segment) * t .size - c .row
+  -- from the start, and past the last row of a segment to the next
+  pub hypotheses-start : hypothesesTo t s 0 0 ≡ 0
+  unfolding hypothesesTo sumBelow countBelow
+  hypotheses-start = refl
 
--- the first place of a table with rows, and a place with its own entry to pass
-pub start-stands : {t : Rows} {from : Cursor} {left : ℕ} → from ≡ cursorAt 0 0 left → 0 < t .size → Stands t from
-start-stands {t} p h = subst (Stands t) (sym p) (record { segment = omega arith; row = h; ended = λ q. refl })
+  pub hypotheses-segment : (k : ℕ) → hypothesesTo t s (k + 1) 0 ≡ hypothesesTo t s k (end k)
+  unfolding hypothesesTo sumBelow countBelow
+  hypotheses-segment k = rw (add-one k) (omega arith)
 
-pub passing-stands : {t : Rows} {from c : Cursor} → from ≡ cursorAt (c .segment) (c .row) 1 → Stands t c → Stands t from
-passing-stands {t} p st = subst (Stands t) (sym p) (record { segment = st .segment; row = st .row; ended = st .ended })
-
-module _ (t : Rows) (e g i : ℕ) where
-  pub record Step (c n : Cursor) : Type 0 where
-    pub stands : Stands t n
-    pub same : entriesBefore t e g i n + n .left ≡ entriesBefore t e g i c + c .left
-    pub nearer : ahead t n < ahead t c
-
-  pub step : (c : Cursor) (b : Bool) → Stands t c → c .segment < segments → b ≡ segmentTest t e g i (c .segment) (c .row) → oneIf b ≤ c .left
-      → Step c (nextCursor c b (t .size))
-  step c b st hs p l = go (ltb (c .row + 1) (t .size)) refl
+  -- a segment's rows are the table's, so that there are at most as many hypotheses as segments and rows
+  pub end-within : s .row < t .size → (k : ℕ) → end k ≤ t .size
+  unfolding segmentAt numbers
+  end-within h k = by-number (ltb k segments) refl
     where
-      s : ℕ
-      s = c .segment
+      own : (b : Bool) → pick b (s .row) (t .size) ≤ t .size
+      own true = omega arith
+      own false = omega arith
 
-      k : ℕ
-      k = segments - (s + 1)
+      all : All (λ k. segmentAt t s k .before ≤ t .size) (numbers segments 0)
+      all = all-cons (own (eqb (s .group) 0)) (all-cons (own (eqb (s .group) 1)) (all-cons (own (eqb (s .group) 2)) (all-cons (own (eqb (s .group) 4)) (all-cons (own false) (all-cons (own false) (all-cons (own false) all-nil))))))
 
-      row : entriesTo t e g i s (c .row + 1) ≡ entriesTo t e g i s (c .row) + oneIf b
-      row = entries-row t e g i s (c .row) ∙ ap (λ b. entriesTo t e g i s (c .row) + oneIf b) (sym p)
+      by-number : (b : Bool) → ltb k segments ≡ b → segmentAt t s k .before ≤ t .size
+      by-number true p = all-at all (numbers-in segments 0 k (omega arith) (omega (arith, ltb-true k segments p)))
+      by-number false p =
+          let none : segmentAt t s k .before ≡ 0 = ap (λ r. r .before) (List·getD-eq-default (segmentTable t s) (segmentOf None 0 1 A) (ltb-false k segments p)) in
+          omega (arith, none)
 
-      whole : ahead t c ≡ k * t .size + t .size - c .row
-      whole = let q : segments - s ≡ suc k = omega arith in ap (λ n. n * t .size - c .row) q ∙ ap (λ n. n - c .row) (suc-mul k (t .size))
+  pub at-most : s .row < t .size → hypothesisCount t s ≤ 7 * t .size
+  unfolding hypothesesTo countBelow
+  at-most h = omega (arith, sum-at-most (segmentCount t s) (t .size) (λ k. omega (arith, count-at-most (inSegment t s k) (end k), end-within h k)) segments)
 
-      go : (x : Bool) → ltb (c .row + 1) (t .size) ≡ x → Step c (pick x (cursorAt s (c .row + 1) (c .left - oneIf b)) (cursorAt (s + 1) 0 (c .left - oneIf b)))
-      go true q = record {
-        stands = record { segment = st .segment; row = ltb-true (c .row + 1) (t .size) q; ended = λ r. absurd (omega arith) };
-        same = omega (arith, row);
-        nearer =
-            let n : ahead t (cursorAt s (c .row + 1) (c .left - oneIf b)) ≡ k * t .size + t .size - (c .row + 1) =
-            (let q : segments - s ≡ suc k = omega arith in ap (λ n. n * t .size - (c .row + 1)) q ∙ ap (λ n. n - (c .row + 1)) (suc-mul k (t .size))) in
-            omega (arith, whole, n, st .row);
-      }
-      go false q =
-          let last : c .row + 1 ≡ t .size = omega (arith, ltb-false (c .row + 1) (t .size) q, st .row) in
-          record {
-            stands = record { segment = omega arith; row = omega (arith, st .row); ended = λ r. refl };
-            same = omega (arith, row, entries-segment t e g i s, ap (entriesTo t e g i s) last);
-            nearer = omega (arith, whole, st .row);
-          }
+  segment-length : (k : ℕ) → length (segment t s k) ≡ segmentCount t s k
+  segment-length k = length-map (keep (inSegment t s k) (numbers (end k) 0)) (segmentEntry t s k) ∙ keep-length (inSegment t s k) (end k)
 
-  -- as the loop goes: the row is not the one sought
-  pub stepped : (c n : Cursor) (b : Bool) (rows : ℕ) → Stands t c → c .segment < segments → b ≡ segmentTest t e g i (c .segment) (c .row)
-      → b && eqb (c .left) 0 ≡ false → rows ≡ t .size → n ≡ nextCursor c b rows → Step c n
-  stepped c n b rows st hs p q r o = subst (Step c) (sym (o ∙ ap (nextCursor c b) r)) (step c b st hs p (one-left b (c .left) q))
+  pub walk-length : length (hypothesisWalk t s) ≡ hypothesisCount t s
+  unfolding hypothesisWalk hypothesesTo countBelow
+  walk-length = flat-length (segment t s) segments ∙ sum-same _ (segmentCount t s) segments segment-length ∙ omega arith
 
--- what a walk from the start comes to, with k entries to pass
-module _ {t : Rows} {e g i k : ℕ} {from r : Cursor} (f : from ≡ cursorAt 0 0 k) (so : SoughtEntry t e g i from r) where
-  at-place : entriesBefore t e g i r + r .left ≡ k
-  at-place = so .passed ∙ ap (λ c. entriesBefore t e g i c + c .left) f ∙ ap (λ n. n + k) (entries-start t e g i) ∙ omega arith
+  -- a row that passes holds the hypothesis behind those that stand before it
+  module _ (k j : ℕ) (hk : k < segments) (hj : j < end k) (p : inSegment t s k j ≡ true) where
+    inside : countBelow (inSegment t s k) j < segmentCount t s k
+    inside = count-passes (inSegment t s k) (end k) j hj p
 
-  pub at-end : r .segment ≡ segments → entriesTo t e g i segments 0 + r .left ≡ k
-  at-end p = ap₂ (λ s j. entriesTo t e g i s j + r .left) (sym p) (sym (so .stands .ended p)) ∙ at-place
+    pub reached : hypothesesTo t s k j < hypothesisCount t s
+    unfolding hypothesesTo
+    reached = omega (arith, inside, sum-reaches (segmentCount t s) segments k hk)
 
-  pub at-entry : r .segment < segments → (segmentTest t e g i (r .segment) (r .row) ≡ true) × (entriesBefore t e g i r ≡ k)
-  at-entry h = let o = so .found h in (o .0, omega (arith, at-place, o .1))
+    pub held : (d : Entry) → getD (hypothesisWalk t s) (hypothesesTo t s k j) d ≡ segmentEntry t s k j
+    unfolding hypothesisWalk hypothesesTo
+    held d =
+        flat-at (segment t s) (segmentCount t s) segment-length segments k (countBelow (inSegment t s k) j) d hk inside
+        ∙ kept-at (inSegment t s k) (segmentEntry t s k) (end k) j d hj p
 
-  -- no entry has as many before it as there are
-  pub counted : entriesTo t e g i segments 0 ≤ k → entriesTo t e g i segments 0 + r .left ≡ k
+  -- a walk over the rows of a segment
+  module _ {c : Cursor} {r : Sought} (st : Stands t s c) (h : c .segment < segments) (p : Passed (inSegment t s (c .segment)) 1 (end (c .segment)) (soughtIn c) r) where
+    pub passed-same : hypothesesTo t s (c .segment) (r .row) + r .left ≡ hypothesesBefore t s c + c .left
+    unfolding hypothesesTo
+    passed-same = omega (arith, p .place)
+
+    pub passed-found : {n : Cursor} → r .row < end (c .segment) → n ≡ cursorAt (c .segment) (r .row) (r .left) → Stands t s n × OnEntry t s n
+    passed-found l q = subst (λ n. Stands t s n × OnEntry t s n) (sym q)
+        (record { segment = st .segment; row = p .within }, record { row = l; passes = p .found l .0; left = omega (arith, p .found l .1) })
+
+    pub passed-next : {n : Cursor} → end (c .segment) ≤ r .row → n ≡ cursorAt (c .segment + 1) 0 (r .left)
+        → Stands t s n × (hypothesesBefore t s n + n .left ≡ hypothesesBefore t s c + c .left)
+    passed-next l q =
+        let last : end (c .segment) ≡ r .row = omega (arith, p .within) in
+        subst (λ n. Stands t s n × (hypothesesBefore t s n + n .left ≡ hypothesesBefore t s c + c .left)) (sym q) (
+          record { segment = omega arith; row = omega arith },
+          ap (λ m. m + r .left) (hypotheses-segment (c .segment) ∙ ap (hypothesesTo t s (c .segment)) last) ∙ passed-same,
+        )
+
+  -- the first place, and a place with its own hypothesis to pass
+  pub start-stands : {from : Cursor} {left : ℕ} → from ≡ cursorAt 0 0 left → Stands t s from
+  start-stands p = subst (Stands t s) (sym p) (record { segment = omega arith; row = omega arith })
+
+  pub passing-stands : {from c : Cursor} → from ≡ cursorAt (c .segment) (c .row) 1 → Stands t s c → Stands t s from
+  passing-stands p st = subst (Stands t s) (sym p) (record { segment = st .segment; row = st .row })
+
+  -- the end has all hypotheses before it
+  pub all-before : {c : Cursor} → Stands t s c → segments ≤ c .segment → hypothesesBefore t s c ≡ hypothesisCount t s
+  unfolding segmentAt
+  all-before {c} st h =
+      let p : c .segment ≡ segments = omega (arith, st .segment) in
+      let q : c .row ≡ 0 = omega (arith, st .row, ap (λ k. end k) p) in
+      ap₂ (hypothesesTo t s) p q
+
+-- what a walk from the start comes to, with k hypotheses to pass
+module _ {t : Rows} {s : Slot} {k : ℕ} {from r : Cursor} (f : from ≡ cursorAt 0 0 k) (so : SoughtEntry t s from r) where
+  at-place : hypothesesBefore t s r + r .left ≡ k
+  at-place = so .passed ∙ ap (λ c. hypothesesBefore t s c + c .left) f ∙ ap (λ n. n + k) (hypotheses-start t s) ∙ omega arith
+
+  -- none stands behind as many as there are
+  pub counted : hypothesisCount t s ≤ k → hypothesisCount t s + r .left ≡ k
   counted most = go (ltb (r .segment) segments) refl
     where
-      go : (b : Bool) → ltb (r .segment) segments ≡ b → entriesTo t e g i segments 0 + r .left ≡ k
+      go : (b : Bool) → ltb (r .segment) segments ≡ b → hypothesisCount t s + r .left ≡ k
       go true q =
           let h = ltb-true (r .segment) segments q in
-          let o = at-entry h in
-          absurd (omega (arith, o .1, entries-reach t e g i (r .segment) (r .row) h (so .stands .row) (o .0)))
-      go false q = at-end (omega (arith, ltb-false (r .segment) segments q, so .stands .segment))
+          let o = so .found h in
+          absurd (omega (arith, at-place, o .left, reached t s (r .segment) (r .row) h (o .row) (o .passes)))
+      go false q = omega (arith, at-place, all-before t s (so .stands) (ltb-false (r .segment) segments q))
 
-  pub entry-found : (w : ℕ) (d : Entry) → (r .segment ≡ segments → ⊥) → getD (entryWalk t e g i w) k d ≡ segmentEntry t e g i w (r .segment) (r .row)
-  entry-found w d n =
-      let h : r .segment < segments = omega (arith, so .stands .segment) in
-      let o = at-entry h in
-      ap (λ k. getD (entryWalk t e g i w) k d) (sym (o .1)) ∙ entry-at t e g i (r .segment) (r .row) h (so .stands .row) (o .0) w d
+  pub hypothesis-found : r .segment < segments → entryAt t s k ≡ segmentEntry t s (r .segment) (r .row)
+  hypothesis-found h =
+      let o = so .found h in
+      let p : hypothesesBefore t s r ≡ k = omega (arith, at-place, o .left) in
+      ap (entryAt t s) (sym p) ∙ held t s (r .segment) (r .row) h (o .row) (o .passes) (goalAt t s)
 
-  pub entry-none : (w : ℕ) (d : Entry) → r .segment ≡ segments → getD (entryWalk t e g i w) k d ≡ d
-  entry-none w d p = List·getD-eq-default (entryWalk t e g i w) d (omega (arith, at-end p, entries-end t e g i w))
+  pub goal-found : segments ≤ r .segment → entryAt t s k ≡ goalAt t s
+  goal-found h =
+      List·getD-eq-default (hypothesisWalk t s) (goalAt t s) (omega (arith, at-place, all-before t s (so .stands) h, walk-length t s))
 
--- a walk from the start with none to pass: no entry stands before the place that it comes to
-pub none-before : {t : Rows} {e g i : ℕ} {from r : Cursor} → from ≡ cursorAt 0 0 0 → SoughtEntry t e g i from r → entriesBefore t e g i r ≡ 0
+-- a walk from the start with none to pass: none stands before the place that it comes to
+pub none-before : {t : Rows} {s : Slot} {from r : Cursor} → from ≡ cursorAt 0 0 0 → SoughtEntry t s from r → hypothesesBefore t s r ≡ 0
 none-before f so = omega (arith, at-place f so)
 
--- a walk on from an entry, past it: there is one entry more before the place that it comes to
-pub one-more : {t : Rows} {e g i : ℕ} {c from n : Cursor} → Stands t c → c .segment < segments → segmentTest t e g i (c .segment) (c .row) ≡ true
-    → from ≡ cursorAt (c .segment) (c .row) 1 → SoughtEntry t e g i from n → entriesBefore t e g i n ≡ entriesBefore t e g i c + 1
-one-more {t} {e} {g} {i} {c} {from} {n} st h p f so = go (ltb (n .segment) segments) refl
+-- a walk on from a hypothesis, past it: there is one more before the place that it comes to
+pub one-more : {t : Rows} {s : Slot} {c from n : Cursor} → c .segment < segments → OnEntry t s c → from ≡ cursorAt (c .segment) (c .row) 1
+    → SoughtEntry t s from n → hypothesesBefore t s n ≡ hypothesesBefore t s c + 1
+one-more {t} {s} {c} {from} {n} h o f so = go (ltb (n .segment) segments) refl
   where
-    passed : entriesBefore t e g i n + n .left ≡ entriesBefore t e g i c + 1
-    passed = so .passed ∙ ap (λ c. entriesBefore t e g i c + c .left) f
+    passed : hypothesesBefore t s n + n .left ≡ hypothesesBefore t s c + 1
+    passed = so .passed ∙ ap (λ c. hypothesesBefore t s c + c .left) f
 
-    go : (b : Bool) → ltb (n .segment) segments ≡ b → entriesBefore t e g i n ≡ entriesBefore t e g i c + 1
-    go true q = omega (arith, passed, so .found (ltb-true (n .segment) segments q) .1)
+    go : (b : Bool) → ltb (n .segment) segments ≡ b → hypothesesBefore t s n ≡ hypothesesBefore t s c + 1
+    go true q = omega (arith, passed, so .found (ltb-true (n .segment) segments q) .left)
     go false q =
-        let last : n .segment ≡ segments = omega (arith, ltb-false (n .segment) segments q, so .stands .segment) in
-        let all : entriesBefore t e g i n ≡ entriesTo t e g i segments 0 = ap₂ (entriesTo t e g i) last (so .stands .ended last) in
-        omega (arith, passed, all, entries-reach t e g i (c .segment) (c .row) h (st .row) p)
-
--- the end
-pub all-before : {t : Rows} (e g i : ℕ) {c : Cursor} → Stands t c → segments ≤ c .segment → entriesBefore t e g i c ≡ entriesTo t e g i segments 0
-all-before {t} e g i {c} st h = let p : c .segment ≡ segments = omega (arith, st .segment) in ap₂ (entriesTo t e g i) p (st .ended p)
+        omega (arith, passed, all-before t s (so .stands) (ltb-false (n .segment) segments q), reached t s (c .segment) (c .row) h (o .row) (o .passes))

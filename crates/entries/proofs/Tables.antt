@@ -1,55 +1,21 @@
--- The tables of kinds, items, goals, tests and entries, read at a known number and at one that is none of those that a match names.
+-- The tables of goals and segments, read at a known number and at one that is none of those that a match names.
 use Prim.Native.Nat.{ℕ}
 use mathlib.Core.Path.{_≡_, refl, sym, ap, _∙_}
-use mathlib.Core.Bool.{true, false}
-use lib.ListN.{getD}
-use Rattle.lists.specs.Choice.{pick}
+use lib.Dec.{eqb}
+use borrow.Author.Tests.{eq-eqb, ne-eqb}
 use Rattle.lists.specs.All.{all-nil, all-cons}
 use Rattle.lists.specs.Below.{numbers}
+use Rattle.lists.proofs.Choice.{chosen, not-chosen}
 use Rattle.lists.proofs.Range.{table-rest}
 use Rattle.table.specs.Rows.{Rows}
-use Rattle.sequent.specs.Entry.{written, defined}
-use Rattle.sequent.specs.Sequent.{WD, WFIS}
-use Rattle.sequent.specs.Segments.{kinds, isWFIS, headerKind, items, headerItem, goals, goalOf, segmentTests, segmentTest, segmentEntries, segmentEntry}
-
--- the kind: of a WFIS, and of a group
-module _ (g w : ℕ) where
-  pub kind-wfis : isWFIS g w ≡ true → WFIS ≡ headerKind g w
-  unfolding headerKind
-  kind-wfis p = sym (ap (λ b. pick b WFIS (getD kinds g WD)) p)
-
-  pub kind-other : (k : ℕ) → isWFIS g w ≡ false → getD kinds g WD ≡ k → k ≡ headerKind g w
-  unfolding headerKind
-  kind-other k p q = sym (ap (λ b. pick b WFIS (getD kinds g WD)) p ∙ q)
-
-pub kind-rest : (g : ℕ) → (g ≡ 4 → ⊥) → (g ≡ 6 → ⊥) → (g ≡ 7 → ⊥) → (g ≡ 8 → ⊥) → (g ≡ 9 → ⊥) → (g ≡ 10 → ⊥) → getD kinds g WD ≡ WD
-unfolding numbers
-kind-rest g n4 n6 n7 n8 n9 n10 =
-    table-rest kinds WD g
-    (all-cons (λ p. refl) (all-cons (λ p. refl) (all-cons (λ p. refl) (all-cons (λ p. refl) (all-cons (λ p. absurd (n4 p)) (all-cons (λ p. refl)
-    (all-cons (λ p. absurd (n6 p)) (all-cons (λ p. absurd (n7 p)) (all-cons (λ p. absurd (n8 p)) (all-cons (λ p. absurd (n9 p)) (all-cons (λ p. absurd (n10 p)) all-nil)))))))))))
+use Rattle.sequent.specs.Entry.{defined}
+use Rattle.sequent.specs.Numbers.{numbers as numbersAt, numbersOf, writtenForm, movesForm}
+use Rattle.walk.specs.declared.Slot.{Slot}
+use Rattle.walk.specs.Groups.{itemAt}
+use Rattle.entries.specs.declared.Segment.{Segment}
+use Rattle.entries.specs.Segments.{goals, goalOf, segmentAt, segmentEntry}
 
 module _ (t : Rows) where
-  -- the item
-  module _ (e g i w : ℕ) where
-    pub item-wfis : isWFIS g w ≡ true → t .b i ≡ headerItem t e g i w
-    unfolding headerItem
-    item-wfis p = sym (ap (λ b. pick b (t .b i) (getD (items t) g (λ e i. t .a i) e i)) p)
-
-    pub item-other : (x : ℕ) → isWFIS g w ≡ false → getD (items t) g (λ e i. t .a i) e i ≡ x → x ≡ headerItem t e g i w
-    unfolding headerItem
-    item-other x p q = sym (ap (λ b. pick b (t .b i) (getD (items t) g (λ e i. t .a i) e i)) p ∙ q)
-
-  pub item-rest : (e g i : ℕ) → (g ≡ 2 → ⊥) → (g ≡ 3 → ⊥) → (g ≡ 4 → ⊥) → (g ≡ 5 → ⊥) → (g ≡ 6 → ⊥) → (g ≡ 7 → ⊥)
-      → getD (items t) g (λ e i. t .a i) e i ≡ t .a i
-  unfolding numbers
-  item-rest e g i n2 n3 n4 n5 n6 n7 =
-      ap (λ f. f e i)
-      (table-rest (items t) (λ e i. t .a i) g
-      (all-cons (λ p. refl) (all-cons (λ p. refl) (all-cons (λ p. absurd (n2 p)) (all-cons (λ p. absurd (n3 p)) (all-cons (λ p. absurd (n4 p)) (all-cons (λ p. absurd (n5 p))
-      (all-cons (λ p. absurd (n6 p)) (all-cons (λ p. absurd (n7 p)) (all-cons (λ p. refl) (all-cons (λ p. refl) (all-cons (λ p. refl) all-nil))))))))))))
-
-  -- the goal
   pub goal-rest : (k e x : ℕ) → (k ≡ 2 → ⊥) → (k ≡ 3 → ⊥) → (k ≡ 4 → ⊥) → (k ≡ 5 → ⊥) → (k ≡ 6 → ⊥) → (k ≡ 7 → ⊥) → (k ≡ 8 → ⊥) → defined x ≡ goalOf t k e x
   unfolding numbers goalOf
   goal-rest k e x n2 n3 n4 n5 n6 n7 n8 =
@@ -58,20 +24,23 @@ module _ (t : Rows) where
       (all-cons (λ p. refl) (all-cons (λ p. refl) (all-cons (λ p. absurd (n2 p)) (all-cons (λ p. absurd (n3 p)) (all-cons (λ p. absurd (n4 p))
       (all-cons (λ p. absurd (n5 p)) (all-cons (λ p. absurd (n6 p)) (all-cons (λ p. absurd (n7 p)) (all-cons (λ p. absurd (n8 p)) all-nil)))))))))))
 
-  -- the test and the entry of a segment
-  pub test-rest : (e g i s j : ℕ) → (s ≡ 0 → ⊥) → (s ≡ 1 → ⊥) → (s ≡ 2 → ⊥) → (s ≡ 3 → ⊥) → (s ≡ 4 → ⊥) → (s ≡ 5 → ⊥) → (s ≡ 6 → ⊥) → (s ≡ 7 → ⊥)
-      → false ≡ segmentTest t e g i s j
-  unfolding numbers segmentTest
-  test-rest e g i s j n0 n1 n2 n3 n4 n5 n6 n7 =
-      sym (ap (λ f. f e g i j)
-      (table-rest (segmentTests t) (λ e g i j. false) s
-      (all-cons (λ p. absurd (n0 p)) (all-cons (λ p. absurd (n1 p)) (all-cons (λ p. absurd (n2 p)) (all-cons (λ p. absurd (n3 p)) (all-cons (λ p. absurd (n4 p))
-      (all-cons (λ p. absurd (n5 p)) (all-cons (λ p. absurd (n6 p)) (all-cons (λ p. absurd (n7 p)) all-nil))))))))))
+  -- a segment whose number is known
+  pub at-number : (s : Slot) {g : ℕ} (k : ℕ) → g ≡ k → {r : Segment} → r ≡ segmentAt t s k → r ≡ segmentAt t s g
+  at-number s k p q = q ∙ sym (ap (segmentAt t s) p)
 
-  pub entry-rest : (e g i w s j : ℕ) → (s ≡ 3 → ⊥) → (s ≡ 4 → ⊥) → (s ≡ 5 → ⊥) → (s ≡ 6 → ⊥) → (s ≡ 7 → ⊥) → written (t .a j) ≡ segmentEntry t e g i w s j
-  unfolding numbers segmentEntry
-  entry-rest e g i w s j n3 n4 n5 n6 n7 =
-      sym (ap (λ f. f e g i w j)
-      (table-rest (segmentEntries t) (λ e g i w j. written (t .a j)) s
-      (all-cons (λ p. refl) (all-cons (λ p. refl) (all-cons (λ p. refl) (all-cons (λ p. absurd (n3 p)) (all-cons (λ p. absurd (n4 p)) (all-cons (λ p. absurd (n5 p))
-      (all-cons (λ p. absurd (n6 p)) (all-cons (λ p. absurd (n7 p)) all-nil))))))))))
+  -- the entry of a row, by whether the segment's are moves
+  module _ (s : Slot) (k j x : ℕ) (r : Segment) (p : r ≡ segmentAt t s k) (q : x ≡ itemAt t (r .item) (s .event) j) where
+    item : x ≡ itemAt t (segmentAt t s k .item) (s .event) j
+    item = q ∙ ap (λ r. itemAt t (r .item) (s .event) j) p
+
+    pub entry-moves : r .form ≡ movesForm → numbersAt movesForm (s .event) x ≡ numbersOf (segmentEntry t s k j)
+    unfolding segmentEntry
+    entry-moves h =
+        ap (numbersAt movesForm (s .event)) item
+        ∙ ap numbersOf (sym (chosen (eqb (segmentAt t s k .form) movesForm) _ _ (eq-eqb _ movesForm (ap (λ r. r .form) (sym p) ∙ h))))
+
+    pub entry-written : (r .form ≡ movesForm → ⊥) → numbersAt writtenForm x 0 ≡ numbersOf (segmentEntry t s k j)
+    unfolding segmentEntry
+    entry-written h =
+        ap (λ x. numbersAt writtenForm x 0) item
+        ∙ ap numbersOf (sym (not-chosen (eqb (segmentAt t s k .form) movesForm) _ _ (ne-eqb _ movesForm (λ e. h (ap (λ r. r .form) p ∙ e)))))

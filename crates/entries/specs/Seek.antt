@@ -1,33 +1,39 @@
--- Places in the walk of a slot's entries, and what a walk from one place comes to.
-use Prim.Native.Nat.{ℕ, _+_, _-_, _≤_, _<_}
+-- Places in the walk of a slot's hypotheses, and what a walk from one place comes to.
+use Prim.Native.Nat.{ℕ, _+_, _≤_, _<_}
 use mathlib.Core.Path.{_≡_}
-use mathlib.Core.Bool.{Bool, true}
-use lib.Dec.{ltb}
-use Rattle.lists.specs.Choice.{pick}
-use Rattle.lists.specs.Below.{oneIf}
+use mathlib.Core.Bool.{true}
+use lib.ListN.{getD}
 use Rattle.table.specs.Rows.{Rows}
-use Rattle.sequent.specs.Segments.{segments, segmentTest, entriesTo}
+use Rattle.sequent.specs.Entry.{Entry}
+use Rattle.walk.specs.declared.Slot.{Slot}
 use Rattle.entries.specs.declared.Cursor.{Cursor}
+use Rattle.entries.specs.Segments.{segments, segmentAt, inSegment, hypothesisWalk, goalAt, hypothesesTo}
 
 abbrev pub cursorAt : ℕ → ℕ → ℕ → Cursor
-cursorAt s j left = record { segment = s; row = j; left = left }
+cursorAt k j left = record { segment = k; row = j; left = left }
 
--- the next row of the segment, else the first of the next segment; one entry fewer to pass where the row has one
-abbrev pub nextCursor : Cursor → Bool → ℕ → Cursor
-nextCursor c passes rows = let left = c .left - oneIf passes in pick (ltb (c .row + 1) rows) (cursorAt (c .segment) (c .row + 1) left) (cursorAt (c .segment + 1) 0 left)
+module _ (t : Rows) (s : Slot) where
+  -- a row of a segment, or its end; past the last segment no row
+  pub record Stands (c : Cursor) : Type 0 where
+    pub segment : c .segment ≤ segments
+    pub row : c .row ≤ segmentAt t s (c .segment) .before
 
--- a row of a segment, or the end: the first row of a segment past the last
-pub record Stands (t : Rows) (c : Cursor) : Type 0 where
-  pub segment : c .segment ≤ segments
-  pub row : c .row < t .size
-  pub ended : c .segment ≡ segments → c .row ≡ 0
+  -- how many hypotheses stand before a place
+  abbrev pub hypothesesBefore : Cursor → ℕ
+  hypothesesBefore c = hypothesesTo t s (c .segment) (c .row)
 
--- how many entries stand before a place
-abbrev pub entriesBefore : Rows → ℕ → ℕ → ℕ → Cursor → ℕ
-entriesBefore t e g i c = entriesTo t e g i (c .segment) (c .row)
+  -- a place of a hypothesis
+  pub record OnEntry (c : Cursor) : Type 0 where
+    pub row : c .row < segmentAt t s (c .segment) .before
+    pub passes : inSegment t s (c .segment) (c .row) ≡ true
+    pub left : c .left ≡ 0
 
--- the entry after as many as are left to pass, or the end
-pub record SoughtEntry (t : Rows) (e g i : ℕ) (from to : Cursor) : Type 0 where
-  pub stands : Stands t to
-  pub passed : entriesBefore t e g i to + to .left ≡ entriesBefore t e g i from + from .left
-  pub found : to .segment < segments → (segmentTest t e g i (to .segment) (to .row) ≡ true) × (to .left ≡ 0)
+  -- the hypothesis after as many as are left to pass, or the end
+  pub record SoughtEntry (from to : Cursor) : Type 0 where
+    pub stands : Stands to
+    pub passed : hypothesesBefore to + to .left ≡ hypothesesBefore from + from .left
+    pub found : to .segment < segments → OnEntry to
+
+  -- a hypothesis by number, counted from 0, or behind them the goal
+  abbrev pub entryAt : ℕ → Entry
+  entryAt k = getD (hypothesisWalk t s) k (goalAt t s)

@@ -1,266 +1,245 @@
-// 01, Sequents: the entries of one sequent, hypotheses and then goal, by a walk of segments. A slot is an event, a group and a row; `which` is 1 for the WFIS of a
-// witness, else 0.
+// 01, Sequents: the entries of a slot's sequent: the hypotheses, by a walk of segments, and the goal. What is left to pass over in the slot is which of its sequents
+// is meant: 1 for the WFIS of a witness, else 0.
+use reply::tags;
 use row::Row;
-use scan::Query;
-use scan::find_row;
+use select::Selection;
+use select::Sought;
+use select::seek_row;
 use sequent::Entry;
+use sequent::form;
+use sequent::kind;
 use table::Table;
-use table::a_at;
 use table::b_at;
-use table::c_at;
-use table::event_field;
+use table::identifier;
 use table::is_variable;
-use table::one_if;
 use table::size;
-use table::tag_at;
-use walk::identifier_at;
+use table::tag;
+use walk::Group;
+use walk::Item;
+use walk::Slot;
+use walk::header_item;
+use walk::header_kind;
 use walk::is_abstract;
 use walk::is_convergent;
+use walk::is_initial;
+use walk::item_at;
+use walk::matched_by;
 use walk::own_kind;
-use walk::row_of_event;
+use walk::when;
 ghost use mathlib.Core.Path.{_≡_};
-ghost use Prim.Native.Nat.{_*_, _<_, _≤_};
-ghost use lib.ListN.{length, getD};
-ghost use mathlib.Core.Bool.{_&&_};
+ghost use Prim.Native.Nat.{_+_, _*_, _≤_, _<_};
+ghost use mathlib.Core.Bool.{not};
+ghost use lib.ListN.{length};
 ghost use Rattle.lists.specs.Over.{over};
-ghost use Rattle.lists.specs.Below.{oneIf};
 ghost use Rattle.row.specs.Row.{width, rowLength};
-ghost use Rattle.table.specs.Rows.{rowsOf, tagged};
+ghost use Rattle.table.specs.Rows.{rowsOf};
 ghost use Rattle.table.specs.Counts.{countsOf};
-ghost use Rattle.sequent.specs.Entry.{written};
-ghost use Rattle.sequent.specs.Numbers.{numbers, numbersOf};
-ghost use Rattle.sequent.specs.Walk.{matchedBy, actionRow};
-ghost use Rattle.sequent.specs.Segments.{isWFIS, headerKind, beforeIn, headerItem, goalOf, goalAt, isInitial, hasAbstract, hasConcrete, hasMoves, hasWitnesses};
-ghost use Rattle.sequent.specs.Segments.{witnessIn, hasAbstractMoves, segments, segmentTest, segmentEntry, entryWalk, entriesTo};
+ghost use Rattle.table.specs.Names.{guardTag};
+ghost use Rattle.scan.specs.Spans.{Spanned};
+ghost use Rattle.select.specs.declared.Selection.the-variants.{Tagged, OfEvent, Identifiers};
+ghost use Rattle.sequent.specs.Numbers.{numbers, numbersOf, writtenForm, movesForm};
+ghost use Rattle.walk.specs.declared.Item.the-variants.{A as columnA, B as columnB, Identifier};
+ghost use Rattle.walk.specs.Groups.{when, guardGroup};
 ghost use Rattle.reply.specs.Printed.{rowsBytes};
-ghost use Rattle.entries.specs.Seek.{cursorAt, nextCursor, Stands, SoughtEntry};
-ghost use Rattle.entries.specs.Written.{numbersRow, segmentTag, segmentRow, entryRows};
-
-// "class: 0 initialisation"
-fn is_initial(words: &[u64], table: Table, event: u64) -> bool
-    requires { ⌜ table ≡ countsOf (rowsOf (now words)) ⌝ }
-    ensures { λ r. ⌜ r ≡ isInitial (rowsOf (now (words .entry))) event ⌝ }
-{
-    event_field(words, table, event, Table::CLASS) == 0
-}
-
-// The abstract event that an event's steps are matched by.
-fn matched_by(words: &[u64], table: Table, event: u64) -> u64
-    requires { ⌜ table ≡ countsOf (rowsOf (now words)) ⌝ }
-    ensures { λ r. ⌜ r ≡ matchedBy (rowsOf (now (words .entry))) event ⌝ }
-{
-    if is_initial(words, table, event) {
-        return 1;
-    }
-    event_field(words, table, event, Table::REFINED)
-}
-
-// The row of an event's action for a variable; the number of rows where it is unassigned.
-fn action_row(words: &[u64], event: u64, x: u64) -> usize
-    ensures { λ r. ⌜ r ≡ actionRow (rowsOf (now (words .entry))) event x ⌝ }
-{
-    find_row(words, Query::Assigns { event, target: x })
-}
+ghost use Rattle.entries.specs.Segments.{segmentOf, goalOf, upTo, ofNone, hasAbstract, hasConcrete, hasMoves, hasWitnesses, hasAbstractMoves, witnessRows};
+ghost use Rattle.entries.specs.Segments.{segments, segmentAt, segmentEntry, goalAt, hypothesisCount};
+ghost use Rattle.entries.specs.Seek.{cursorAt, entryAt, Stands, SoughtEntry};
+ghost use Rattle.entries.specs.Written.{numbersRow, hypothesisRows, entryRows};
 
 // "those before it": in one group only rows before the slot's own.
-fn before_in(only: u64, group: u64, row: usize, j: usize) -> bool
-    ensures { λ r. ⌜ r ≡ beforeIn only group row j ⌝ }
+fn up_to(words: &[u64], slot: Slot, group: u64) -> usize
+    ensures { λ r. ⌜ r ≡ upTo (rowsOf (now (words .entry))) slot group ⌝ }
 {
-    !(group == only) | (j < row)
+    if slot.group == group {
+        return slot.row;
+    }
+    size(words)
 }
 
-// Whether row j is an axiom or invariant of a tag that a slot's sequents may assume.
-fn formula_test(words: &[u64], tag: u64, group: u64, row: usize, j: usize) -> bool
-    ensures { λ r. ⌜ r ≡ beforeIn 0 group row j && tagged (rowsOf (now (words .entry))) tag j ⌝ }
+// Whether a slot is of no event.
+fn of_none(slot: Slot) -> bool
+    ensures { λ r. ⌜ r ≡ ofNone slot ⌝ }
 {
-    before_in(0, group, row, j) & (tag_at(words, j) == tag)
+    slot.group < Group::GUARD
 }
 
 // "except for initialisations, the abstract invariants"
-fn has_abstract(words: &[u64], table: Table, event: u64, group: u64) -> bool
+fn has_abstract(words: &[u64], table: Table, slot: Slot) -> bool
     requires { ⌜ table ≡ countsOf (rowsOf (now words)) ⌝ }
-    ensures { λ r. ⌜ r ≡ hasAbstract (rowsOf (now (words .entry))) event group ⌝ }
+    ensures { λ r. ⌜ r ≡ hasAbstract (rowsOf (now (words .entry))) slot ⌝ }
 {
-    (group < 2) | !is_initial(words, table, event)
+    if of_none(slot) {
+        return Group::ABSTRACT_INVARIANT <= slot.group;
+    }
+    !is_initial(words, table, slot.event)
 }
 
 // "and, for concrete events, the concrete ones"
-fn has_concrete(words: &[u64], table: Table, event: u64, group: u64) -> bool
+fn has_concrete(words: &[u64], table: Table, slot: Slot) -> bool
     requires { ⌜ table ≡ countsOf (rowsOf (now words)) ⌝ }
-    ensures { λ r. ⌜ r ≡ hasConcrete (rowsOf (now (words .entry))) event group ⌝ }
+    ensures { λ r. ⌜ r ≡ hasConcrete (rowsOf (now (words .entry))) slot ⌝ }
 {
-    (group < 2) | (!is_initial(words, table, event) & !is_abstract(words, table, event))
+    if of_none(slot) {
+        return Group::CONCRETE_INVARIANT <= slot.group;
+    }
+    !is_initial(words, table, slot.event) & !is_abstract(words, table, slot.event)
 }
 
 // SIM, INV, VAR, and "moves for a variable witness".
-fn has_moves(words: &[u64], table: Table, group: u64, row: usize) -> bool
+fn has_moves(words: &[u64], table: Table, slot: Slot) -> bool
     requires { ⌜ table ≡ countsOf (rowsOf (now words)) ⌝ }
-    ensures { λ r. ⌜ r ≡ hasMoves (rowsOf (now (words .entry))) group row ⌝ }
+    ensures { λ r. ⌜ r ≡ hasMoves (rowsOf (now (words .entry))) slot ⌝ }
 {
-    let variable = is_variable(words, table, b_at(words, row));
-    ((group == 7) | ((group == 8) | (group == 10))) | ((group == 5) & variable)
+    let group = slot.group;
+    let variable = is_variable(words, table, b_at(words, slot.row));
+    ((group == Group::SIM) | ((group == Group::INV) | (group == Group::VAR)))
+        | ((group == Group::WITNESS) & variable)
 }
 
-// GRD, SIM, INV but of a convergent event.
-fn has_witnesses(words: &[u64], table: Table, event: u64, group: u64) -> bool
+// SIM, and INV but of a convergent event.
+fn has_witnesses(words: &[u64], table: Table, slot: Slot) -> bool
     requires { ⌜ table ≡ countsOf (rowsOf (now words)) ⌝ }
-    ensures { λ r. ⌜ r ≡ hasWitnesses (rowsOf (now (words .entry))) event group ⌝ }
+    ensures { λ r. ⌜ r ≡ hasWitnesses (rowsOf (now (words .entry))) slot ⌝ }
 {
-    (group == 6) | ((group == 7) | ((group == 8) & !is_convergent(words, table, event)))
-}
-
-// GRD: "parameter witnesses".
-fn witness_in(words: &[u64], table: Table, group: u64, j: usize) -> bool
-    requires { ⌜ table ≡ countsOf (rowsOf (now words)) ⌝ }
-    ensures { λ r. ⌜ r ≡ witnessIn (rowsOf (now (words .entry))) group j ⌝ }
-{
-    !(group == 6) | !is_variable(words, table, b_at(words, j))
+    let group = slot.group;
+    (group == Group::SIM) | ((group == Group::INV) & !is_convergent(words, table, slot.event))
 }
 
 // "for a convergent event form 4 of each abstract variable instead of witnesses"
-fn has_abstract_moves(words: &[u64], table: Table, event: u64, group: u64) -> bool
+fn has_abstract_moves(words: &[u64], table: Table, slot: Slot) -> bool
     requires { ⌜ table ≡ countsOf (rowsOf (now words)) ⌝ }
-    ensures { λ r. ⌜ r ≡ hasAbstractMoves (rowsOf (now (words .entry))) event group ⌝ }
+    ensures { λ r. ⌜ r ≡ hasAbstractMoves (rowsOf (now (words .entry))) slot ⌝ }
 {
-    (group == 8) & is_convergent(words, table, event)
+    (slot.group == Group::INV) & is_convergent(words, table, slot.event)
 }
 
-// Segments 1 and 2: the row's own test first, as most rows fail it.
-fn abstract_test(words: &[u64], table: Table, event: u64, group: u64, row: usize, j: usize) -> bool
+// Its witnesses; of GRD "parameter witnesses".
+fn witness_rows(words: &[u64], table: Table, slot: Slot) -> Selection
     requires { ⌜ table ≡ countsOf (rowsOf (now words)) ⌝ }
-    ensures { λ r. ⌜ r ≡ segmentTest (rowsOf (now (words .entry))) event group row 1 j ⌝ }
+    ensures { λ r. ⌜ r ≡ witnessRows (rowsOf (now (words .entry))) slot ⌝ }
 {
-    if formula_test(words, 31, group, row, j) {
-        return has_abstract(words, table, event, group);
+    let event = slot.event;
+    if slot.group == Group::GRD {
+        return Selection::ForParameters(event);
     }
-    false
+    let witnesses = Selection::OfEvent {
+        tag: tag::WITNESS,
+        event,
+    };
+    when(has_witnesses(words, table, slot), witnesses)
 }
 
-fn concrete_test(words: &[u64], table: Table, event: u64, group: u64, row: usize, j: usize) -> bool
-    requires { ⌜ table ≡ countsOf (rowsOf (now words)) ⌝ }
-    ensures { λ r. ⌜ r ≡ segmentTest (rowsOf (now (words .entry))) event group row 2 j ⌝ }
-{
-    if formula_test(words, 32, group, row, j) {
-        return has_concrete(words, table, event, group);
+// A part of the hypotheses: an entry for each row of a selection before a row, of a form and with a number from the row.
+pub struct Segment {
+    pub rows: Selection,
+    pub before: usize,
+    pub form: u64,
+    pub item: Item,
+}
+
+impl Segment {
+    // The segments in the order of the hypotheses.
+    pub const AXIOMS: u64 = 0;
+
+    pub const ABSTRACT_INVARIANTS: u64 = 1;
+
+    pub const CONCRETE_INVARIANTS: u64 = 2;
+
+    pub const GUARDS: u64 = 3;
+
+    pub const MOVES: u64 = 4;
+
+    pub const WITNESSES: u64 = 5;
+
+    pub const ABSTRACT_MOVES: u64 = 6;
+
+    pub const COUNT: u64 = 7;
+
+    fn new(rows: Selection, before: usize, form: u64, item: Item) -> Self
+        ensures { λ r. ⌜ r ≡ segmentOf rows before form item ⌝ }
+    {
+        Self {
+            rows,
+            before,
+            form,
+            item,
+        }
     }
-    false
 }
 
-// Segment 3.
-fn guard_test(words: &[u64], event: u64, group: u64, row: usize, j: usize) -> bool
-    ensures { λ r. ⌜ r ≡ segmentTest (rowsOf (now (words .entry))) event group row 3 j ⌝ }
+// The invariants of a tag, where a slot has them, up to a group's own row.
+fn invariants(words: &[u64], slot: Slot, has: bool, tag: u64, group: u64) -> Segment
+    ensures { λ r. ⌜ r ≡ segmentOf (when has (Tagged tag)) (upTo (rowsOf (now (words .entry))) slot group) writtenForm columnA ⌝ }
 {
-    (2 <= group) & (before_in(2, group, row, j) & row_of_event(words, 50, event, j))
+    let rows = when(has, Selection::Tagged(tag));
+    Segment::new(rows, up_to(words, slot, group), form::WRITTEN, Item::A)
 }
 
-// Segment 4.
-fn moves_test(words: &[u64], table: Table, event: u64, group: u64, row: usize, j: usize) -> bool
-    requires { ⌜ table ≡ countsOf (rowsOf (now words)) ⌝ }
-    ensures { λ r. ⌜ r ≡ segmentTest (rowsOf (now (words .entry))) event group row 4 j ⌝ }
+// The guards of an event, up to the slot's own where it is of a guard.
+fn guards(words: &[u64], slot: Slot) -> Segment
+    ensures { λ r. ⌜ r ≡ segmentOf (when (not (ofNone slot)) (OfEvent guardTag (slot .event))) (upTo (rowsOf (now (words .entry))) slot guardGroup) writtenForm columnB ⌝ }
 {
-    if table.identifiers <= j as u64 {
-        return false;
-    }
-    has_moves(words, table, group, row)
-        & identifier_at(words, table, own_kind(words, table, event), j)
+    let event = slot.event;
+    let guards = Selection::OfEvent {
+        tag: tag::GUARD,
+        event,
+    };
+    let rows = when(!of_none(slot), guards);
+    Segment::new(
+        rows,
+        up_to(words, slot, Group::GUARD),
+        form::WRITTEN,
+        Item::B,
+    )
 }
 
-// Segment 5.
-fn witness_test(words: &[u64], table: Table, event: u64, group: u64, row: usize, j: usize) -> bool
-    requires { ⌜ table ≡ countsOf (rowsOf (now words)) ⌝ }
-    ensures { λ r. ⌜ r ≡ segmentTest (rowsOf (now (words .entry))) event group row 5 j ⌝ }
+// The moves of an event for the variables of a kind.
+fn moves(words: &[u64], has: bool, kind: u64) -> Segment
+    ensures { λ r. ⌜ r ≡ segmentOf (when has (Identifiers kind)) (rowsOf (now (words .entry)) .size) movesForm Identifier ⌝ }
 {
-    if row_of_event(words, 60, event, j) {
-        return has_witnesses(words, table, event, group) & witness_in(words, table, group, j);
-    }
-    false
+    let rows = when(has, Selection::Identifiers(kind));
+    Segment::new(rows, size(words), form::MOVES, Item::Identifier)
 }
 
-// Segment 6.
-fn abstract_moves_test(
-    words: &[u64],
-    table: Table,
-    event: u64,
-    group: u64,
-    row: usize,
-    j: usize,
-) -> bool
+// A segment of a slot, by number: the table of segments.
+fn segment_at(words: &[u64], table: Table, slot: Slot, segment: u64) -> Segment
     requires { ⌜ table ≡ countsOf (rowsOf (now words)) ⌝ }
-    ensures { λ r. ⌜ r ≡ segmentTest (rowsOf (now (words .entry))) event group row 6 j ⌝ }
-{
-    if identifier_at(words, table, 2, j) {
-        return has_abstract_moves(words, table, event, group);
-    }
-    false
-}
-
-// Whether row j has an entry in a segment of the slot's sequents.
-fn segment_test(
-    words: &[u64],
-    table: Table,
-    event: u64,
-    group: u64,
-    row: usize,
-    segment: u64,
-    j: usize,
-) -> bool
-    requires { ⌜ table ≡ countsOf (rowsOf (now words)) ⌝ }
-    ensures { λ r. ⌜ r ≡ segmentTest (rowsOf (now (words .entry))) event group row segment j ⌝ }
+    ensures { λ r. ⌜ r ≡ segmentAt (rowsOf (now (words .entry))) slot segment ⌝ }
 {
     match segment {
-        0 => formula_test(words, 30, group, row, j),
-        1 => abstract_test(words, table, event, group, row, j),
-        2 => concrete_test(words, table, event, group, row, j),
-        3 => guard_test(words, event, group, row, j),
-        4 => moves_test(words, table, event, group, row, j),
-        5 => witness_test(words, table, event, group, row, j),
-        6 => abstract_moves_test(words, table, event, group, row, j),
-        7 => j == row,
-        _ => false,
-    }
-}
-
-// Whether a slot's sequent is the WFIS of a witness.
-fn is_wfis(group: u64, which: u64) -> bool
-    ensures { λ r. ⌜ r ≡ isWFIS group which ⌝ }
-{
-    (group == 5) & (which == 1)
-}
-
-// The kind of a slot's sequent.
-pub fn header_kind(group: u64, which: u64) -> u64
-    ensures { λ r. ⌜ r ≡ headerKind group which ⌝ }
-{
-    if is_wfis(group, which) {
-        return 6;
-    }
-    match group {
-        4 => 3,
-        6 => 4,
-        7 => 5,
-        8 => 2,
-        9 => 7,
-        10 => 8,
-        _ => 1,
-    }
-}
-
-// The item of a slot's sequent: root, variable or identifier.
-pub fn header_item(words: &[u64], event: u64, group: u64, row: usize, which: u64) -> u64
-    requires { ⌜ row < rowsOf (now words) .size ⌝ }
-    ensures { λ r. ⌜ r ≡ headerItem (rowsOf (now (words .entry))) event group row which ⌝ }
-{
-    if is_wfis(group, which) {
-        return b_at(words, row);
-    }
-    match group {
-        2 => b_at(words, row),
-        3 => c_at(words, action_row(words, event, row as u64 + 1)),
-        4 => row as u64 + 1,
-        5 => c_at(words, row),
-        6 => b_at(words, row),
-        7 => row as u64 + 1,
-        _ => a_at(words, row),
+        Segment::AXIOMS => invariants(words, slot, true, tag::AXIOM, Group::AXIOM),
+        Segment::ABSTRACT_INVARIANTS => invariants(
+            words,
+            slot,
+            has_abstract(words, table, slot),
+            tag::ABSTRACT_INVARIANT,
+            Group::ABSTRACT_INVARIANT,
+        ),
+        Segment::CONCRETE_INVARIANTS => invariants(
+            words,
+            slot,
+            has_concrete(words, table, slot),
+            tag::CONCRETE_INVARIANT,
+            Group::CONCRETE_INVARIANT,
+        ),
+        Segment::GUARDS => guards(words, slot),
+        Segment::MOVES => moves(
+            words,
+            has_moves(words, table, slot),
+            own_kind(words, table, slot.event),
+        ),
+        Segment::WITNESSES => Segment::new(
+            witness_rows(words, table, slot),
+            size(words),
+            form::WRITTEN,
+            Item::C,
+        ),
+        Segment::ABSTRACT_MOVES => moves(
+            words,
+            has_abstract_moves(words, table, slot),
+            identifier::ABSTRACT_VARIABLE,
+        ),
+        _ => Segment::new(Selection::None, 0, form::WRITTEN, Item::A),
     }
 }
 
@@ -292,52 +271,49 @@ fn goal_of(words: &[u64], table: Table, kind: u64, event: u64, item: u64) -> Ent
     ensures { λ r. ⌜ r ≡ numbersOf (goalOf (rowsOf (now (words .entry))) kind event item) ⌝ }
 {
     match kind {
-        2 => of_root(2, item),
-        3 => of_event(5, event, item),
-        4 => of_root(1, item),
-        5 => of_event(4, matched_by(words, table, event), item),
-        6 => of_event(6, event, item),
-        7 => of_root(7, item),
-        8 => of_root(8, item),
-        _ => of_root(3, item),
+        kind::INV => of_root(form::PRIMED, item),
+        kind::FIS => of_event(form::FEASIBLE, event, item),
+        kind::GRD => of_root(form::WRITTEN, item),
+        kind::SIM => of_event(form::MOVES, matched_by(words, table, event), item),
+        kind::WFIS => of_event(form::WITNESSED, event, item),
+        kind::NAT => of_root(form::NATURAL, item),
+        kind::VAR => of_root(form::DECREASES, item),
+        _ => of_root(form::DEFINED, item),
     }
 }
 
 // The goal of a slot's sequent.
-fn goal_at(words: &[u64], table: Table, event: u64, group: u64, row: usize, which: u64) -> Entry
-    requires { ⌜ (table ≡ countsOf (rowsOf (now words))) × (row < rowsOf (now words) .size) ⌝ }
-    ensures { λ r. ⌜ r ≡ numbersOf (goalAt (rowsOf (now (words .entry))) event group row which) ⌝ }
+fn goal_at(words: &[u64], table: Table, spans: &[usize], slot: Slot) -> Entry
+    requires { ⌜ (table ≡ countsOf (rowsOf (now words))) × Spanned (rowsOf (now words)) (now spans) × (slot .row < rowsOf (now words) .size) ⌝ }
+    ensures { λ r. ⌜ r ≡ numbersOf (goalAt (rowsOf (now (words .entry))) slot) ⌝ }
 {
-    let kind = header_kind(group, which);
-    let item = header_item(words, event, group, row, which);
-    goal_of(words, table, kind, event, item)
+    let kind = header_kind(words, table, slot);
+    let item = header_item(words, table, spans, slot);
+    goal_of(words, table, kind, slot.event, item)
 }
 
-// The entry of row j in a segment of a slot's sequent; in the goal's segment the goal.
+// The entry of row j in a segment.
 fn segment_entry(
     words: &[u64],
     table: Table,
-    event: u64,
-    group: u64,
-    row: usize,
-    which: u64,
+    spans: &[usize],
+    slot: Slot,
     segment: u64,
     j: usize,
 ) -> Entry
-    requires { ⌜ (table ≡ countsOf (rowsOf (now words))) × (row < rowsOf (now words) .size) × (j < rowsOf (now words) .size) ⌝ }
-    ensures { λ r. ⌜ r ≡ numbersOf (segmentEntry (rowsOf (now (words .entry))) event group row which segment j) ⌝ }
+    requires { ⌜ (table ≡ countsOf (rowsOf (now words))) × Spanned (rowsOf (now words)) (now spans) × (j < rowsOf (now words) .size) ⌝ }
+    ensures { λ r. ⌜ r ≡ numbersOf (segmentEntry (rowsOf (now (words .entry))) slot segment j) ⌝ }
 {
-    match segment {
-        3 => of_root(1, b_at(words, j)),
-        4 => of_event(4, event, j as u64 + 1),
-        5 => of_root(1, c_at(words, j)),
-        6 => of_event(4, event, j as u64 + 1),
-        7 => goal_at(words, table, event, group, row, which),
-        _ => of_root(1, a_at(words, j)),
+    let part = segment_at(words, table, slot, segment);
+    let item = part.item;
+    let x = item_at(words, spans, item, slot.event, j);
+    if part.form == form::MOVES {
+        return of_event(form::MOVES, slot.event, x);
     }
+    of_root(form::WRITTEN, x)
 }
 
-// A place in the walk of a slot's entries: a row of a segment, and how many entries are left to pass. Segment 8 is the end.
+// A place in the walk of a slot's hypotheses: a row of a segment, and how many hypotheses are left to pass. Past the last segment is the end.
 pub struct Cursor {
     pub segment: u64,
     pub row: usize,
@@ -345,13 +321,8 @@ pub struct Cursor {
 }
 
 impl Cursor {
-    // The segment of the goal, and the end.
-    pub const GOAL: u64 = 7;
-
-    pub const END: u64 = 8;
-
-    // The place of the first row, with entries to pass.
-    pub fn start(left: u64) -> Self
+    // The place of the first row, with hypotheses to pass.
+    fn start(left: u64) -> Self
         ensures { λ r. ⌜ r ≡ cursorAt 0 0 left ⌝ }
     {
         Self {
@@ -361,8 +332,8 @@ impl Cursor {
         }
     }
 
-    // The same place, with its own entry to pass.
-    pub fn passing(self) -> Self
+    // The same place, with its own hypothesis to pass.
+    fn passing(self) -> Self
         ensures { λ r. ⌜ r ≡ cursorAt (self .segment) (self .row) 1 ⌝ }
     {
         Self {
@@ -372,20 +343,22 @@ impl Cursor {
         }
     }
 
-    // The place after this one, of so many rows a segment.
-    fn next(self, passes: bool, rows: usize) -> Self
-        requires { ⌜ (oneIf passes ≤ self .left) × (self .row < rows) × (self .segment < segments) ⌝ }
-        ensures { λ r. ⌜ r ≡ nextCursor self passes rows ⌝ }
+    // The same segment at another row.
+    fn at(self, found: Sought) -> Self
+        ensures { λ r. ⌜ r ≡ cursorAt (self .segment) (found .row) (found .left) ⌝ }
     {
-        let left = self.left - one_if(passes);
-        let row = self.row + 1;
-        if row < rows {
-            return Self {
-                segment: self.segment,
-                row,
-                left,
-            };
+        Self {
+            segment: self.segment,
+            row: found.row,
+            left: found.left,
         }
+    }
+
+    // The next segment's first row.
+    fn next_segment(self, left: u64) -> Self
+        requires { ⌜ self .segment < segments ⌝ }
+        ensures { λ r. ⌜ r ≡ cursorAt (self .segment + 1) 0 left ⌝ }
+    {
         Self {
             segment: self.segment + 1,
             row: 0,
@@ -394,72 +367,60 @@ impl Cursor {
     }
 }
 
-// Walks on from a place to the entry after as many as are left to pass, or to the end.
-pub fn seek_entry(
-    words: &[u64],
-    table: Table,
-    event: u64,
-    group: u64,
-    row: usize,
-    from: Cursor,
-) -> Cursor
-    requires { ⌜ (table ≡ countsOf (rowsOf (now words))) × Stands (rowsOf (now words)) from ⌝ }
-    ensures { λ r. ⌜ SoughtEntry (rowsOf (now (words .entry))) event group row from r ⌝ }
+// Walks on from a place to the hypothesis after as many as are left to pass, or to the end.
+fn seek_entry(words: &[u64], table: Table, spans: &[usize], slot: Slot, from: Cursor) -> Cursor
+    requires { ⌜ (table ≡ countsOf (rowsOf (now words))) × Spanned (rowsOf (now words)) (now spans) × (slot .row < rowsOf (now words) .size) ⌝ }
+    requires { ⌜ Stands (rowsOf (now words)) slot from ⌝ }
+    ensures { λ r. ⌜ SoughtEntry (rowsOf (now (words .entry))) slot from r ⌝ }
 {
-    let rows = size(words);
     let mut cursor = from;
-    while cursor.segment < Cursor::END {
-        let segment = cursor.segment;
-        let at = cursor.row;
-        let passes = segment_test(words, table, event, group, row, segment, at);
-        if passes & (cursor.left == 0) {
-            return cursor;
+    while cursor.segment < Segment::COUNT {
+        let part = segment_at(words, table, slot, cursor.segment);
+        let rows = part.rows;
+        let end = part.before;
+        let at = Sought {
+            row: cursor.row,
+            left: cursor.left,
+        };
+        let found = seek_row(words, table, spans, rows, 1, end, at);
+        if found.row < end {
+            return cursor.at(found);
         }
-        cursor = cursor.next(passes, rows);
+        cursor = cursor.next_segment(found.left);
     }
     cursor
 }
 
-// How many entries a slot's sequents have, the goal among them: as many as a walk passes that has more to pass than there are.
-pub fn count_entries(words: &[u64], table: Table, event: u64, group: u64, row: usize) -> u64
-    requires { ⌜ (table ≡ countsOf (rowsOf (now words))) × (row < rowsOf (now words) .size) ⌝ }
-    ensures { λ r. ⌜ r ≡ entriesTo (rowsOf (now (words .entry))) event group row segments 0 ⌝ }
+// How many hypotheses a slot's sequents have: as many as a walk passes that has more to pass than there are.
+fn count_hypotheses(words: &[u64], table: Table, spans: &[usize], slot: Slot) -> u64
+    requires { ⌜ (table ≡ countsOf (rowsOf (now words))) × Spanned (rowsOf (now words)) (now spans) × (slot .row < rowsOf (now words) .size) ⌝ }
+    ensures { λ r. ⌜ r ≡ hypothesisCount (rowsOf (now (words .entry))) slot ⌝ }
 {
-    let most = words.len() as u64;
-    let end = seek_entry(words, table, event, group, row, Cursor::start(most));
+    let most = 2 * words.len() as u64;
+    let end = seek_entry(words, table, spans, slot, Cursor::start(most));
     most - end.left
 }
 
-// Entry k of a slot's sequent, counted from 0; node 0 as written where there is none.
-pub fn entry_at(
-    words: &[u64],
-    table: Table,
-    event: u64,
-    group: u64,
-    row: usize,
-    which: u64,
-    k: u64,
-) -> Entry
-    requires { ⌜ (table ≡ countsOf (rowsOf (now words))) × (row < rowsOf (now words) .size) ⌝ }
-    ensures { λ r. ⌜ r ≡ numbersOf (getD (entryWalk (rowsOf (now (words .entry))) event group row which) k (written 0)) ⌝ }
+// How many entries: the hypotheses and the goal.
+pub fn count_entries(words: &[u64], table: Table, spans: &[usize], slot: Slot) -> u64
+    requires { ⌜ (table ≡ countsOf (rowsOf (now words))) × Spanned (rowsOf (now words)) (now spans) × (slot .row < rowsOf (now words) .size) ⌝ }
+    ensures { λ r. ⌜ r ≡ hypothesisCount (rowsOf (now (words .entry))) slot + 1 ⌝ }
 {
-    let found = seek_entry(words, table, event, group, row, Cursor::start(k));
-    let segment = found.segment;
-    let at = found.row;
-    if segment == Cursor::END {
-        return of_root(1, 0);
-    }
-    segment_entry(words, table, event, group, row, which, segment, at)
+    count_hypotheses(words, table, spans, slot) + 1
 }
 
-// The tag of a segment's rows: 82 for the goal, else 81.
-fn segment_tag(segment: u64) -> u64
-    ensures { λ r. ⌜ r ≡ segmentTag segment ⌝ }
+// Entry k of a slot's sequent, counted from 0: a hypothesis, or behind them the goal.
+pub fn entry_at(words: &[u64], table: Table, spans: &[usize], slot: Slot, k: u64) -> Entry
+    requires { ⌜ (table ≡ countsOf (rowsOf (now words))) × Spanned (rowsOf (now words)) (now spans) × (slot .row < rowsOf (now words) .size) ⌝ }
+    requires { ⌜ k ≤ hypothesisCount (rowsOf (now words)) slot ⌝ }
+    ensures { λ r. ⌜ r ≡ numbersOf (entryAt (rowsOf (now (words .entry))) slot k) ⌝ }
 {
-    if segment == Cursor::GOAL {
-        return 82;
+    let found = seek_entry(words, table, spans, slot, Cursor::start(k));
+    let segment = found.segment;
+    if segment < Segment::COUNT {
+        return segment_entry(words, table, spans, slot, segment, found.row);
     }
-    81
+    goal_at(words, table, spans, slot)
 }
 
 // The row of an entry.
@@ -474,44 +435,45 @@ fn entry_row(tag: u64, entry: Entry) -> Row
     }
 }
 
-// The row of the entry at a place.
-fn row_at(
+// Writes rows 81 for a slot's hypotheses, and says how many bytes they are.
+fn write_hypotheses(
     words: &[u64],
     table: Table,
-    event: u64,
-    group: u64,
-    row: usize,
-    which: u64,
-    cursor: Cursor,
-) -> Row
-    requires { ⌜ (table ≡ countsOf (rowsOf (now words))) × (row < rowsOf (now words) .size) × (cursor .row < rowsOf (now words) .size) ⌝ }
-    ensures { λ r. ⌜ r ≡ segmentRow (rowsOf (now (words .entry))) event group row which (cursor .segment) (cursor .row) ⌝ }
+    spans: &[usize],
+    slot: Slot,
+    out: &mut [u8],
+) -> usize
+    requires { ⌜ (table ≡ countsOf (rowsOf (now words))) × Spanned (rowsOf (now words)) (now spans) × (slot .row < rowsOf (now words) .size) ⌝ }
+    requires { ⌜ rowLength width * hypothesisCount (rowsOf (now words)) slot ≤ length (now out) ⌝ }
+    ensures { λ r. ⌜ r ≡ rowLength width * hypothesisCount (rowsOf (now (words .entry))) slot ⌝ }
+    ensures { λ _. ⌜ now (out .exit) ≡ over (rowsBytes (hypothesisRows (rowsOf (now (words .entry))) slot)) (now (out .entry)) ⌝ }
 {
-    let segment = cursor.segment;
-    let at = cursor.row;
-    let entry = segment_entry(words, table, event, group, row, which, segment, at);
-    entry_row(segment_tag(segment), entry)
+    let mut cursor = seek_entry(words, table, spans, slot, Cursor::start(0));
+    let mut at = 0;
+    while cursor.segment < Segment::COUNT {
+        let entry = segment_entry(words, table, spans, slot, cursor.segment, cursor.row);
+        entry_row(tags::HYPOTHESIS, entry).write(&mut out[at..]);
+        cursor = seek_entry(words, table, spans, slot, cursor.passing());
+        at += Row::LENGTH;
+    }
+    at
 }
 
-// Writes a slot's sequent without its header: rows 81 for the hypotheses, then row 82 for the goal.
+// Writes a slot's sequent without its header: rows 81 for the hypotheses, then row 82 for the goal; and says how many bytes they are.
 pub fn write_entries(
     words: &[u64],
     table: Table,
-    event: u64,
-    group: u64,
-    row: usize,
-    which: u64,
+    spans: &[usize],
+    slot: Slot,
     out: &mut [u8],
-)
-    requires { ⌜ (table ≡ countsOf (rowsOf (now words))) × (row < rowsOf (now words) .size) ⌝ }
-    requires { ⌜ rowLength width * entriesTo (rowsOf (now words)) event group row segments 0 ≤ length (now out) ⌝ }
-    ensures { λ _. ⌜ now (out .exit) ≡ over (rowsBytes (entryRows (rowsOf (now (words .entry))) event group row which)) (now (out .entry)) ⌝ }
+) -> usize
+    requires { ⌜ (table ≡ countsOf (rowsOf (now words))) × Spanned (rowsOf (now words)) (now spans) × (slot .row < rowsOf (now words) .size) ⌝ }
+    requires { ⌜ rowLength width * (hypothesisCount (rowsOf (now words)) slot + 1) ≤ length (now out) ⌝ }
+    ensures { λ r. ⌜ r ≡ rowLength width * (hypothesisCount (rowsOf (now (words .entry))) slot + 1) ⌝ }
+    ensures { λ _. ⌜ now (out .exit) ≡ over (rowsBytes (entryRows (rowsOf (now (words .entry))) slot)) (now (out .entry)) ⌝ }
 {
-    let mut cursor = seek_entry(words, table, event, group, row, Cursor::start(0));
-    let mut at = 0;
-    while cursor.segment < Cursor::END {
-        row_at(words, table, event, group, row, which, cursor).write(&mut out[at..]);
-        cursor = seek_entry(words, table, event, group, row, cursor.passing());
-        at += Row::LENGTH;
-    }
+    let at = write_hypotheses(words, table, spans, slot, out);
+    let goal = goal_at(words, table, spans, slot);
+    entry_row(tags::GOAL, goal).write(&mut out[at..]);
+    at + Row::LENGTH
 }

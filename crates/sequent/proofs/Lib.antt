@@ -1,12 +1,7 @@
 pub mod Blocks
 pub mod Exact
-pub mod Find
-pub mod Groups
 pub mod Numbers
 pub mod Ordered
 pub mod Parts
 pub mod Places
-pub mod Seek
-pub mod Segments
-pub mod Walk
 pub mod Entries

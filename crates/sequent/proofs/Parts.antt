@@ -1,10 +1,10 @@
--- Names for the parts of an event's sequents, in the list's order, for the laws that go part by part.
-use mathlib.Core.Path.{_≡_, refl}
-use mathlib.Core.List.{List, _++_, map, flatMap}
+-- Names for the parts of an event's sequents, in the list's order, for the laws that go part by part; and formulas in order as two parts.
+use mathlib.Core.Path.{_≡_, refl, sym, ap, ap₂, _∙_}
+use mathlib.Core.List.{List, [], _∷_, _++_, map, flatMap, append-assoc, append-nil}
 use Prim.Native.Nat.{ℕ}
 use Rattle.machine.specs.Machine.{Role, Machine}
-use Rattle.sequent.specs.Entry.{natural, decreases}
-use Rattle.sequent.specs.Sequent.{Sequent, sequent, NAT, VAR}
+use Rattle.sequent.specs.Entry.{Entry, written, defined, natural, decreases}
+use Rattle.sequent.specs.Sequent.{Sequent, sequent, WD, NAT, VAR}
 use Rattle.sequent.specs.Listed.{inOrder, actionWD, actionFIS, matching, refined, base, guarded, moved}
 use Rattle.sequent.specs.Listed.{witnessSequents, grd, sim, inv, variantSequents, eventSequents}
 use Rattle.sequent.specs.Required.{ownVariables}
@@ -56,3 +56,12 @@ module _ (m : Machine) (ro : Role) (e : ℕ) where
   pub eventSequents-parts : eventSequents m e ro ≡ guardWDs ++ fromActions
   unfolding eventSequents
   eventSequents-parts = refl
+
+-- formulas of which each is defined under those before it: those of a second list under all of the first
+pub inOrder-join : (e : ℕ) (hs : List Entry) (rs qs : List ℕ) → inOrder e hs (rs ++ qs) ≡ inOrder e hs rs ++ inOrder e (hs ++ map written rs) qs
+unfolding inOrder
+inOrder-join e hs [] qs = ap (λ gs. inOrder e gs qs) (sym (append-nil hs))
+inOrder-join e hs (r ∷ rs) qs =
+    ap (λ ss. sequent WD e r hs (defined r) ∷ ss)
+    (inOrder-join e (hs ++ (written r ∷ [])) rs qs
+    ∙ ap (λ gs. inOrder e (hs ++ (written r ∷ [])) rs ++ inOrder e gs qs) (append-assoc hs (written r ∷ []) (map written rs)))

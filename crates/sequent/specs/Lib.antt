@@ -4,7 +4,5 @@ pub mod Sequent
 pub mod Listed
 pub mod Required
 pub mod Order
-pub mod Walk
-pub mod Segments
 pub mod Formed
 pub mod Forms

@@ -6,12 +6,19 @@ use Rattle.sequent.specs.Entry.{Entry, written, primed, defined, moves, 
 abbrev pub numbers : ℕ → ℕ → ℕ → Numbers
 numbers form a b = record { form = form; first = a; second = b }
 
+-- the forms of hypotheses
+abbrev pub writtenForm : ℕ
+writtenForm = 1
+
+abbrev pub movesForm : ℕ
+movesForm = 4
+
 -- "Forms 1, 2, 3, 7, 8 name a root, then 0."
 abbrev pub numbersOf : Entry → Numbers
-numbersOf (written r) = numbers 1 r 0
+numbersOf (written r) = numbers writtenForm r 0
 numbersOf (primed r) = numbers 2 r 0
 numbersOf (defined r) = numbers 3 r 0
-numbersOf (moves e x) = numbers 4 e x
+numbersOf (moves e x) = numbers movesForm e x
 numbersOf (feasible e x) = numbers 5 e x
 numbersOf (witnessed e x) = numbers 6 e x
 numbersOf (natural r) = numbers 7 r 0

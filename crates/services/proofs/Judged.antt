@@ -1,4 +1,4 @@
--- A table that is judged accepted has tags that never fall, and is accepted with the count of its sequents.
+-- A table that is judged accepted is accepted with the count of its sequents.
 use Prim.Native.Nat.{ℕ, _+_, _≤_, _<_}
 use mathlib.Core.Path.{_≡_, refl, sym, ap, _∙_}
 use mathlib.Core.Bool.{Bool, true, false}
@@ -26,12 +26,6 @@ module _ (t : Rows) (n : ℕ) (accepted : judge t ≡ Accepted n) where
       by-test : (b : Bool) → ltb (firstCheck t) 12 ≡ b → 12 ≤ firstCheck t
       by-test true p = absurd (not-refused _ _ (judge-row t (ltb-true (firstCheck t) 12 p)))
       by-test false p = ltb-false (firstCheck t) 12 p
-
-  pub judged-rising : Rising t
-  unfolding firstCheck offends
-  judged-rising =
-      let none : ltb (firstRow t 3) (t .size) ≡ false = first-least (λ check. ltb (firstRow t check) (t .size)) 9 3 .before 3 (omega arith) (omega (arith, no-check)) in
-      rows-rising t (λ i h. first-least (offends t 3) (t .size) 0 .before i (omega arith) (omega (arith, ltb-false (firstRow t 3) (t .size) none)))
 
   pub judged-count : n ≡ length (sequents (machineOf t))
   judged-count = by-test (missing t) refl

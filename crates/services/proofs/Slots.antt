@@ -1,5 +1,5 @@
 -- A slot's sequent as rows: its header, then its entries; how many they are; and which entry is spelled.
-use Prim.Native.Nat.{ℕ, _+_, _-_, _*_, _/_, _≤_, _<_}
+use Prim.Native.Nat.{ℕ, zero, suc, _+_, _-_, _*_, _/_, _≤_, _<_}
 use mathlib.Core.Path.{_≡_, refl, sym, ap, ap₂, _∙_}
 use mathlib.Core.Bool.{Bool, true, false, not, _&&_, true≢false}
 use mathlib.Core.List.{List, [], _∷_, _++_, map, flatMap}
@@ -17,59 +17,55 @@ use Rattle.sequent.specs.declared.Entry.{Entry as Numbers}
 use Rattle.sequent.specs.Entry.{written, formula}
 use Rattle.sequent.specs.Numbers.{numbersOf}
 use Rattle.sequent.specs.Forms.{entryOf}
-use Rattle.sequent.specs.Segments.{segments, headerKind, headerItem, entryWalk, entriesTo}
 use Rattle.sequent.proofs.Numbers.{entry-of-numbers}
-use Rattle.sequent.proofs.Segments.{entry-walk}
-use Rattle.sequent.proofs.Seek.{entries-end}
 use Rattle.reply.specs.declared.Reply.the-variants as reply
-use Rattle.reply.specs.Printed.{row, entryRow, sequentRows, rowsBytes}
+use Rattle.reply.specs.Printed.{entryRow, sequentRows, rowsBytes}
 use Rattle.reply.specs.Spelled.{spell}
 use Rattle.reply.specs.Replies.{Outcome, refused, writeRows, among, entries, spellAt}
-use Rattle.entries.specs.Written.{entryRows}
+use Rattle.entries.specs.Segments.{hypothesisWalk, goalAt, slotSequent, hypothesisCount}
+use Rattle.entries.specs.Seek.{entryAt}
+use Rattle.entries.specs.Written.{hypothesisRows, entryRows}
+use Rattle.entries.proofs.Seek.{walk-length}
 use Rattle.reply.proofs.Printed.{rows-length}
 use Rattle.spell.specs.Spell.{entryRows as spelledRows}
 use Rattle.walk.specs.declared.Slot.{Slot}
-use Rattle.services.specs.Found.{slotSequentOf}
+use Rattle.services.specs.Found.{headerRow}
 
 module _ (t : Rows) (s : Slot) where
-  abbrev pub headerRow : Row
-  headerRow = row 80 (headerKind (s .group) (s .left)) (s .event) (headerItem t (s .event) (s .group) (s .row) (s .left))
-
-  pub slot-bytes : rowsBytes (sequentRows (slotSequentOf t s)) ≡ rowBytes width headerRow ++ rowsBytes (entryRows t (s .event) (s .group) (s .row) (s .left))
-  unfolding sequentRows rowsBytes entryRows flatMap
+  pub slot-bytes : rowsBytes (sequentRows (slotSequent t s)) ≡ rowBytes width (headerRow t s) ++ rowsBytes (entryRows t s)
+  unfolding sequentRows rowsBytes entryRows hypothesisRows flatMap
   slot-bytes = refl
 
-  module _ (h : s .row < t .size) where
-    pub slot-entries : entries (slotSequentOf t s) ≡ entryWalk t (s .event) (s .group) (s .row) (s .left)
-    slot-entries = sym (entry-walk t (s .event) (s .group) (s .row) (s .left) h)
+  pub entries-count : length (entries (slotSequent t s)) ≡ hypothesisCount t s + 1
+  entries-count = length-append (hypothesisWalk t s) (goalAt t s ∷ []) ∙ ap (λ n. n + 1) (walk-length t s)
 
-    pub entries-count : length (entries (slotSequentOf t s)) ≡ entriesTo t (s .event) (s .group) (s .row) segments 0
-    entries-count = ap length slot-entries ∙ entries-end t (s .event) (s .group) (s .row) (s .left)
+  pub rows-count : length (sequentRows (slotSequent t s)) ≡ 2 + hypothesisCount t s
+  unfolding sequentRows
+  rows-count =
+      let rows : length (map (entryRow 81) (hypothesisWalk t s) ++ (entryRow 82 (goalAt t s) ∷ [])) ≡ hypothesisCount t s + 1 =
+      length-append (map (entryRow 81) (hypothesisWalk t s)) (entryRow 82 (goalAt t s) ∷ []) ∙ ap (λ n. n + 1) (length-map (hypothesisWalk t s) (entryRow 81) ∙ walk-length t s) in
+      omega (arith, rows)
 
-    pub rows-count : length (sequentRows (slotSequentOf t s)) ≡ 1 + entriesTo t (s .event) (s .group) (s .row) segments 0
-    unfolding sequentRows
-    rows-count =
-        let hs = slotSequentOf t s .hypotheses in
-        let g = slotSequentOf t s .goal in
-        let rows : length (map (entryRow 81) hs ++ (entryRow 82 g ∷ [])) ≡ length (entries (slotSequentOf t s)) =
-        length-append (map (entryRow 81) hs) (entryRow 82 g ∷ []) ∙ ap (λ n. n + 1) (length-map hs (entryRow 81)) ∙ sym (length-append hs (g ∷ [])) in
-        omega (arith, rows, entries-count)
+  -- refusal 14, and the entry that is spelled
+  pub no-entry : (j n : ℕ) (out : List ℕ) → n ≡ hypothesisCount t s + 1 → among j n ≡ false → spellAt (machineOf t) (slotSequent t s) j out ≡ refused 14 0 out
+  no-entry j n out e p = not-chosen (among j (length (entries (slotSequent t s)))) _ _ (ap (among j) (entries-count ∙ sym e) ∙ p)
 
-    -- refusal 14, and the entry that is spelled
-    pub no-entry : (j n : ℕ) (out : List ℕ) → n ≡ entriesTo t (s .event) (s .group) (s .row) segments 0 → among j n ≡ false
-        → spellAt (machineOf t) (slotSequentOf t s) j out ≡ refused 14 0 out
-    no-entry j n out e p = not-chosen (among j (length (entries (slotSequentOf t s)))) _ _ (ap (among j) (entries-count ∙ sym e) ∙ p)
+  pub an-entry : (j n : ℕ) (out : List ℕ) → n ≡ hypothesisCount t s + 1 → among j n ≡ true
+      → spellAt (machineOf t) (slotSequent t s) j out ≡ writeRows (spell (formula (machineOf t) (getD (entries (slotSequent t s)) (j - 1) (written 0)))) out
+  an-entry j n out e p = chosen (among j (length (entries (slotSequent t s)))) _ _ (ap (among j) (entries-count ∙ sym e) ∙ p)
 
-    pub an-entry : (j n : ℕ) (out : List ℕ) → n ≡ entriesTo t (s .event) (s .group) (s .row) segments 0 → among j n ≡ true
-        → spellAt (machineOf t) (slotSequentOf t s) j out ≡ writeRows (spell (formula (machineOf t) (getD (entries (slotSequentOf t s)) (j - 1) (written 0)))) out
-    an-entry j n out e p = chosen (among j (length (entries (slotSequentOf t s)))) _ _ (ap (among j) (entries-count ∙ sym e) ∙ p)
+  -- behind the hypotheses stands the goal
+  last-entry : {A : Type 0} (xs : List A) (x d : A) (k : ℕ) → k ≤ length xs → getD (xs ++ (x ∷ [])) k d ≡ getD xs k x
+  last-entry [] x d k h = let e : k ≡ 0 = omega arith in ap (λ k. getD (x ∷ []) k d) e ∙ sym (ap (λ k. getD [] k x) e)
+  last-entry (y ∷ ys) x d zero h = refl
+  last-entry (y ∷ ys) x d (suc k) h = last-entry ys x d k (omega arith)
 
-    pub spelled-entry : (j : ℕ) (entry : Numbers) → entry ≡ numbersOf (getD (entryWalk t (s .event) (s .group) (s .row) (s .left)) (j - 1) (written 0))
-        → spell (formula (machineOf t) (getD (entries (slotSequentOf t s)) (j - 1) (written 0))) ≡ spelledRows t entry
-    unfolding spelledRows
-    spelled-entry j entry e =
-        ap (λ x. spell (formula (machineOf t) x))
-        (ap (λ hs. getD hs (j - 1) (written 0)) slot-entries ∙ sym (ap entryOf e ∙ entry-of-numbers (getD (entryWalk t (s .event) (s .group) (s .row) (s .left)) (j - 1) (written 0))))
+  pub spelled-entry : (j : ℕ) (entry : Numbers) → j - 1 ≤ hypothesisCount t s → entry ≡ numbersOf (entryAt t s (j - 1))
+      → spell (formula (machineOf t) (getD (entries (slotSequent t s)) (j - 1) (written 0))) ≡ spelledRows t entry
+  unfolding spelledRows
+  spelled-entry j entry h e =
+      ap (λ x. spell (formula (machineOf t) x))
+      (last-entry (hypothesisWalk t s) (goalAt t s) (written 0) (j - 1) (omega (arith, walk-length t s)) ∙ sym (ap entryOf e ∙ entry-of-numbers (entryAt t s (j - 1))))
 
 -- whether rows have room, by their number
 pub no-room : (rs : List Row) (out : List ℕ) → length out / 38 < length rs → writeRows rs out ≡ refused 15 0 out

@@ -7,11 +7,13 @@ use Rattle.machine.specs.Machine.{Machine}
 use Rattle.machine.specs.Described.{machineOf}
 use Rattle.sequent.specs.Sequent.{Sequent}
 use Rattle.sequent.specs.Listed.{sequents}
-use Rattle.sequent.specs.Segments.{slotSequent}
 use Rattle.rules.specs.declared.Verdict.{Verdict}
+use Rattle.row.specs.declared.Row.{Row}
 use Rattle.walk.specs.declared.Slot.{Slot}
+use Rattle.walk.specs.Groups.{headerKind, headerItem}
+use Rattle.entries.specs.Segments.{slotSequent}
 use Rattle.reply.specs.declared.Reply.{Reply}
-use Rattle.reply.specs.Printed.{sequentRows}
+use Rattle.reply.specs.Printed.{row, sequentRows}
 use Rattle.reply.specs.Replies.{Outcome, writeRows, sequentAt, withSequent, spellAt}
 use Rattle.services.specs.declared.Request.{Request}
 use Rattle.services.specs.declared.Request.the-variants as request
@@ -19,13 +21,14 @@ use Rattle.services.specs.declared.Request.the-variants as request
 abbrev pub outcome : Reply → List ℕ → Outcome
 outcome r out = record { reply = r; buffer = out }
 
-abbrev pub slotSequentOf : Rows → Slot → Sequent
-slotSequentOf t s = slotSequent t (s .event) (s .group) (s .row) (s .left)
+-- "row 80 (kind, event or 0, item)"
+abbrev pub headerRow : Rows → Slot → Row
+headerRow t s = row 80 (headerKind t (s .event) (s .group) (s .left)) (s .event) (headerItem t (s .event) (s .group) (s .row) (s .left))
 
 -- a slot that holds sequent k
 pub record Located (t : Rows) (k : ℕ) (s : Slot) : Type 0 where
   pub row : s .row < t .size
-  pub holds : sequentAt (sequents (machineOf t)) k ≡ slotSequentOf t s
+  pub holds : sequentAt (sequents (machineOf t)) k ≡ slotSequent t s
 
 -- what is asked of a sequent of the machines m, and of sequent k
 abbrev pub serveAt : Machine → Request → List ℕ → Sequent → Outcome

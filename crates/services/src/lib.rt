@@ -1,19 +1,22 @@
 // 01, Sequents: "write sequent k, spell entry j of sequent k (goal last)". check is the crate verdict's.
 use entries::count_entries;
 use entries::entry_at;
-use entries::header_item;
-use entries::header_kind;
 use entries::write_entries;
 use reply::Reply;
+use reply::tags;
 use row::Row;
 use rules::Verdict;
+use scan::Span;
+use scan::fill_spans;
 use spell::spell;
 use table::Table;
 use table::among;
 use verdict::Loaded;
-use verdict::judge;
+use verdict::judge_with;
 use verdict::load;
 use walk::Slot;
+use walk::header_item;
+use walk::header_kind;
 use walk::seek;
 ghost use mathlib.Core.Path.{_≡_};
 ghost use Prim.Native.Nat.{_+_, _*_, _<_, _≤_};
@@ -21,85 +24,86 @@ ghost use lib.ListN.{length};
 ghost use Rattle.lists.specs.Over.{over};
 ghost use Rattle.row.specs.Row.{width, rowLength};
 ghost use Rattle.table.specs.Lookups.{mostWords};
-ghost use Rattle.table.specs.Rows.{rowsOf, Rising};
+ghost use Rattle.table.specs.Rows.{rowsOf};
 ghost use Rattle.table.specs.Counts.{countsOf};
+ghost use Rattle.scan.specs.Spans.{Spanned};
 ghost use Rattle.machine.specs.Described.{machineOf};
 ghost use Rattle.sequent.specs.Listed.{sequents};
-ghost use Rattle.sequent.specs.Segments.{segments, entriesTo};
+ghost use Rattle.entries.specs.Segments.{slotSequent, hypothesisCount};
 ghost use Rattle.rules.specs.declared.Verdict.the-variants.{Accepted};
 ghost use Rattle.rules.specs.Verdict.{judge as judgeOf, verdict as verdictOf};
 ghost use Rattle.rules.specs.Offence.{machine};
 ghost use Rattle.reply.specs.Printed.{sequentRows, rowsBytes};
 ghost use Rattle.reply.specs.Replies.{writeRows, spellAt, writeSequent, spellEntry};
-ghost use Rattle.services.specs.Found.{slotSequentOf, outcome, Located, serveAt, serveBy};
+ghost use Rattle.services.specs.Found.{headerRow, outcome, Located, serveAt, serveBy};
 
 // The slot of sequent k, and which of its sequents it is.
-pub fn find_sequent(words: &[u64], table: Table, k: u64) -> Slot
-    requires { ⌜ (table ≡ countsOf (rowsOf (now words))) × (1 ≤ k) × (k ≤ length (sequents (machineOf (rowsOf (now words))))) ⌝ }
-    requires { ⌜ Rising (rowsOf (now words)) ⌝ }
+pub fn find_sequent(words: &[u64], table: Table, spans: &[usize], k: u64) -> Slot
+    requires { ⌜ (table ≡ countsOf (rowsOf (now words))) × Spanned (rowsOf (now words)) (now spans) ⌝ }
+    requires { ⌜ (1 ≤ k) × (k ≤ length (sequents (machineOf (rowsOf (now words))))) ⌝ }
     ensures { λ r. ⌜ Located (rowsOf (now (words .entry))) k r ⌝ }
 {
-    seek(words, table, Slot::start(k - 1))
+    seek(words, table, spans, Slot::start(k - 1))
 }
 
-// Writes a slot's sequent: row 80, then its entries into what is left of the buffer.
-pub fn write_slot(words: &[u64], table: Table, slot: Slot, out: &mut [u8])
-    requires { ⌜ (table ≡ countsOf (rowsOf (now words))) × (slot .row < rowsOf (now words) .size) ⌝ }
-    requires { ⌜ rowLength width * (1 + entriesTo (rowsOf (now words)) (slot .event) (slot .group) (slot .row) segments 0) ≤ length (now out) ⌝ }
-    ensures { λ _. ⌜ now (out .exit) ≡ over (rowsBytes (sequentRows (slotSequentOf (rowsOf (now (words .entry))) slot))) (now (out .entry)) ⌝ }
+// The row 80 of a slot's sequent.
+fn header(words: &[u64], table: Table, spans: &[usize], slot: Slot) -> Row
+    requires { ⌜ (table ≡ countsOf (rowsOf (now words))) × Spanned (rowsOf (now words)) (now spans) × (slot .row < rowsOf (now words) .size) ⌝ }
+    ensures { λ r. ⌜ r ≡ headerRow (rowsOf (now (words .entry))) slot ⌝ }
 {
-    let event = slot.event;
-    let group = slot.group;
-    let i = slot.row;
-    let which = slot.left;
-    let item = header_item(words, event, group, i, which);
-    let header = Row {
-        tag: 80,
-        a: header_kind(group, which),
-        b: event,
+    let item = header_item(words, table, spans, slot);
+    Row {
+        tag: tags::SEQUENT,
+        a: header_kind(words, table, slot),
+        b: slot.event,
         c: item,
-    };
-    header.write(out);
-    write_entries(
-        words,
-        table,
-        event,
-        group,
-        i,
-        which,
-        &mut out[Row::LENGTH..],
-    );
+    }
+}
+
+// Writes a slot's sequent: row 80, then its entries into what is left of the buffer; and says how many bytes they are.
+pub fn write_slot(words: &[u64], table: Table, spans: &[usize], slot: Slot, out: &mut [u8]) -> usize
+    requires { ⌜ (table ≡ countsOf (rowsOf (now words))) × Spanned (rowsOf (now words)) (now spans) × (slot .row < rowsOf (now words) .size) ⌝ }
+    requires { ⌜ rowLength width * (2 + hypothesisCount (rowsOf (now words)) slot) ≤ length (now out) ⌝ }
+    ensures { λ r. ⌜ r ≡ rowLength width * (2 + hypothesisCount (rowsOf (now (words .entry))) slot) ⌝ }
+    ensures { λ _. ⌜ now (out .exit) ≡ over (rowsBytes (sequentRows (slotSequent (rowsOf (now (words .entry))) slot))) (now (out .entry)) ⌝ }
+{
+    header(words, table, spans, slot).write(out);
+    Row::LENGTH + write_entries(words, table, spans, slot, &mut out[Row::LENGTH..])
 }
 
 // Writes a slot's sequent where the buffer has room for it.
-fn write_found(words: &[u64], table: Table, slot: Slot, out: &mut [u8]) -> Reply
-    requires { ⌜ (table ≡ countsOf (rowsOf (now words))) × (slot .row < rowsOf (now words) .size) ⌝ }
-    ensures { λ r. ⌜ outcome r (now (out .exit)) ≡ writeRows (sequentRows (slotSequentOf (rowsOf (now (words .entry))) slot)) (now (out .entry)) ⌝ }
+fn write_found(words: &[u64], table: Table, spans: &[usize], slot: Slot, out: &mut [u8]) -> Reply
+    requires { ⌜ (table ≡ countsOf (rowsOf (now words))) × Spanned (rowsOf (now words)) (now spans) × (slot .row < rowsOf (now words) .size) ⌝ }
+    ensures { λ r. ⌜ outcome r (now (out .exit)) ≡ writeRows (sequentRows (slotSequent (rowsOf (now (words .entry))) slot)) (now (out .entry)) ⌝ }
 {
-    let entries = count_entries(words, table, slot.event, slot.group, slot.row);
+    let entries = count_entries(words, table, spans, slot);
     if ((out.len() / Row::LENGTH) as u64) <= entries {
-        return Reply::Refused(15, 0);
+        return Reply::Refused(Reply::ROOM, 0);
     }
-    write_slot(words, table, slot, out);
+    write_slot(words, table, spans, slot, out);
     Reply::Written(entries + 1)
 }
 
 // Spells an entry where the buffer has room for it. The first call counts its rows: a buffer of one byte has room for none.
-fn spell_found(words: &[u64], table: Table, slot: Slot, j: u64, out: &mut [u8]) -> Reply
-    requires { ⌜ (table ≡ countsOf (rowsOf (now words))) × (slot .row < rowsOf (now words) .size) ⌝ }
-    ensures { λ r. ⌜ outcome r (now (out .exit)) ≡ spellAt (machineOf (rowsOf (now (words .entry)))) (slotSequentOf (rowsOf (now (words .entry))) slot) j (now (out .entry)) ⌝ }
+fn spell_found(
+    words: &[u64],
+    table: Table,
+    spans: &[usize],
+    slot: Slot,
+    j: u64,
+    out: &mut [u8],
+) -> Reply
+    requires { ⌜ (table ≡ countsOf (rowsOf (now words))) × Spanned (rowsOf (now words)) (now spans) × (slot .row < rowsOf (now words) .size) ⌝ }
+    ensures { λ r. ⌜ outcome r (now (out .exit)) ≡ spellAt (machineOf (rowsOf (now (words .entry)))) (slotSequent (rowsOf (now (words .entry))) slot) j (now (out .entry)) ⌝ }
 {
-    let event = slot.event;
-    let group = slot.group;
-    let i = slot.row;
-    if !among(j, count_entries(words, table, event, group, i)) {
-        return Reply::Refused(14, 0);
+    if !among(j, count_entries(words, table, spans, slot)) {
+        return Reply::Refused(Reply::ENTRY, 0);
     }
-    let entry = entry_at(words, table, event, group, i, slot.left, j - 1);
+    let entry = entry_at(words, table, spans, slot, j - 1);
     let mut none = [0u8; 1];
     let rows = spell(words, table, entry, &mut none);
     if ((out.len() / Row::LENGTH) as u64) < rows {
-        return Reply::Refused(15, 0);
+        return Reply::Refused(Reply::ROOM, 0);
     }
     spell(words, table, entry, out);
     Reply::Written(rows)
@@ -112,37 +116,70 @@ pub enum Request {
 }
 
 // Does what is asked of the sequent in a slot.
-fn serve_found(words: &[u64], table: Table, slot: Slot, request: Request, out: &mut [u8]) -> Reply
-    requires { ⌜ (table ≡ countsOf (rowsOf (now words))) × (slot .row < rowsOf (now words) .size) ⌝ }
-    ensures { λ r. ⌜ outcome r (now (out .exit)) ≡ serveAt (machineOf (rowsOf (now (words .entry)))) request (now (out .entry)) (slotSequentOf (rowsOf (now (words .entry))) slot) ⌝ }
+fn serve_found(
+    words: &[u64],
+    table: Table,
+    spans: &[usize],
+    slot: Slot,
+    request: Request,
+    out: &mut [u8],
+) -> Reply
+    requires { ⌜ (table ≡ countsOf (rowsOf (now words))) × Spanned (rowsOf (now words)) (now spans) × (slot .row < rowsOf (now words) .size) ⌝ }
+    ensures { λ r. ⌜ outcome r (now (out .exit)) ≡ serveAt (machineOf (rowsOf (now (words .entry)))) request (now (out .entry)) (slotSequent (rowsOf (now (words .entry))) slot) ⌝ }
 {
     match request {
-        Request::Write => write_found(words, table, slot, out),
-        Request::Spell(j) => spell_found(words, table, slot, j, out),
+        Request::Write => write_found(words, table, spans, slot, out),
+        Request::Spell(j) => spell_found(words, table, spans, slot, j, out),
     }
 }
 
 // Does what is asked of sequent k of an accepted table with so many sequents.
-fn serve_accepted(words: &[u64], count: u64, k: u64, request: Request, out: &mut [u8]) -> Reply
+fn serve_accepted(
+    words: &[u64],
+    table: Table,
+    spans: &[usize],
+    count: u64,
+    k: u64,
+    request: Request,
+    out: &mut [u8],
+) -> Reply
+    requires { ⌜ (table ≡ countsOf (rowsOf (now words))) × Spanned (rowsOf (now words)) (now spans) ⌝ }
     requires { ⌜ judgeOf (rowsOf (now words)) ≡ Accepted count ⌝ }
     ensures { λ r. ⌜ outcome r (now (out .exit)) ≡ serveBy (machineOf (rowsOf (now (words .entry)))) (Accepted count) k request (now (out .entry)) ⌝ }
 {
     if !among(k, count) {
-        return Reply::Refused(13, 0);
+        return Reply::Refused(Reply::SEQUENT, 0);
     }
-    let table = Table::of(words);
-    serve_found(words, table, find_sequent(words, table, k), request, out)
+    let slot = find_sequent(words, table, spans, k);
+    serve_found(words, table, spans, slot, request, out)
 }
 
 // Does what is asked of sequent k of the table of these rows, where it is accepted.
+fn serve_judged(
+    words: &[u64],
+    table: Table,
+    spans: &[usize],
+    k: u64,
+    request: Request,
+    out: &mut [u8],
+) -> Reply
+    requires { ⌜ (table ≡ countsOf (rowsOf (now words))) × Spanned (rowsOf (now words)) (now spans) × (length (now words) ≤ mostWords) ⌝ }
+    ensures { λ r. ⌜ outcome r (now (out .exit)) ≡ serveBy (machineOf (rowsOf (now (words .entry)))) (judgeOf (rowsOf (now (words .entry)))) k request (now (out .entry)) ⌝ }
+{
+    match judge_with(words, table, spans) {
+        Verdict::Refused(number, row) => Reply::Refused(number, row),
+        Verdict::Accepted(count) => serve_accepted(words, table, spans, count, k, request, out),
+    }
+}
+
+// The same, of the rows alone: their counts and spans are looked for once.
 fn serve_rows(words: &[u64], k: u64, request: Request, out: &mut [u8]) -> Reply
     requires { ⌜ length (now words) ≤ mostWords ⌝ }
     ensures { λ r. ⌜ outcome r (now (out .exit)) ≡ serveBy (machineOf (rowsOf (now (words .entry)))) (judgeOf (rowsOf (now (words .entry)))) k request (now (out .entry)) ⌝ }
 {
-    match judge(words) {
-        Verdict::Refused(number, row) => Reply::Refused(number, row),
-        Verdict::Accepted(count) => serve_accepted(words, count, k, request, out),
-    }
+    let mut spans = [0usize; Span::WORDS];
+    fill_spans(words, &mut spans);
+    serve_judged(words, Table::of(words), &spans, k, request, out)
 }
 
 // Does what is asked of sequent k of a table.

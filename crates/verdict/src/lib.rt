@@ -6,6 +6,8 @@ use fault::first_row;
 use row::Row;
 use rule_missing::missing;
 use rules::Verdict;
+use scan::Span;
+use scan::fill_spans;
 use table::Table;
 use walk::count;
 ghost use mathlib.Core.Path.{_≡_};
@@ -13,6 +15,8 @@ ghost use Prim.Native.Nat.{_^_, _≤_, _<_};
 ghost use lib.ListN.{length};
 ghost use Rattle.table.specs.Lookups.{mostWords};
 ghost use Rattle.table.specs.Rows.{rowsOf};
+ghost use Rattle.table.specs.Counts.{countsOf};
+ghost use Rattle.scan.specs.Spans.{Spanned};
 ghost use Rattle.rules.specs.Verdict.{judge as judgeOf, verdict as verdictOf};
 ghost use Rattle.verdict.specs.Loaded.{endRow, loadedRows, loadedOf, loadedWords};
 
@@ -48,12 +52,11 @@ pub fn load(bytes: &[u8], words: &mut [u64]) -> Loaded
     after_decoding(decode(bytes, bytes.len() / Row::LENGTH, words))
 }
 
-// Checks 3 to 12, and the count of the sequents where none offends.
-pub fn judge(words: &[u64]) -> Verdict
-    requires { ⌜ length (now words) ≤ mostWords ⌝ }
+// Checks 3 to 12, and the count of the sequents where none offends, by the counts and the spans of the rows.
+pub fn judge_with(words: &[u64], table: Table, spans: &[usize]) -> Verdict
+    requires { ⌜ (table ≡ countsOf (rowsOf (now words))) × Spanned (rowsOf (now words)) (now spans) × (length (now words) ≤ mostWords) ⌝ }
     ensures { λ r. ⌜ r ≡ judgeOf (rowsOf (now (words .entry))) ⌝ }
 {
-    let table = Table::of(words);
     let check = first_check(words, table);
     if check < Verdict::MISSING {
         return Verdict::Refused(check, first_row(words, table, check) as u64 + 1);
@@ -61,7 +64,17 @@ pub fn judge(words: &[u64]) -> Verdict
     if missing(words, table) {
         return Verdict::Refused(Verdict::MISSING, 0);
     }
-    Verdict::Accepted(count(words, table))
+    Verdict::Accepted(count(words, table, spans))
+}
+
+// The same, of the rows alone.
+pub fn judge(words: &[u64]) -> Verdict
+    requires { ⌜ length (now words) ≤ mostWords ⌝ }
+    ensures { λ r. ⌜ r ≡ judgeOf (rowsOf (now (words .entry))) ⌝ }
+{
+    let mut spans = [0usize; Span::WORDS];
+    fill_spans(words, &mut spans);
+    judge_with(words, Table::of(words), &spans)
 }
 
 // "check (accepts a table by giving the count of sequents)"

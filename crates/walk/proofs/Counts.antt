@@ -5,10 +5,10 @@ use mathlib.Core.Logic.{_⊎_, inl, inr}
 use native.Mathlib.Omega.{arith}
 use native.Mathlib.Nat.{mul-le-mul}
 use Rattle.table.specs.Rows.{Rows, count}
-use Rattle.sequent.specs.Walk.{groups, slotCount, walkTo, walkCount}
-use Rattle.sequent.proofs.Find.{walk-start, walk-end, walk-reaches, walk-at-most}
 use Rattle.walk.specs.declared.Slot.{Slot}
-use Rattle.walk.specs.Slots.{slotAt, Within, AtEnd, position, SoughtSlot}
+use Rattle.walk.specs.Groups.{groups}
+use Rattle.walk.specs.Slots.{slotAt, walkTo, walkCount, Within, AtEnd, position, SoughtSlot}
+use Rattle.walk.proofs.Find.{walk-start, walk-end, walk-reaches, walk-at-most}
 use Rattle.walk.proofs.Slots.{events-within}
 
 module _ (t : Rows) where
@@ -19,12 +19,10 @@ module _ (t : Rows) where
       mul-le-mul {n₂ = 1725} {m₂ = groups * (1724 * 2)} (omega (arith, events-within t)) (omega arith) in
       omega (arith, walk-at-most t)
 
-  pub none-counted : t .size ≡ 0 → walkCount t ≡ 0
-  none-counted h =
-      let most : (count t 40 + 1) * (groups * (t .size * 2)) ≤ 1 * 0 = mul-le-mul {n₂ = 1} {m₂ = 0} (omega (arith, events-within t)) (omega arith) in
-      omega (arith, walk-at-most t)
+  -- the start is in the walk, and names the place that is left to pass over
+  pub start-within : (k : ℕ) → Within t (slotAt 0 0 0 k)
+  start-within k = record { event = omega arith; group = omega arith; row = omega arith }
 
-  -- the start names the place that is left to pass over
   pub start-position : (k : ℕ) → position t (slotAt 0 0 0 k) ≡ k
   start-position k = omega (arith, walk-start t)
 
@@ -36,5 +34,5 @@ module _ (t : Rows) where
       at = ap (λ e. walkTo t e (r .group) (r .row)) (x .event) ∙ ap (λ g. walkTo t (count t 40 + 1) g (r .row)) (x .group) ∙ ap (walkTo t (count t 40 + 1) 0) (x .row)
 
   pub passed-all : (many : ℕ) (r : Slot) → walkCount t < many → SoughtSlot t many r → walkCount t + r .left ≡ many
-  passed-all many r h (p, inl (w, l)) = absurd (omega (arith, walk-reaches t (r .event) (r .group) (r .row) (w .event) (w .group) (w .row)))
+  passed-all many r h (p, inl w) = absurd (omega (arith, w .left, walk-reaches t (r .event) (r .group) (r .row) (w .event) (w .group) (w .row)))
   passed-all many r h (p, inr x) = passed-end many r p x

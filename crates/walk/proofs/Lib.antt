@@ -1,3 +1,5 @@
 pub mod Counts
+pub mod Find
+pub mod Groups
 pub mod Slots
-pub mod Tests
+pub mod Walk

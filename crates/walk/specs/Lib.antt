@@ -1,2 +1,3 @@
-pub mod Actions
+pub mod Events
+pub mod Groups
 pub mod Slots

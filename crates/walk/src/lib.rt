@@ -1,67 +1,69 @@
-// 01, Sequents, "Order": the list of sequents as a walk of slots, each an event (0 for none), a group of that order and a row.
-use scan::Query;
-use scan::Span;
-use scan::find_within;
-use scan::span_of;
+// 01, "Order: WD of axioms, invariants, variant; then event by event ..": the groups of sequents, and the walk of the list, which counts and finds sequents without
+// making them. A slot is an event (0 for none), a group and a row.
+use select::Selection;
+use select::Sought;
+use select::action_row;
+use select::seek_row;
+use sequent::kind;
 use table::Table;
 use table::a_at;
+use table::b_at;
+use table::c_at;
+use table::event;
 use table::event_field;
-use table::identifier_field;
+use table::identifier;
 use table::size;
-use table::tag_at;
+use table::tag;
 ghost use mathlib.Core.Path.{_≡_};
-ghost use Prim.Native.Nat.{_+_, _-_, _^_, _<_, _≤_};
-ghost use mathlib.Core.Bool.{_&&_, false};
+ghost use Prim.Native.Nat.{_+_, _-_, _≤_, _<_, _^_};
+ghost use lib.ListN.{length};
 ghost use Rattle.lists.specs.Choice.{pick};
-ghost use lib.ListN.{getD, length};
 ghost use Rattle.table.specs.Lookups.{mostWords};
-ghost use Rattle.table.specs.Rows.{rowsOf, tagged, refinedBy};
+ghost use Rattle.table.specs.Names.{guardTag, variantTag, abstractVariableKind};
+ghost use Rattle.table.specs.Rows.{rowsOf, refinedBy};
 ghost use Rattle.table.specs.Counts.{countsOf};
-ghost use Rattle.sequent.specs.Walk.{hasGroup, groupTests, isFormula, rowOfEvent, isAbstract, isRefining, isMatched, isConvergent};
-ghost use Rattle.sequent.specs.Walk.{ownKind, ownInvariantTag, identifierAt, isAssigned, becomesSuch, makes, slotCount, groups};
 ghost use Rattle.machine.specs.Described.{machineOf};
 ghost use Rattle.sequent.specs.Listed.{sequents};
-ghost use Rattle.walk.specs.Actions.{actionsOf};
-ghost use Rattle.walk.specs.Slots.{slotAt, nextSlot, InWalk, position, SoughtSlot};
-
-// "30, 31, 32 axiom, abstract invariant, concrete invariant"
-pub fn is_formula(words: &[u64], i: usize) -> bool
-    ensures { λ r. ⌜ r ≡ isFormula (rowsOf (now (words .entry))) i ⌝ }
-{
-    let tag = tag_at(words, i);
-    (tag == 30) | ((tag == 31) | (tag == 32))
-}
-
-// Whether row i is of a tag and belongs to an event.
-pub fn row_of_event(words: &[u64], tag: u64, event: u64, i: usize) -> bool
-    ensures { λ r. ⌜ r ≡ rowOfEvent (rowsOf (now (words .entry))) tag event i ⌝ }
-{
-    (tag_at(words, i) == tag) & (a_at(words, i) == event)
-}
+ghost use Rattle.scan.specs.Spans.{Spanned};
+ghost use Rattle.select.specs.declared.Selection.the-variants.{Tagged, OfEvent, Identifiers, Assigned, SuchThat};
+ghost use Rattle.select.specs.Selection.{selects};
+ghost use Rattle.select.specs.Sought.{Passed};
+ghost use Rattle.walk.specs.Events.{isAbstract, isInitial, isRefining, isMatched, isConvergent, matchedBy, ownKind, ownInvariantTag};
+ghost use Rattle.walk.specs.Groups.{groups, groupOf, when, alone, ofEvent, groupAt, groupRows, itemAt, isWFIS, headerKind, headerItem, each};
+ghost use Rattle.walk.specs.Slots.{slotAt, soughtAt, nextGroup, InWalk, position, SoughtSlot};
 
 // "machine: 1 abstract, 2 concrete"
 pub fn is_abstract(words: &[u64], table: Table, event: u64) -> bool
     requires { ⌜ table ≡ countsOf (rowsOf (now words)) ⌝ }
     ensures { λ r. ⌜ r ≡ isAbstract (rowsOf (now (words .entry))) event ⌝ }
 {
-    event_field(words, table, event, Table::MACHINE) == 1
+    event_field(words, table, event, Table::MACHINE) == event::ABSTRACT
 }
 
 // "class: 0 initialisation, 1 ordinary, 2 convergent"
-pub fn is_refining(words: &[u64], table: Table, event: u64) -> bool
+pub fn is_initial(words: &[u64], table: Table, event: u64) -> bool
+    requires { ⌜ table ≡ countsOf (rowsOf (now words)) ⌝ }
+    ensures { λ r. ⌜ r ≡ isInitial (rowsOf (now (words .entry))) event ⌝ }
+{
+    event_field(words, table, event, Table::CLASS) == event::INITIALISATION
+}
+
+fn is_refining(words: &[u64], table: Table, event: u64) -> bool
     requires { ⌜ table ≡ countsOf (rowsOf (now words)) ⌝ }
     ensures { λ r. ⌜ r ≡ isRefining (rowsOf (now (words .entry))) event ⌝ }
 {
-    !is_abstract(words, table, event) & (event_field(words, table, event, Table::CLASS) == 1)
+    !is_abstract(words, table, event)
+        & (event_field(words, table, event, Table::CLASS) == event::ORDINARY)
 }
 
 // A concrete initialisation or ordinary event.
-pub fn is_matched(words: &[u64], table: Table, event: u64) -> bool
+fn is_matched(words: &[u64], table: Table, event: u64) -> bool
     requires { ⌜ table ≡ countsOf (rowsOf (now words)) ⌝ }
     ensures { λ r. ⌜ r ≡ isMatched (rowsOf (now (words .entry))) event ⌝ }
 {
     let class = event_field(words, table, event, Table::CLASS);
-    !is_abstract(words, table, event) & ((class == 0) | (class == 1))
+    !is_abstract(words, table, event)
+        & ((class == event::INITIALISATION) | (class == event::ORDINARY))
 }
 
 pub fn is_convergent(words: &[u64], table: Table, event: u64) -> bool
@@ -69,7 +71,19 @@ pub fn is_convergent(words: &[u64], table: Table, event: u64) -> bool
     ensures { λ r. ⌜ r ≡ isConvergent (rowsOf (now (words .entry))) event ⌝ }
 {
     let class = event_field(words, table, event, Table::CLASS);
-    !is_abstract(words, table, event) & !((class == 0) | (class == 1))
+    !is_abstract(words, table, event)
+        & !((class == event::INITIALISATION) | (class == event::ORDINARY))
+}
+
+// The abstract event that an event's steps are matched by.
+pub fn matched_by(words: &[u64], table: Table, event: u64) -> u64
+    requires { ⌜ table ≡ countsOf (rowsOf (now words)) ⌝ }
+    ensures { λ r. ⌜ r ≡ matchedBy (rowsOf (now (words .entry))) event ⌝ }
+{
+    if is_initial(words, table, event) {
+        return 1;
+    }
+    event_field(words, table, event, Table::REFINED)
 }
 
 // By an event's machine: one number where it is abstract, the other where it is concrete.
@@ -88,182 +102,234 @@ pub fn own_kind(words: &[u64], table: Table, event: u64) -> u64
     requires { ⌜ table ≡ countsOf (rowsOf (now words)) ⌝ }
     ensures { λ r. ⌜ r ≡ ownKind (rowsOf (now (words .entry))) event ⌝ }
 {
-    of_machine(words, table, event, 2, 3)
+    of_machine(
+        words,
+        table,
+        event,
+        identifier::ABSTRACT_VARIABLE,
+        identifier::CONCRETE_VARIABLE,
+    )
 }
 
-// The tag of the invariants of an event's own machine.
+// The tag of its invariants.
 fn own_invariant_tag(words: &[u64], table: Table, event: u64) -> u64
     requires { ⌜ table ≡ countsOf (rowsOf (now words)) ⌝ }
     ensures { λ r. ⌜ r ≡ ownInvariantTag (rowsOf (now (words .entry))) event ⌝ }
 {
-    of_machine(words, table, event, 31, 32)
+    of_machine(
+        words,
+        table,
+        event,
+        tag::ABSTRACT_INVARIANT,
+        tag::CONCRETE_INVARIANT,
+    )
 }
 
-// Whether there is an identifier i + 1, of a kind.
-pub fn identifier_at(words: &[u64], table: Table, kind: u64, i: usize) -> bool
+// What the item of a row 80, or the number of an entry, is: a column of a row, the root of the action for the identifier that the row stands for, or that identifier.
+pub enum Item {
+    A,
+    B,
+    C,
+    Action,
+    Identifier,
+}
+
+// The item that row i gives.
+pub fn item_at(words: &[u64], spans: &[usize], item: Item, event: u64, i: usize) -> u64
+    requires { ⌜ Spanned (rowsOf (now words)) (now spans) × (i < rowsOf (now words) .size) ⌝ }
+    ensures { λ r. ⌜ r ≡ itemAt (rowsOf (now (words .entry))) item event i ⌝ }
+{
+    match item {
+        Item::A => a_at(words, i),
+        Item::B => b_at(words, i),
+        Item::C => c_at(words, i),
+        Item::Action => c_at(words, action_row(words, spans, event, i as u64 + 1)),
+        Item::Identifier => i as u64 + 1,
+    }
+}
+
+// Rows where a test passes.
+pub fn when(test: bool, rows: Selection) -> Selection
+    ensures { λ r. ⌜ r ≡ when test rows ⌝ }
+{
+    if test {
+        return rows;
+    }
+    Selection::None
+}
+
+// Rows of no event.
+fn alone(event: u64, rows: Selection) -> Selection
+    ensures { λ r. ⌜ r ≡ alone event rows ⌝ }
+{
+    if event == 0 {
+        return rows;
+    }
+    Selection::None
+}
+
+// Rows of an event.
+fn of_event(event: u64, rows: Selection) -> Selection
+    ensures { λ r. ⌜ r ≡ ofEvent event rows ⌝ }
+{
+    if event == 0 {
+        return Selection::None;
+    }
+    rows
+}
+
+// A line of 01's "Order": the kind of its sequents, the rows that they are made for, and their items.
+pub struct Group {
+    pub kind: u64,
+    pub rows: Selection,
+    pub item: Item,
+}
+
+impl Group {
+    // The groups in their order; a witness has its WD and its WFIS in one.
+    pub const AXIOM: u64 = 0;
+
+    pub const ABSTRACT_INVARIANT: u64 = 1;
+
+    pub const CONCRETE_INVARIANT: u64 = 2;
+
+    pub const VARIANT: u64 = 3;
+
+    pub const GUARD: u64 = 4;
+
+    pub const ACTION: u64 = 5;
+
+    pub const FIS: u64 = 6;
+
+    pub const WITNESS: u64 = 7;
+
+    pub const GRD: u64 = 8;
+
+    pub const SIM: u64 = 9;
+
+    pub const INV: u64 = 10;
+
+    pub const NAT: u64 = 11;
+
+    pub const VAR: u64 = 12;
+
+    pub const COUNT: u64 = 13;
+
+    fn new(kind: u64, rows: Selection, item: Item) -> Self
+        ensures { λ r. ⌜ r ≡ groupOf kind rows item ⌝ }
+    {
+        Self { kind, rows, item }
+    }
+}
+
+// The rows of a tag that belong to an event.
+fn rows_of(event: u64, tag: u64) -> Selection
+    ensures { λ r. ⌜ r ≡ ofEvent event (OfEvent tag event) ⌝ }
+{
+    of_event(event, Selection::OfEvent { tag, event })
+}
+
+// The variables that an event assigns, and those that it assigns by a 52.
+fn assigned(words: &[u64], table: Table, event: u64) -> Selection
     requires { ⌜ table ≡ countsOf (rowsOf (now words)) ⌝ }
-    ensures { λ r. ⌜ r ≡ identifierAt (rowsOf (now (words .entry))) kind i ⌝ }
+    ensures { λ r. ⌜ r ≡ ofEvent event (Assigned (ownKind (rowsOf (now (words .entry))) event) event) ⌝ }
 {
-    let x = i as u64;
-    if x < table.identifiers {
-        return identifier_field(words, table, x + 1, Table::KIND) == kind;
-    }
-    false
+    let kind = own_kind(words, table, event);
+    of_event(event, Selection::Assigned { kind, event })
 }
 
-// Whether an event has an action for a variable.
-fn is_assigned(words: &[u64], actions: Span, event: u64, target: u64) -> bool
-    requires { ⌜ actions ≡ actionsOf (rowsOf (now words)) ⌝ }
-    ensures { λ r. ⌜ r ≡ isAssigned (rowsOf (now (words .entry))) event target ⌝ }
-{
-    find_within(words, Query::Assigns { event, target }, actions) < size(words)
-}
-
-// Whether that action is a 52.
-fn becomes_such(words: &[u64], actions: Span, event: u64, target: u64) -> bool
-    requires { ⌜ actions ≡ actionsOf (rowsOf (now words)) ⌝ }
-    ensures { λ r. ⌜ r ≡ becomesSuch (rowsOf (now (words .entry))) event target ⌝ }
-{
-    let row = find_within(words, Query::Assigns { event, target }, actions);
-    (row < size(words)) & !(tag_at(words, row) == 51)
-}
-
-// Groups 0 and 1 are of no event, the others of each event.
-fn has_group(event: u64, group: u64) -> bool
-    ensures { λ r. ⌜ r ≡ hasGroup event group ⌝ }
-{
-    if event == 0 { group < 2 } else { 2 <= group }
-}
-
-// Whether the row i stands for a variable of the event's machine. Most rows are past the identifiers.
-fn own_variable_at(words: &[u64], table: Table, event: u64, i: usize) -> bool
+fn such_that(words: &[u64], table: Table, event: u64) -> Selection
     requires { ⌜ table ≡ countsOf (rowsOf (now words)) ⌝ }
-    ensures { λ r. ⌜ r ≡ identifierAt (rowsOf (now (words .entry))) (ownKind (rowsOf (now (words .entry))) event) i ⌝ }
+    ensures { λ r. ⌜ r ≡ ofEvent event (SuchThat (ownKind (rowsOf (now (words .entry))) event) event) ⌝ }
 {
-    if table.identifiers <= i as u64 {
-        return false;
-    }
-    identifier_at(words, table, own_kind(words, table, event), i)
+    let kind = own_kind(words, table, event);
+    of_event(event, Selection::SuchThat { kind, event })
 }
 
-// Group 3: a variable of the event's machine that it assigns. The row i stands for the identifier i + 1.
-fn assigned_at(words: &[u64], table: Table, actions: Span, event: u64, i: usize) -> bool
-    requires { ⌜ (table ≡ countsOf (rowsOf (now words))) × (actions ≡ actionsOf (rowsOf (now words))) ⌝ }
-    ensures { λ r. ⌜ r ≡ identifierAt (rowsOf (now (words .entry))) (ownKind (rowsOf (now (words .entry))) event) i && isAssigned (rowsOf (now (words .entry))) event (i + 1) ⌝ }
-{
-    if own_variable_at(words, table, event, i) {
-        return is_assigned(words, actions, event, i as u64 + 1);
-    }
-    false
-}
-
-// Group 4: such a variable whose action is a 52.
-fn feasible_at(words: &[u64], table: Table, actions: Span, event: u64, i: usize) -> bool
-    requires { ⌜ (table ≡ countsOf (rowsOf (now words))) × (actions ≡ actionsOf (rowsOf (now words))) ⌝ }
-    ensures { λ r. ⌜ r ≡ identifierAt (rowsOf (now (words .entry))) (ownKind (rowsOf (now (words .entry))) event) i && becomesSuch (rowsOf (now (words .entry))) event (i + 1) ⌝ }
-{
-    if own_variable_at(words, table, event, i) {
-        return becomes_such(words, actions, event, i as u64 + 1);
-    }
-    false
-}
-
-// Group 6: a guard of the event that a refining event refines.
-fn refined_guard_at(words: &[u64], table: Table, event: u64, i: usize) -> bool
+// The invariants of its machine.
+fn own_invariants(words: &[u64], table: Table, event: u64) -> Selection
     requires { ⌜ table ≡ countsOf (rowsOf (now words)) ⌝ }
-    ensures { λ r. ⌜ r ≡ isRefining (rowsOf (now (words .entry))) event && rowOfEvent (rowsOf (now (words .entry))) 50 (refinedBy (rowsOf (now (words .entry))) event) i ⌝ }
+    ensures { λ r. ⌜ r ≡ ofEvent event (Tagged (ownInvariantTag (rowsOf (now (words .entry))) event)) ⌝ }
 {
-    if tag_at(words, i) == 50 {
-        return is_refining(words, table, event)
-            & (a_at(words, i) == event_field(words, table, event, Table::REFINED));
-    }
-    false
+    let tag = own_invariant_tag(words, table, event);
+    of_event(event, Selection::Tagged(tag))
 }
 
-// Group 7: an abstract variable, where the event is matched.
-fn simulated_at(words: &[u64], table: Table, event: u64, i: usize) -> bool
+// The guards of the event that an event refines.
+fn refined_guards(words: &[u64], table: Table, event: u64) -> Selection
     requires { ⌜ table ≡ countsOf (rowsOf (now words)) ⌝ }
-    ensures { λ r. ⌜ r ≡ isMatched (rowsOf (now (words .entry))) event && identifierAt (rowsOf (now (words .entry))) 2 i ⌝ }
+    ensures { λ r. ⌜ r ≡ ofEvent event (when (isRefining (rowsOf (now (words .entry))) event) (OfEvent guardTag (refinedBy (rowsOf (now (words .entry))) event))) ⌝ }
 {
-    if identifier_at(words, table, 2, i) {
-        return is_matched(words, table, event);
-    }
-    false
+    let refined = event_field(words, table, event, Table::REFINED);
+    let guards = Selection::OfEvent {
+        tag: tag::GUARD,
+        event: refined,
+    };
+    of_event(event, when(is_refining(words, table, event), guards))
 }
 
-// Group 8: an invariant of the event's machine.
-fn invariant_at(words: &[u64], table: Table, event: u64, i: usize) -> bool
+// The abstract variables, of an event that is matched.
+fn simulated(words: &[u64], table: Table, event: u64) -> Selection
     requires { ⌜ table ≡ countsOf (rowsOf (now words)) ⌝ }
-    ensures { λ r. ⌜ r ≡ tagged (rowsOf (now (words .entry))) (ownInvariantTag (rowsOf (now (words .entry))) event) i ⌝ }
+    ensures { λ r. ⌜ r ≡ ofEvent event (when (isMatched (rowsOf (now (words .entry))) event) (Identifiers abstractVariableKind)) ⌝ }
 {
-    let tag = tag_at(words, i);
-    if (tag == 31) | (tag == 32) {
-        return tag == own_invariant_tag(words, table, event);
-    }
-    false
+    let variables = Selection::Identifiers(identifier::ABSTRACT_VARIABLE);
+    of_event(event, when(is_matched(words, table, event), variables))
 }
 
-// Groups 9 and 10: the variant, where the event is convergent.
-fn variant_at(words: &[u64], table: Table, event: u64, i: usize) -> bool
+// The variant, of a convergent event.
+fn decreased(words: &[u64], table: Table, event: u64) -> Selection
     requires { ⌜ table ≡ countsOf (rowsOf (now words)) ⌝ }
-    ensures { λ r. ⌜ r ≡ isConvergent (rowsOf (now (words .entry))) event && tagged (rowsOf (now (words .entry))) 70 i ⌝ }
+    ensures { λ r. ⌜ r ≡ ofEvent event (when (isConvergent (rowsOf (now (words .entry))) event) (Tagged variantTag)) ⌝ }
 {
-    if tag_at(words, i) == 70 {
-        return is_convergent(words, table, event);
-    }
-    false
+    let variant = Selection::Tagged(tag::VARIANT);
+    of_event(event, when(is_convergent(words, table, event), variant))
 }
 
-// Whether the slot makes sequents, by its group, where the event has the group.
-fn group_test(words: &[u64], table: Table, actions: Span, event: u64, group: u64, i: usize) -> bool
-    requires { ⌜ (table ≡ countsOf (rowsOf (now words))) × (actions ≡ actionsOf (rowsOf (now words))) ⌝ }
-    ensures { λ r. ⌜ r ≡ getD (groupTests (rowsOf (now (words .entry)))) group (λ e i. false) event i ⌝ }
+// A group of an event, by number: the table of groups.
+pub fn group_at(words: &[u64], table: Table, event: u64, group: u64) -> Group
+    requires { ⌜ table ≡ countsOf (rowsOf (now words)) ⌝ }
+    ensures { λ r. ⌜ r ≡ groupAt (rowsOf (now (words .entry))) event group ⌝ }
 {
     match group {
-        0 => is_formula(words, i),
-        1 => tag_at(words, i) == 70,
-        2 => row_of_event(words, 50, event, i),
-        3 => assigned_at(words, table, actions, event, i),
-        4 => feasible_at(words, table, actions, event, i),
-        5 => row_of_event(words, 60, event, i),
-        6 => refined_guard_at(words, table, event, i),
-        7 => simulated_at(words, table, event, i),
-        8 => invariant_at(words, table, event, i),
-        9 | 10 => variant_at(words, table, event, i),
-        _ => false,
+        Group::AXIOM => Group::new(
+            kind::WD,
+            alone(event, Selection::Tagged(tag::AXIOM)),
+            Item::A,
+        ),
+        Group::ABSTRACT_INVARIANT => Group::new(
+            kind::WD,
+            alone(event, Selection::Tagged(tag::ABSTRACT_INVARIANT)),
+            Item::A,
+        ),
+        Group::CONCRETE_INVARIANT => Group::new(
+            kind::WD,
+            alone(event, Selection::Tagged(tag::CONCRETE_INVARIANT)),
+            Item::A,
+        ),
+        Group::VARIANT => Group::new(
+            kind::WD,
+            alone(event, Selection::Tagged(tag::VARIANT)),
+            Item::A,
+        ),
+        Group::GUARD => Group::new(kind::WD, rows_of(event, tag::GUARD), Item::B),
+        Group::ACTION => Group::new(kind::WD, assigned(words, table, event), Item::Action),
+        Group::FIS => Group::new(kind::FIS, such_that(words, table, event), Item::Identifier),
+        Group::WITNESS => Group::new(kind::WD, rows_of(event, tag::WITNESS), Item::C),
+        Group::GRD => Group::new(kind::GRD, refined_guards(words, table, event), Item::B),
+        Group::SIM => Group::new(kind::SIM, simulated(words, table, event), Item::Identifier),
+        Group::INV => Group::new(kind::INV, own_invariants(words, table, event), Item::A),
+        Group::NAT => Group::new(kind::NAT, decreased(words, table, event), Item::A),
+        Group::VAR => Group::new(kind::VAR, decreased(words, table, event), Item::A),
+        _ => Group::new(kind::WD, Selection::None, Item::A),
     }
 }
 
-// Whether the slot makes sequents.
-pub fn makes(words: &[u64], table: Table, actions: Span, event: u64, group: u64, i: usize) -> bool
-    requires { ⌜ (table ≡ countsOf (rowsOf (now words))) × (actions ≡ actionsOf (rowsOf (now words))) ⌝ }
-    ensures { λ r. ⌜ r ≡ makes (rowsOf (now (words .entry))) event group i ⌝ }
+// How many sequents a row of a group has: of a witness WD and WFIS.
+pub fn each(group: u64) -> u64
+    ensures { λ r. ⌜ r ≡ each group ⌝ }
 {
-    if has_group(event, group) {
-        return group_test(words, table, actions, event, group, i);
-    }
-    false
-}
-
-// How many sequents it makes.
-pub fn slot_count(
-    words: &[u64],
-    table: Table,
-    actions: Span,
-    event: u64,
-    group: u64,
-    i: usize,
-) -> u64
-    requires { ⌜ (table ≡ countsOf (rowsOf (now words))) × (actions ≡ actionsOf (rowsOf (now words))) ⌝ }
-    ensures { λ r. ⌜ r ≡ slotCount (rowsOf (now (words .entry))) event group i ⌝ }
-{
-    if makes(words, table, actions, event, group, i) {
-        if group == 5 {
-            return 2;
-        }
-        return 1;
-    }
-    0
+    if group == Group::WITNESS { 2 } else { 1 }
 }
 
 // A slot of the walk, and how many sequents from its first on a search has still to pass over.
@@ -300,63 +366,106 @@ impl Slot {
         }
     }
 
-    // The next row, or the next group's first, or the next event's first.
-    pub fn next(self, rows: usize) -> Self
-        requires { ⌜ (self .event < 2 ^ 63) × (self .group < groups) × (self .row < 2 ^ 63) ⌝ }
-        ensures { λ r. ⌜ r ≡ nextSlot rows self ⌝ }
+    // The same group at another row.
+    fn at(self, found: Sought) -> Self
+        ensures { λ r. ⌜ r ≡ slotAt (self .event) (self .group) (found .row) (found .left) ⌝ }
     {
-        if self.row + 1 < rows {
-            return Self {
-                event: self.event,
-                group: self.group,
-                row: self.row + 1,
-                left: self.left,
-            };
+        Self {
+            event: self.event,
+            group: self.group,
+            row: found.row,
+            left: found.left,
         }
-        if self.group + 1 < 11 {
+    }
+
+    // The next group's first row, or the next event's first.
+    fn next_group(self, left: u64) -> Self
+        requires { ⌜ (self .event < 2 ^ 63) × (self .group < groups) ⌝ }
+        ensures { λ r. ⌜ r ≡ nextGroup self left ⌝ }
+    {
+        if self.group + 1 < Group::COUNT {
             return Self {
                 event: self.event,
                 group: self.group + 1,
                 row: 0,
-                left: self.left,
+                left,
             };
         }
         Self {
             event: self.event + 1,
             group: 0,
             row: 0,
-            left: self.left,
-        }
-    }
-
-    // The same slot with fewer to pass over.
-    fn pass(self, count: u64) -> Self
-        requires { ⌜ count ≤ self .left ⌝ }
-        ensures { λ r. ⌜ r ≡ slotAt (self .event) (self .group) (self .row) (self .left - count) ⌝ }
-    {
-        Self {
-            event: self.event,
-            group: self.group,
-            row: self.row,
-            left: self.left - count,
+            left,
         }
     }
 }
 
+// Whether a slot's sequent is the WFIS of a witness.
+fn is_wfis(slot: Slot) -> bool
+    ensures { λ r. ⌜ r ≡ isWFIS (slot .group) (slot .left) ⌝ }
+{
+    (slot.group == Group::WITNESS) & (slot.left == 1)
+}
+
+// The kind of a slot's sequent.
+pub fn header_kind(words: &[u64], table: Table, slot: Slot) -> u64
+    requires { ⌜ table ≡ countsOf (rowsOf (now words)) ⌝ }
+    ensures { λ r. ⌜ r ≡ headerKind (rowsOf (now (words .entry))) (slot .event) (slot .group) (slot .left) ⌝ }
+{
+    if is_wfis(slot) {
+        return kind::WFIS;
+    }
+    group_at(words, table, slot.event, slot.group).kind
+}
+
+// Its item: root, variable or identifier.
+pub fn header_item(words: &[u64], table: Table, spans: &[usize], slot: Slot) -> u64
+    requires { ⌜ (table ≡ countsOf (rowsOf (now words))) × Spanned (rowsOf (now words)) (now spans) × (slot .row < rowsOf (now words) .size) ⌝ }
+    ensures { λ r. ⌜ r ≡ headerItem (rowsOf (now (words .entry))) (slot .event) (slot .group) (slot .row) (slot .left) ⌝ }
+{
+    if is_wfis(slot) {
+        return b_at(words, slot.row);
+    }
+    let group = group_at(words, table, slot.event, slot.group);
+    let item = group.item;
+    item_at(words, spans, item, slot.event, slot.row)
+}
+
+// Walks on within a slot's group.
+fn seek_in_group(words: &[u64], table: Table, spans: &[usize], slot: Slot) -> Sought
+    requires { ⌜ (table ≡ countsOf (rowsOf (now words))) × Spanned (rowsOf (now words)) (now spans) × (slot .row ≤ rowsOf (now words) .size) ⌝ }
+    ensures { λ r. ⌜ Passed (selects (rowsOf (now (words .entry))) (groupRows (rowsOf (now (words .entry))) (slot .event) (slot .group))) (each (slot .group)) (rowsOf (now (words .entry)) .size) (soughtAt slot) r ⌝ }
+{
+    let group = group_at(words, table, slot.event, slot.group);
+    let rows = group.rows;
+    let from = Sought {
+        row: slot.row,
+        left: slot.left,
+    };
+    seek_row(
+        words,
+        table,
+        spans,
+        rows,
+        each(slot.group),
+        size(words),
+        from,
+    )
+}
+
 // Walks on from a slot until what is left to pass over lies in a slot, or to the end. Counting, finding and printing all walk by this.
-pub fn seek(words: &[u64], table: Table, from: Slot) -> Slot
-    requires { ⌜ (table ≡ countsOf (rowsOf (now words))) × InWalk (rowsOf (now words)) from ⌝ }
+pub fn seek(words: &[u64], table: Table, spans: &[usize], from: Slot) -> Slot
+    requires { ⌜ (table ≡ countsOf (rowsOf (now words))) × Spanned (rowsOf (now words)) (now spans) × InWalk (rowsOf (now words)) from ⌝ }
     ensures { λ r. ⌜ SoughtSlot (rowsOf (now (words .entry))) (position (rowsOf (now (words .entry))) from) r ⌝ }
 {
     let rows = size(words);
-    let actions = span_of(words, Query::CountedWith(51));
     let mut slot = from;
     while slot.event <= table.events {
-        let count = slot_count(words, table, actions, slot.event, slot.group, slot.row);
-        if slot.left < count {
-            return slot;
+        let found = seek_in_group(words, table, spans, slot);
+        if found.row < rows {
+            return slot.at(found);
         }
-        slot = slot.pass(count).next(rows);
+        slot = slot.next_group(found.left);
     }
     slot
 }
@@ -365,13 +474,10 @@ pub fn seek(words: &[u64], table: Table, from: Slot) -> Slot
 const MANY: u64 = 4294967296;
 
 // How many sequents a table has.
-pub fn count(words: &[u64], table: Table) -> u64
-    requires { ⌜ (table ≡ countsOf (rowsOf (now words))) × (length (now words) ≤ mostWords) ⌝ }
+pub fn count(words: &[u64], table: Table, spans: &[usize]) -> u64
+    requires { ⌜ (table ≡ countsOf (rowsOf (now words))) × Spanned (rowsOf (now words)) (now spans) × (length (now words) ≤ mostWords) ⌝ }
     ensures { λ r. ⌜ r ≡ length (sequents (machineOf (rowsOf (now (words .entry))))) ⌝ }
 {
-    if size(words) == 0 {
-        return 0;
-    }
-    let end = seek(words, table, Slot::start(MANY));
+    let end = seek(words, table, spans, Slot::start(MANY));
     MANY - end.left
 }

@@ -1,4 +1,8 @@
--- By the kind and the item of the header.
+-- Kind and item are the header's.
+use mathlib.Core.Path.{ap, ap₂, _∙_}
+use Rattle.table.specs.Rows.{rowsOf}
+use Rattle.sequent.specs.Numbers.{numbersOf}
+use Rattle.entries.specs.Segments.{goalOf}
 use borrow.Author.Needs.{needs}
 use Rattle.entries.proofs.goal_at.Statement.{statement}
 use Rattle.entries.proofs.goal_at.Tie as tie
@@ -8,4 +12,5 @@ goal-at-spec = tie.close (tie.spec
     (λ c κs. search needs)
     (λ c κs. search needs)
     (λ c κs. search needs)
-    (λ c. simp (c .goal-of .ensures, c .before .header-item .ensures, c .before .before .header-kind .ensures)))
+    (λ c. let s = c .before .before .before .before .before in
+    c .goal-of .ensures ∙ ap₂ (λ k x. numbersOf (goalOf (rowsOf (s .args .words .now)) k (s .args .slot .event) x)) (c .before .before .header-kind .ensures) (c .before .header-item .ensures)))

@@ -3,7 +3,7 @@ use mathlib.Core.Path.{_≡_, sym, ap, _∙_}
 use native.Mathlib.Omega.{arith}
 use Rattle.table.specs.Rows.{rowsOf}
 use Rattle.sequent.specs.Numbers.{numbers, numbersOf}
-use Rattle.sequent.specs.Segments.{goalOf}
+use Rattle.entries.specs.Segments.{goalOf}
 use Rattle.entries.proofs.Tables.{goal-rest}
 use borrow.Author.Needs.{needs}
 use Rattle.entries.proofs.goal_of.Statement.{statement}

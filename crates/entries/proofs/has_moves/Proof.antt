@@ -1,4 +1,4 @@
--- By the kind of the witness's target.
+-- The target of the slot's row is the row's.
 use borrow.Author.Needs.{needs}
 use Rattle.entries.proofs.has_moves.Statement.{statement}
 use Rattle.entries.proofs.has_moves.Tie as tie

@@ -1,4 +1,4 @@
--- By the event's class and machine.
+-- The role is the event's.
 use borrow.Author.Needs.{needs}
 use Rattle.entries.proofs.has_witnesses.Statement.{statement}
 use Rattle.entries.proofs.has_witnesses.Tie as tie

@@ -7,7 +7,7 @@ use Rattle.sequent.specs.Listed.{sequents}
 use Rattle.reply.specs.Replies.{among}
 use Rattle.lists.proofs.Choice.{chosen, not-chosen}
 use Rattle.services.specs.Found.{serveAt}
-use Rattle.services.proofs.Judged.{judged-rising, judged-count}
+use Rattle.services.proofs.Judged.{judged-count}
 use Rattle.services.proofs.Slots.{among-low, among-high, not-true, not-false}
 use borrow.Author.Needs.{needs}
 use Rattle.services.proofs.serve_accepted.Statement.{statement}
@@ -16,21 +16,21 @@ use Rattle.services.proofs.serve_accepted.Tie as tie
 pub serve-accepted-spec : {M : Type 1} → statement M
 serve-accepted-spec = tie.close (tie.spec
     (λ c κs. search needs)
-    (λ c. let s = c .before .before .before .before in
+    (λ c. let s = c .before .before .before .before .before in
     sym (not-chosen (among (s .args .k) (s .args .count)) _ _ (sym (c .before .among .ensures) ∙ not-true (c .before .among .result) (c .if1 .taken))))
-    (λ c κs. search needs)
-    (λ c κs. let named = c .before .before in
-    let s = named .before .before .before in
+    (λ c κs. let named = c .before in
+    let s = named .before .before .before .before in
     let t = rowsOf (s .args .words .now) in
-    let k = sym (named .among .ensures) ∙ not-false (named .among .result) (c .before .if1 .left) in
-    ((c .of .ensures, among-low (s .args .k) (s .args .count) k, omega (arith, among-high (s .args .k) (s .args .count) k, judged-count t (s .args .count) (s .pre))), judged-rising t (s .args .count) (s .pre)))
-    (λ c κs. (c .before .before .of .ensures, c .before .find-sequent .ensures .row))
+    let k = sym (named .among .ensures) ∙ not-false (named .among .result) (c .if1 .left) in
+    (s .pre .0, (among-low (s .args .k) (s .args .count) k, omega (arith, among-high (s .args .k) (s .args .count) k, judged-count t (s .args .count) (s .pre .1)))))
+    (λ c κs. let found = c .before in
+    let s = found .before .before .before .before .before .before in (s .pre .0 .0, s .pre .0 .1, found .find-sequent .ensures .row))
     (λ c. search needs)
     (λ c. let served = c .before .before in
     let located = served .before .before in
-    let named = located .before .before .before in
-    let s = named .before .before .before in
+    let named = located .before .before in
+    let s = named .before .before .before .before in
     let t = rowsOf (s .args .words .now) in
     served .serve-found .ensures
     ∙ ap (serveAt (machineOf t) (s .args .request) (s .args .out .now)) (sym (located .find-sequent .ensures .holds))
-    ∙ sym (chosen (among (s .args .k) (s .args .count)) _ _ (sym (named .among .ensures) ∙ not-false (named .among .result) (located .before .before .if1 .left)))))
+    ∙ sym (chosen (among (s .args .k) (s .args .count)) _ _ (sym (named .among .ensures) ∙ not-false (named .among .result) (located .before .if1 .left)))))

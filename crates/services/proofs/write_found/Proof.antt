@@ -6,9 +6,10 @@ use lib.ListN.{length}
 use Rattle.table.specs.Rows.{rowsOf}
 use Rattle.reply.specs.declared.Reply.the-variants as reply
 use Rattle.reply.specs.Printed.{sequentRows}
-use Rattle.services.specs.Found.{slotSequentOf, outcome}
+use Rattle.services.specs.Found.{outcome}
 use Rattle.services.proofs.Slots.{rows-count, no-room, room}
 use borrow.Author.Needs.{needs}
+use Rattle.entries.specs.Segments.{slotSequent}
 use Rattle.services.proofs.write_found.Statement.{statement}
 use Rattle.services.proofs.write_found.Tie as tie
 
@@ -16,16 +17,16 @@ pub write-found-spec : {M : Type 1} → statement M
 write-found-spec = tie.close (tie.spec
     (λ c κs. search needs)
     (λ c. let counted = c .before in
-    let s = counted .before .before .before in
+    let s = counted .before .before .before .before in
     let t = rowsOf (s .args .words .now) in
-    sym (no-room (sequentRows (slotSequentOf t (s .args .slot))) (s .args .out .now) (omega (arith, rows-count t (s .args .slot) (s .pre .1), counted .count-entries .ensures, c .if1 .taken))))
+    sym (no-room (sequentRows (slotSequent t (s .args .slot))) (s .args .out .now) (omega (arith, rows-count t (s .args .slot), counted .count-entries .ensures, c .if1 .taken))))
     (λ c κs. search needs)
     (λ c. search needs)
     (λ c. search needs)
     (λ c. let written = c .before .before in
     let counted = written .before .before .before in
-    let s = counted .before .before .before in
+    let s = counted .before .before .before .before in
     let t = rowsOf (s .args .words .now) in
-    let rows : counted .count-entries .result + 1 ≡ length (sequentRows (slotSequentOf t (s .args .slot))) = omega (arith, rows-count t (s .args .slot) (s .pre .1), counted .count-entries .ensures) in
-    ap₂ (λ n out. outcome (reply.Written n) out) rows (written .write-slot .ensures)
-    ∙ sym (room (sequentRows (slotSequentOf t (s .args .slot))) (s .args .out .now) (omega (arith, rows, written .before .before .if1 .left)))))
+    let rows : counted .count-entries .result + 1 ≡ length (sequentRows (slotSequent t (s .args .slot))) = omega (arith, rows-count t (s .args .slot), counted .count-entries .ensures) in
+    ap₂ (λ n out. outcome (reply.Written n) out) rows (written .write-slot .ensures .1)
+    ∙ sym (room (sequentRows (slotSequent t (s .args .slot))) (s .args .out .now) (omega (arith, rows, written .before .before .if1 .left)))))

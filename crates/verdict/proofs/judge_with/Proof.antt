@@ -7,12 +7,11 @@ use Rattle.rules.specs.declared.Verdict.the-variants.{Accepted, Refused}
 use Rattle.rules.specs.Verdict.{firstRow}
 use Rattle.rules.proofs.Cases.{judge-row, judge-missing, judge-accepted, row-at-most}
 use borrow.Author.Needs.{needs}
-use Rattle.verdict.proofs.judge.Statement.{statement}
-use Rattle.verdict.proofs.judge.Tie as tie
+use Rattle.verdict.proofs.judge_with.Statement.{statement}
+use Rattle.verdict.proofs.judge_with.Tie as tie
 
-pub judge-spec : {M : Type 1} → statement M
-judge-spec = tie.close (tie.spec
-    (λ c κs. search needs)
+pub judge-with-spec : {M : Type 1} → statement M
+judge-with-spec = tie.close (tie.spec
     (λ c κs. search needs)
     (λ c κs. search needs)
     (λ c. let checked = c .before .before in

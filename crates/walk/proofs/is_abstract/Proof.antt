@@ -1,4 +1,4 @@
--- The field is the machine's number.
+-- The column is the event's.
 use mathlib.Core.Path.{ap}
 use lib.Dec.{eqb}
 use borrow.Author.Needs.{needs}

@@ -1,0 +1,294 @@
+-- The sequents that a slot holds are made of the slot's segments and its goal. `walk-then` writes the hypotheses as the segments, each there or not; group by group
+-- the hypotheses are the same segments, where the role of the event tells which invariants are there.
+use Prim.Native.Nat.{ℕ, zero, suc, _+_, _<_}
+use mathlib.Core.Path.{_≡_, refl, sym, ap, ap₂, _∙_, subst, fun-ext}
+use mathlib.Core.Bool.{Bool, true, false, not, _&&_, _||_, and-comm}
+use mathlib.Core.List.{List, [], _∷_, _++_, map, flatMap, map-map, map-append, append-assoc, append-nil}
+use native.Mathlib.Omega.{arith}
+use lib.Dec.{eqb}
+use lib.ListN.{getD}
+use borrow.Author.Tests.{eqb-true}
+use Rattle.lists.specs.Choice.{pick}
+use Rattle.lists.specs.All.{All, all-nil, all-cons}
+use Rattle.lists.specs.Below.{numbers, keep}
+use Rattle.lists.proofs.All.{all-at}
+use Rattle.lists.proofs.Below.{numbers-in}
+use Rattle.lists.proofs.Flat.{keep-keep, keep-map, map-when}
+use Rattle.table.specs.Rows.{Rows, tagged, section}
+use Rattle.table.specs.Lookups.{isVariableNumber}
+use Rattle.machine.specs.Machine.{Witness}
+use Rattle.machine.specs.Described.{machineOf}
+use Rattle.machine.proofs.Variables.{variable-numbered}
+use Rattle.sequent.specs.Entry.{Entry, written, moves, variable}
+use Rattle.sequent.specs.Sequent.{Sequent, sequent}
+use Rattle.sequent.specs.Listed.{formulas, base, guarded, moved, allWritten, witnessEntries, parameterWitnesses, invHypotheses}
+use Rattle.sequent.specs.Required.{ownVariables}
+use Rattle.select.specs.declared.Selection.{Selection}
+use Rattle.select.specs.declared.Selection.the-variants.{None, Tagged, OfEvent, ForParameters, Identifiers}
+use Rattle.select.specs.Selection.{rowOfEvent, parameterWitness, identifierAt, selects}
+use Rattle.walk.specs.declared.Slot.{Slot}
+use Rattle.walk.specs.Events.{isAbstract, isInitial, isConvergent, ownKind}
+use Rattle.walk.specs.Groups.{groups, groupAt, groupRows, each, when, headerKind, headerItem, axiomGroup, abstractInvariantGroup, concreteInvariantGroup, guardGroup, witnessGroup, grdGroup}
+use Rattle.walk.specs.Slots.{slotAt, slotCount}
+use Rattle.walk.proofs.Groups.{before, roleOf, writtenOf, baseAt, guardedAt, movedAt, witnessOf, made, by-role, variables-own, guards-rows, witnesses-rows, map-identifiers}
+use Rattle.entries.specs.Segments.{upTo, ofNone, hasAbstract, hasConcrete, hasMoves, hasWitnesses, hasAbstractMoves}
+use Rattle.entries.specs.Segments.{segmentAt, segmentEntry, segment, hypothesisWalk, goalOf, goalAt, slotSequent}
+
+module _ (t : Rows) where
+  abbrev rows : List ℕ
+  rows = numbers (t .size) 0
+
+  -- the rows before one that pass, each as its root is written
+  abbrev rootedTo : ℕ → (ℕ → ℕ) → (ℕ → Bool) → List Entry
+  rootedTo n root P = map (λ j. written (root j)) (keep P (numbers n 0))
+
+  abbrev rooted : (ℕ → ℕ) → (ℕ → Bool) → List Entry
+  rooted root P = rootedTo (t .size) root P
+
+  abbrev moving : ℕ → ℕ → List Entry
+  moving e kind = map (λ j. moves e (j + 1)) (keep (identifierAt t kind) rows)
+
+  -- rows that are selected where a test passes
+  kept-when : (f : ℕ → Entry) (b : Bool) (r : Selection) (ns : List ℕ) → map f (keep (selects t (when b r)) ns) ≡ pick b (map f (keep (selects t r) ns)) []
+  kept-when f true r ns = refl
+  kept-when f false r ns = map-when f false (selects t r) ns
+
+  kept-witnesses : (e : ℕ) (b c : Bool) → rooted (t .c) (selects t (pick b (ForParameters e) (when c (OfEvent 60 e))))
+      ≡ pick b (rooted (t .c) (parameterWitness t e)) (pick c (rooted (t .c) (rowOfEvent t 60 e)) [])
+  kept-witnesses e true c = refl
+  kept-witnesses e false c = kept-when _ c (OfEvent 60 e) rows
+
+  -- the hypotheses as their segments, before whatever follows them
+  walk-then : (s : Slot) (rest : List Entry) → hypothesisWalk t s ++ rest
+      ≡ rootedTo (upTo t s axiomGroup) (t .a) (tagged t 30)
+      ++ (pick (hasAbstract t s) (rootedTo (upTo t s abstractInvariantGroup) (t .a) (tagged t 31)) []
+      ++ (pick (hasConcrete t s) (rootedTo (upTo t s concreteInvariantGroup) (t .a) (tagged t 32)) []
+      ++ (pick (not (ofNone s)) (rootedTo (upTo t s guardGroup) (t .b) (rowOfEvent t 50 (s .event))) []
+      ++ (pick (hasMoves t s) (moving (s .event) (ownKind t (s .event))) []
+      ++ (pick (eqb (s .group) grdGroup) (rooted (t .c) (parameterWitness t (s .event))) (pick (hasWitnesses t s) (rooted (t .c) (rowOfEvent t 60 (s .event))) [])
+      ++ (pick (hasAbstractMoves t s) (moving (s .event) 2) []
+      ++ rest))))))
+  unfolding hypothesisWalk segmentAt segmentEntry flatMap numbers
+  walk-then s rest =
+      seven (segment t s)
+      ∙ ap (λ xs. rootedTo (upTo t s axiomGroup) (t .a) (tagged t 30) ++ xs)
+      (both (kept-when _ (hasAbstract t s) (Tagged 31) _)
+      (both (kept-when _ (hasConcrete t s) (Tagged 32) _)
+      (both (kept-when _ (not (ofNone s)) (OfEvent 50 (s .event)) _)
+      (both (kept-when _ (hasMoves t s) (Identifiers (ownKind t (s .event))) rows)
+      (both (kept-witnesses (s .event) (eqb (s .group) grdGroup) (hasWitnesses t s))
+      (both (kept-when _ (hasAbstractMoves t s) (Identifiers 2) rows) refl))))))
+    where
+      both : {xs xs′ ys ys′ : List Entry} → xs ≡ xs′ → ys ≡ ys′ → xs ++ ys ≡ xs′ ++ ys′
+      both p q = ap₂ (λ (xs : List Entry) (ys : List Entry). xs ++ ys) p q
+
+      seven : (f : ℕ → List Entry) → (f 0 ++ (f 1 ++ (f 2 ++ (f 3 ++ (f 4 ++ (f 5 ++ (f 6 ++ []))))))) ++ rest
+          ≡ f 0 ++ (f 1 ++ (f 2 ++ (f 3 ++ (f 4 ++ (f 5 ++ (f 6 ++ rest))))))
+      seven f = simp append-assoc
+
+  -- a machine's formulas as the rows that they come from
+  section-written : (k : ℕ) → map written (map (t .a) (section t k)) ≡ rooted (t .a) (tagged t k)
+  unfolding section
+  section-written k = map-map written (t .a) (keep (tagged t k) rows)
+
+  guards-written : (e : ℕ) → allWritten (machineOf t) (machineOf t .guards e) ≡ rooted (t .b) (rowOfEvent t 50 e)
+  guards-written e = ap (map written) (guards-rows t e) ∙ map-map written (t .b) (keep (rowOfEvent t 50 e) rows)
+
+  witnesses-written : (e : ℕ) → witnessEntries (machineOf t) (machineOf t .witnesses e) ≡ rooted (t .c) (rowOfEvent t 60 e)
+  witnesses-written e = ap (map (λ w. written (w .root))) (witnesses-rows t e) ∙ map-map (λ w. written (w .root)) (witnessOf t) (keep (rowOfEvent t 60 e) rows)
+
+  parameters-written : (e : ℕ) → witnessEntries (machineOf t) (parameterWitnesses (machineOf t) e)
+      ≡ rooted (t .c) (parameterWitness t e)
+  parameters-written e =
+      ap (λ ws. map root (keep other ws)) (witnesses-rows t e)
+      ∙ ap (map root) (keep-map other (witnessOf t) (keep (rowOfEvent t 60 e) rows))
+      ∙ map-map root (witnessOf t) (keep (λ j. other (witnessOf t j)) (keep (rowOfEvent t 60 e) rows))
+      ∙ ap (map (λ j. written (t .c j)))
+      (keep-keep (λ j. other (witnessOf t j)) (rowOfEvent t 60 e) rows
+      ∙ ap (λ P. keep P rows)
+      (fun-ext (λ j. and-comm (rowOfEvent t 60 e j) (other (witnessOf t j)) ∙ ap (λ b. not b && rowOfEvent t 60 e j) (variable-numbered t (t .b j)))))
+    where
+      root : Witness → Entry
+      root w = written (w .root)
+
+      other : Witness → Bool
+      other w = not (variable (machineOf t) (w .target))
+
+  moves-own : (e : ℕ) → map (moves e) (ownVariables (machineOf t) (roleOf t e)) ≡ moving e (ownKind t e)
+  moves-own e = ap (map (moves e)) (variables-own t e) ∙ map-identifiers t (ownKind t e) (moves e)
+
+  moves-abstract : (e : ℕ) → map (moves e) (machineOf t .abstractVariables) ≡ moving e 2
+  unfolding machineOf
+  moves-abstract e = map-identifiers t 2 (moves e)
+
+  -- base, guards and moves, before whatever follows them
+  abbrev basic : ℕ → List Entry → List Entry
+  basic e rest =
+      rooted (t .a) (tagged t 30)
+      ++ (pick (not (isInitial t e)) (rooted (t .a) (tagged t 31)) [] ++ (pick (not (isInitial t e) && not (isAbstract t e)) (rooted (t .a) (tagged t 32)) [] ++ rest))
+
+  base-then : (e : ℕ) (rest : List Entry) → base (machineOf t) (roleOf t e) ++ rest ≡ basic e rest
+  unfolding machineOf
+  base-then e rest =
+      by-role t e
+      (λ a z o r. base (machineOf t) r ++ rest ≡ A 30 ++ (pick (not z) (A 31) [] ++ (pick (not z && not a) (A 32) [] ++ rest)))
+      (λ o. refl) (λ o. append-assoc (A 30) (A 31) rest) refl three three
+      ∙ ap₂ (λ (xs : List Entry) (ys : List Entry). xs ++ ys) (section-written 30)
+      (ap₂ (λ (xs : List Entry) (ys : List Entry). pick (not (isInitial t e)) xs [] ++ (pick (not (isInitial t e) && not (isAbstract t e)) ys [] ++ rest))
+      (section-written 31) (section-written 32))
+    where
+      A : ℕ → List Entry
+      A k = map written (map (t .a) (section t k))
+
+      three : (A 30 ++ (A 31 ++ A 32)) ++ rest ≡ A 30 ++ (A 31 ++ (A 32 ++ rest))
+      three = append-assoc (A 30) (A 31 ++ A 32) rest ∙ ap (λ xs. A 30 ++ xs) (append-assoc (A 31) (A 32) rest)
+
+  guarded-then : (e : ℕ) (rest : List Entry) → guarded (machineOf t) (roleOf t e) e ++ rest ≡ basic e (rooted (t .b) (rowOfEvent t 50 e) ++ rest)
+  guarded-then e rest =
+      append-assoc (base (machineOf t) (roleOf t e)) (allWritten (machineOf t) (machineOf t .guards e)) rest
+      ∙ base-then e (allWritten (machineOf t) (machineOf t .guards e) ++ rest)
+      ∙ ap (λ xs. basic e (xs ++ rest)) (guards-written e)
+
+  moved-then : (e : ℕ) (rest : List Entry)
+      → moved (machineOf t) (roleOf t e) e ++ rest ≡ basic e (rooted (t .b) (rowOfEvent t 50 e) ++ (moving e (ownKind t e) ++ rest))
+  moved-then e rest =
+      append-assoc (guarded (machineOf t) (roleOf t e) e) (map (moves e) (ownVariables (machineOf t) (roleOf t e))) rest
+      ∙ guarded-then e (map (moves e) (ownVariables (machineOf t) (roleOf t e)) ++ rest)
+      ∙ ap (λ xs. basic e (rooted (t .b) (rowOfEvent t 50 e) ++ (xs ++ rest))) (moves-own e)
+
+  -- axioms and invariants, before whatever follows them
+  three-then : (f : ℕ → Entry) (xs ys zs : List ℕ) (rest : List Entry) → map f (xs ++ (ys ++ zs)) ++ rest ≡ map f xs ++ (map f ys ++ (map f zs ++ rest))
+  three-then f xs ys zs rest =
+      ap (λ es. es ++ rest) (map-append f xs (ys ++ zs) ∙ ap (λ es. map f xs ++ es) (map-append f ys zs))
+      ∙ append-assoc (map f xs) (map f ys ++ map f zs) rest
+      ∙ ap (λ es. map f xs ++ es) (append-assoc (map f ys) (map f zs) rest)
+
+  abbrev joined-three : List Entry → List Entry → List Entry → List Entry → List Entry
+  joined-three rest xs ys zs = xs ++ (ys ++ (zs ++ rest))
+
+  same-three : {xs xs′ ys ys′ zs zs′ : List Entry} (rest : List Entry) → xs ≡ xs′ → ys ≡ ys′ → zs ≡ zs′ → joined-three rest xs ys zs ≡ joined-three rest xs′ ys′ zs′
+  same-three rest p q r = cc
+
+  all-then : (rest : List Entry) → allWritten (machineOf t) (formulas (machineOf t)) ++ rest
+      ≡ joined-three rest (rooted (t .a) (tagged t 30)) (rooted (t .a) (tagged t 31)) (rooted (t .a) (tagged t 32))
+  unfolding machineOf
+  all-then rest =
+      three-then written (map (t .a) (section t 30)) (map (t .a) (section t 31)) (map (t .a) (section t 32)) rest
+      ∙ same-three rest (section-written 30) (section-written 31) (section-written 32)
+
+  axioms-written : writtenOf t (machineOf t .axioms) ≡ rooted (t .a) (tagged t 30)
+  unfolding machineOf
+  axioms-written = section-written 30
+
+  invariants-then : (xs rest : List Entry) → ((writtenOf t (machineOf t .axioms) ++ writtenOf t (machineOf t .abstractInvariants)) ++ xs) ++ rest
+      ≡ joined-three rest (rooted (t .a) (tagged t 30)) (rooted (t .a) (tagged t 31)) xs
+  unfolding machineOf
+  invariants-then xs rest =
+      append-assoc (writtenOf t (machineOf t .axioms) ++ writtenOf t (machineOf t .abstractInvariants)) xs rest
+      ∙ append-assoc (writtenOf t (machineOf t .axioms)) (writtenOf t (machineOf t .abstractInvariants)) (xs ++ rest)
+      ∙ same-three {zs = xs} rest (section-written 30) (section-written 31) refl
+
+  -- "moves for a variable witness"
+  witness-then : (e i : ℕ) (rest : List Entry)
+      → pick (variable (machineOf t) (t .b i)) (moved (machineOf t) (roleOf t e) e) (guarded (machineOf t) (roleOf t e) e) ++ rest
+      ≡ basic e (rooted (t .b) (rowOfEvent t 50 e) ++ (pick (isVariableNumber t (t .b i)) (moving e (ownKind t e)) [] ++ rest))
+  witness-then e i rest =
+      ap (λ b. pick b (moved (machineOf t) (roleOf t e) e) (guarded (machineOf t) (roleOf t e) e) ++ rest) (variable-numbered t (t .b i)) ∙ by-test (isVariableNumber t (t .b i))
+    where
+      by-test : (b : Bool) → pick b (moved (machineOf t) (roleOf t e) e) (guarded (machineOf t) (roleOf t e) e) ++ rest
+          ≡ basic e (rooted (t .b) (rowOfEvent t 50 e) ++ (pick b (moving e (ownKind t e)) [] ++ rest))
+      by-test true = moved-then e rest
+      by-test false = guarded-then e rest
+
+  -- "for a convergent event form 4 of each abstract variable instead of witnesses"
+  invariant-own : (e : ℕ) → invHypotheses (machineOf t) (roleOf t e) e ≡ moved (machineOf t) (roleOf t e) e
+      ++ pick (isConvergent t e) (map (moves e) (machineOf t .abstractVariables)) (witnessEntries (machineOf t) (machineOf t .witnesses e))
+  invariant-own e =
+      by-role t e
+      (λ a z o r. invHypotheses (machineOf t) r e ≡ moved (machineOf t) r e
+      ++ pick (not a && not (z || o)) (map (moves e) (machineOf t .abstractVariables)) (witnessEntries (machineOf t) (machineOf t .witnesses e)))
+      (λ o. refl) (λ o. refl) refl refl refl
+
+  invariant-then : (e : ℕ) (rest : List Entry) → invHypotheses (machineOf t) (roleOf t e) e ++ rest
+      ≡ basic e (rooted (t .b) (rowOfEvent t 50 e) ++ (moving e (ownKind t e)
+      ++ (pick (not (isConvergent t e)) (rooted (t .c) (rowOfEvent t 60 e)) [] ++ (pick (isConvergent t e) (moving e 2) [] ++ rest))))
+  invariant-then e rest =
+      ap (λ xs. xs ++ rest)
+      (invariant-own e ∙ ap₂ (λ (xs : List Entry) (ys : List Entry). moved (machineOf t) (roleOf t e) e ++ pick (isConvergent t e) xs ys) (moves-abstract e) (witnesses-written e))
+      ∙ append-assoc (moved (machineOf t) (roleOf t e) e) (pick (isConvergent t e) (moving e 2) (rooted (t .c) (rowOfEvent t 60 e))) rest
+      ∙ moved-then e (pick (isConvergent t e) (moving e 2) (rooted (t .c) (rowOfEvent t 60 e)) ++ rest)
+      ∙ ap (λ xs. basic e (rooted (t .b) (rowOfEvent t 50 e) ++ (moving e (ownKind t e) ++ xs))) (by-test (isConvergent t e))
+    where
+      by-test : (b : Bool) → pick b (moving e 2) (rooted (t .c) (rowOfEvent t 60 e)) ++ rest
+          ≡ pick (not b) (rooted (t .c) (rowOfEvent t 60 e)) [] ++ (pick b (moving e 2) [] ++ rest)
+      by-test true = refl
+      by-test false = refl
+
+  -- two lists, and then the rest
+  two-then : (xs : List Entry) {ys zs : List Entry} (rest : List Entry) → ys ≡ zs → (xs ++ ys) ++ rest ≡ xs ++ (zs ++ rest)
+  two-then xs {ys} rest p = append-assoc xs ys rest ∙ ap (λ es. xs ++ (es ++ rest)) p
+
+  -- group by group: the slot's sequents are made of the segments
+  module _ (e i : ℕ) (d : Sequent) where
+    abbrev Hypotheses : ℕ → ℕ → Type 0
+    Hypotheses g w = (rest : List Entry) → getD (made t e g i) w d .hypotheses ++ rest ≡ hypothesisWalk t (slotAt e g i w) ++ rest
+
+    first-hypotheses : All (λ g. Hypotheses g 0) (numbers groups 0)
+    unfolding made numbers
+    first-hypotheses =
+        all-cons (λ r. sym (walk-then (slotAt e 0 i 0) r))
+        (all-cons (λ r. two-then (writtenOf t (machineOf t .axioms)) r refl ∙ ap (λ xs. xs ++ (rootedTo i (t .a) (tagged t 31) ++ r)) axioms-written ∙ sym (walk-then (slotAt e 1 i 0) r))
+        (all-cons (λ r. invariants-then (rootedTo i (t .a) (tagged t 32)) r ∙ sym (walk-then (slotAt e 2 i 0) r))
+        (all-cons (λ r. all-then r ∙ sym (walk-then (slotAt e 3 i 0) r))
+        (all-cons (λ r. two-then (baseAt t e) r refl ∙ base-then e (rootedTo i (t .b) (rowOfEvent t 50 e) ++ r) ∙ sym (walk-then (slotAt e 4 i 0) r))
+        (all-cons (λ r. guarded-then e r ∙ sym (walk-then (slotAt e 5 i 0) r))
+        (all-cons (λ r. guarded-then e r ∙ sym (walk-then (slotAt e 6 i 0) r))
+        (all-cons (λ r. witness-then e i r ∙ sym (walk-then (slotAt e 7 i 0) r))
+        (all-cons (λ r. two-then (guardedAt t e) r (parameters-written e) ∙ guarded-then e (rooted (t .c) (parameterWitness t e) ++ r) ∙ sym (walk-then (slotAt e 8 i 0) r))
+        (all-cons (λ r. two-then (movedAt t e) r (witnesses-written e) ∙ moved-then e (rooted (t .c) (rowOfEvent t 60 e) ++ r) ∙ sym (walk-then (slotAt e 9 i 0) r))
+        (all-cons (λ r. invariant-then e r ∙ sym (walk-then (slotAt e 10 i 0) r))
+        (all-cons (λ r. guarded-then e r ∙ sym (walk-then (slotAt e 11 i 0) r))
+        (all-cons (λ r. moved-then e r ∙ sym (walk-then (slotAt e 12 i 0) r)) all-nil))))))))))))
+
+    abbrev Segmented : ℕ → ℕ → Type 0
+    Segmented g w = getD (made t e g i) w d ≡ slotSequent t (slotAt e g i w)
+
+    -- all but the hypotheses computes
+    abbrev WithOwn : ℕ → ℕ → Type 0
+    WithOwn g w = let s = getD (made t e g i) w d in
+        s ≡ sequent (headerKind t e g w) e (headerItem t e g i w) (s .hypotheses) (goalAt t (slotAt e g i w))
+
+    first-own : All (λ g. WithOwn g 0) (numbers groups 0)
+    unfolding made numbers goalOf groupAt headerKind headerItem
+    first-own =
+        all-cons refl (all-cons refl (all-cons refl (all-cons refl (all-cons refl (all-cons refl (all-cons refl (all-cons refl (all-cons refl
+        (all-cons refl (all-cons refl (all-cons refl (all-cons refl all-nil))))))))))))
+
+    segmented : (g w : ℕ) → Hypotheses g w → WithOwn g w → Segmented g w
+    segmented g w hs own =
+        own
+        ∙ ap (λ xs. sequent (headerKind t e g w) e (headerItem t e g i w) xs (goalAt t (slotAt e g i w)))
+        (sym (append-nil (getD (made t e g i) w d .hypotheses)) ∙ hs [] ∙ append-nil (hypothesisWalk t (slotAt e g i w)))
+
+    first-segmented : (g : ℕ) → g < groups → Segmented g 0
+    first-segmented g l =
+        let k = numbers-in groups 0 g (omega arith) (omega arith) in
+        segmented g 0 (all-at first-hypotheses k) (all-at first-own k)
+
+    second-segmented : Segmented witnessGroup 1
+    unfolding made goalOf groupAt headerKind headerItem
+    second-segmented = segmented witnessGroup 1 (λ r. witness-then e i r ∙ sym (walk-then (slotAt e witnessGroup i 1) r)) refl
+
+  -- the w-th sequent of a slot is made of its segments
+  pub slot-segmented : (e g i w : ℕ) (d : Sequent) → g < groups → w < slotCount t e g i → getD (made t e g i) w d ≡ slotSequent t (slotAt e g i w)
+  unfolding slotCount
+  slot-segmented e g i w d l k = by-tests (selects t (groupRows t e g) i) (eqb g witnessGroup) refl w k
+    where
+      by-tests : (b c : Bool) → eqb g witnessGroup ≡ c → (w : ℕ) → w < pick b (pick c 2 1) 0 → getD (made t e g i) w d ≡ slotSequent t (slotAt e g i w)
+      by-tests false c p w k = absurd (omega arith)
+      by-tests true c p zero k = first-segmented e i d g l
+      by-tests true false p (suc w) k = absurd (omega arith)
+      by-tests true true p (suc w) k =
+          let one : suc w ≡ 1 = omega arith in
+          subst (λ w. getD (made t e g i) w d ≡ slotSequent t (slotAt e g i w)) (sym one)
+          (subst (λ g. getD (made t e g i) 1 d ≡ slotSequent t (slotAt e g i 1)) (sym (eqb-true g witnessGroup p)) (second-segmented e i d))

@@ -1,9 +1,0 @@
--- By the field that is looked up.
-use borrow.Author.Needs.{needs}
-use Rattle.entries.proofs.is_initial.Statement.{statement}
-use Rattle.entries.proofs.is_initial.Tie as tie
-
-pub is-initial-spec : {M : Type 1} → statement M
-is-initial-spec = tie.close (tie.spec
-    (λ c κs. search needs)
-    (λ c. simp (c .event-field .ensures)))

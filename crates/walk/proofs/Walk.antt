@@ -1,0 +1,139 @@
+-- The list of sequents is what the slots hold, in their order, and there are as many as the slots count, for any table. Group by group (Groups).
+use Prim.Native.Nat.{ℕ, suc, _+_, _≤_, _<_}
+use mathlib.Core.Path.{_≡_, refl, sym, ap, ap₂, _∙_}
+use mathlib.Core.Bool.{Bool, true, false}
+use mathlib.Core.List.{List, [], _∷_, _++_, flatMap, append-assoc, append-nil}
+use native.Mathlib.Omega.{arith}
+use native.Mathlib.Numerals.{add-one}
+use lib.Dec.{ltb, eqb}
+use lib.ListN.{length, List·getD-eq-default}
+use borrow.Author.Tests.{ltb-true, ltb-false, ne-eqb}
+use Rattle.lists.specs.Choice.{pick}
+use Rattle.lists.specs.All.{All, all-nil, all-cons, In}
+use Rattle.lists.specs.Below.{numbers}
+use Rattle.lists.proofs.All.{all-at}
+use Rattle.lists.proofs.Below.{numbers-in, in-numbers}
+use Rattle.lists.proofs.Flat.{flat-none, flat-join, flat-same, flat-length, sum-same}
+use Rattle.table.specs.Rows.{Rows, count}
+use Rattle.machine.specs.Described.{machineOf}
+use Rattle.sequent.specs.Sequent.{Sequent, WD}
+use Rattle.sequent.specs.Listed.{inOrder, eventSequents, formulas, sequents}
+use Rattle.sequent.proofs.Parts.{eventSequents-parts, inOrder-join}
+use Rattle.select.specs.declared.Selection.{Selection}
+use Rattle.select.specs.declared.Selection.the-variants.{None}
+use Rattle.select.specs.Selection.{selects}
+use Rattle.walk.specs.declared.Item.the-variants.{A}
+use Rattle.walk.specs.declared.Group.{Group}
+use Rattle.walk.specs.Groups.{groups, groupOf, groupTable, groupAt, groupRows, each, axiomGroup, abstractInvariantGroup, concreteInvariantGroup, variantGroup}
+use Rattle.walk.specs.Slots.{slotCount, groupCount, eventCount, walkCount}
+use Rattle.walk.proofs.Groups.{roleOf, writtenOf, made, slot, groupSlots, group-none, axiom-group, abstract-invariant-group, concrete-invariant-group, variant-group}
+use Rattle.walk.proofs.Groups.{guard-group, action-group, feasible-group, witness-group, grd-group, sim-group, inv-group, variant-groups}
+
+-- two lists joined, each written another way
+both : {xs xs′ ys ys′ : List Sequent} → xs ≡ xs′ → ys ≡ ys′ → xs ++ ys ≡ xs′ ++ ys′
+both p q = ap₂ (λ (xs : List Sequent) (ys : List Sequent). xs ++ ys) p q
+
+module _ (t : Rows) where
+  -- a group whose number is known
+  pub at-number : (e : ℕ) {g : ℕ} (k : ℕ) → g ≡ k → {r : Group} → r ≡ groupAt t e k → r ≡ groupAt t e g
+  at-number e k p q = q ∙ sym (ap (groupAt t e) p)
+
+  -- no rows beyond the last group
+  no-group : (e g : ℕ) → groups ≤ g → groupRows t e g ≡ None
+  unfolding groupAt
+  no-group e g h = ap (λ r. r .rows) (List·getD-eq-default (groupTable t e) (groupOf WD None A) h)
+
+  -- a slot has as many sequents as it counts
+  pub slot-count : (e g i : ℕ) → length (slot t e g i) ≡ slotCount t e g i
+  unfolding slot slotCount made numbers
+  slot-count e g i = by-group (ltb g groups) refl
+    where
+      several : All (λ g. length (made t e g i) ≡ each g) (numbers groups 0)
+      several =
+          all-cons refl (all-cons refl (all-cons refl (all-cons refl (all-cons refl (all-cons refl (all-cons refl (all-cons refl (all-cons refl
+          (all-cons refl (all-cons refl (all-cons refl (all-cons refl all-nil))))))))))))
+
+      by-test : (b : Bool) → length (made t e g i) ≡ each g → length (pick b (made t e g i) []) ≡ pick b (each g) 0
+      by-test true p = p
+      by-test false p = refl
+
+      by-group : (b : Bool) → ltb g groups ≡ b → length (pick (selects t (groupRows t e g) i) (made t e g i) []) ≡ pick (selects t (groupRows t e g) i) (each g) 0
+      by-group true p = by-test (selects t (groupRows t e g) i) (all-at several (numbers-in groups 0 g (omega arith) (omega (arith, ltb-true g groups p))))
+      by-group false p = rw (no-group e g (ltb-false g groups p))
+
+  abbrev pub eventSlots : ℕ → List Sequent
+  eventSlots e = flatMap (groupSlots t e) (numbers groups 0)
+
+  abbrev pub walk : List Sequent
+  walk = flatMap eventSlots (numbers (count t 40 + 1) 0)
+
+  -- the groups of no event
+  first-slots : eventSlots 0 ≡ groupSlots t 0 axiomGroup ++ (groupSlots t 0 abstractInvariantGroup ++ (groupSlots t 0 concreteInvariantGroup ++ groupSlots t 0 variantGroup))
+  unfolding flatMap numbers groupAt
+  first-slots =
+      flat-join (groupSlots t 0) (numbers 4 0) (numbers 9 4)
+      ∙ ap (λ xs. flatMap (groupSlots t 0) (numbers 4 0) ++ xs) (flat-same (groupSlots t 0) (λ g. []) (numbers 9 4) (λ g i. all-at others i) ∙ flat-none (numbers 9 4))
+      ∙ append-nil (flatMap (groupSlots t 0) (numbers 4 0))
+      ∙ ap (λ xs. groupSlots t 0 axiomGroup ++ (groupSlots t 0 abstractInvariantGroup ++ (groupSlots t 0 concreteInvariantGroup ++ xs))) (append-nil (groupSlots t 0 variantGroup))
+    where
+      others : All (λ g. groupSlots t 0 g ≡ []) (numbers 9 4)
+      others =
+          all-cons (group-none t 0 4 refl) (all-cons (group-none t 0 5 refl) (all-cons (group-none t 0 6 refl) (all-cons (group-none t 0 7 refl) (all-cons (group-none t 0 8 refl)
+          (all-cons (group-none t 0 9 refl) (all-cons (group-none t 0 10 refl) (all-cons (group-none t 0 11 refl) (all-cons (group-none t 0 12 refl) all-nil))))))))
+
+  -- and of an event
+  event-slots : (e : ℕ) → 1 ≤ e → eventSlots e ≡ flatMap (groupSlots t e) (numbers 9 4)
+  unfolding numbers groupAt
+  event-slots e h =
+      flat-join (groupSlots t e) (numbers 4 0) (numbers 9 4)
+      ∙ ap (λ xs. xs ++ flatMap (groupSlots t e) (numbers 9 4)) (flat-same (groupSlots t e) (λ g. []) (numbers 4 0) (λ g i. all-at others i) ∙ flat-none (numbers 4 0))
+    where
+      none : (rows : Selection) → pick (eqb e 0) rows None ≡ None
+      none rows = ap (λ b. pick b rows None) (ne-eqb e 0 (omega arith))
+
+      others : All (λ g. groupSlots t e g ≡ []) (numbers 4 0)
+      others = all-cons (group-none t e 0 (none _)) (all-cons (group-none t e 1 (none _)) (all-cons (group-none t e 2 (none _)) (all-cons (group-none t e 3 (none _)) all-nil)))
+
+  event-walked : (e : ℕ) → 1 ≤ e → eventSequents (machineOf t) e (roleOf t e) ≡ eventSlots e
+  unfolding flatMap numbers
+  event-walked e h =
+      eventSequents-parts (machineOf t) (roleOf t e) e
+      ∙ both (guard-group t e h) (both (action-group t e h) (both (feasible-group t e h) (both (witness-group t e h)
+      (both (grd-group t e h) (both (sim-group t e h) (both (inv-group t e h) (variant-groups t e h)))))))
+      ∙ sym (event-slots e h)
+
+  -- "WD of axioms, invariants": each tag's formulas under those of the tags before it
+  formulas-walked : inOrder 0 [] (formulas (machineOf t))
+      ≡ groupSlots t 0 axiomGroup ++ (groupSlots t 0 abstractInvariantGroup ++ groupSlots t 0 concreteInvariantGroup)
+  formulas-walked =
+      let m = machineOf t in
+      inOrder-join 0 [] (m .axioms) (m .abstractInvariants ++ m .concreteInvariants)
+      ∙ both (axiom-group t)
+      (inOrder-join 0 (writtenOf t (m .axioms)) (m .abstractInvariants) (m .concreteInvariants) ∙ both (abstract-invariant-group t) (concrete-invariant-group t))
+
+  abbrev events : List Sequent
+  events = flatMap eventSlots (numbers (count t 40) 1)
+
+  -- the list is the walk
+  pub walked : sequents (machineOf t) ≡ walk
+  unfolding sequents machineOf flatMap numbers
+  walked =
+      both formulas-walked
+      (both (variant-group t) (flat-same _ eventSlots (numbers (count t 40) 1) (λ e i. event-walked e (in-numbers (count t 40) 1 e i .0))))
+      ∙ regroup (groupSlots t 0 axiomGroup) (groupSlots t 0 abstractInvariantGroup) (groupSlots t 0 concreteInvariantGroup) (groupSlots t 0 variantGroup) events
+      ∙ ap (λ xs. xs ++ events) (sym first-slots)
+      ∙ ap (λ n. flatMap eventSlots (numbers n 0)) (sym (add-one (count t 40)))
+    where
+      regroup : (a b c d es : List Sequent) → (a ++ (b ++ c)) ++ (d ++ es) ≡ (a ++ (b ++ (c ++ d))) ++ es
+      regroup a b c d es = simp append-assoc
+
+  -- the counts of a group, of an event and of the walk
+  pub group-length : (e g : ℕ) → length (groupSlots t e g) ≡ groupCount t e g
+  group-length e g = flat-length (slot t e g) (t .size) ∙ sum-same _ (slotCount t e g) (t .size) (slot-count e g)
+
+  pub event-length : (e : ℕ) → length (eventSlots e) ≡ eventCount t e
+  event-length e = flat-length (groupSlots t e) groups ∙ sum-same _ (groupCount t e) groups (group-length e)
+
+  pub walk-count : length (sequents (machineOf t)) ≡ walkCount t
+  unfolding walkCount
+  walk-count = ap length walked ∙ flat-length eventSlots (count t 40 + 1) ∙ sum-same _ (eventCount t) (count t 40 + 1) event-length
