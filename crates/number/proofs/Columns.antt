@@ -1,45 +1,18 @@
--- Laws of the number form: a digit in range, one column more on either side, and the columns' count.
-use mathlib.Core.Path.{_≡_, refl, ap, _∙_}
+-- Laws of writing: one column more, the columns' count, and columns that hold spaces.
+use mathlib.Core.Path.{_≡_, refl, ap, sym, _∙_}
 use mathlib.Core.List.{List, [], _∷_, _++_}
-use mathlib.Core.Bool.{Bool, true, false}
-use Prim.Native.Nat.{ℕ, zero, suc, _≤_, _<_, _+_, _-_, _*_, _^_}
+use mathlib.Core.Bool.{Bool}
+use Prim.Native.Nat.{ℕ, zero, suc, _≤_, _<_, _+_, _-_, _/_, _%_}
 use native.Mathlib.Numerals.{add-one, sub-one}
 use native.Mathlib.Nat.{not-suc-le-zero, le-of-suc-le-suc}
 use native.Mathlib.Omega.{arith}
-use borrow.Author.Tests.{lt-ltb, le-ltb}
-use lib.ListN.{length, drop, set, getD, drop-of-length-le, length-append}
-use lib.Seq.{drop-cons, append-snoc}
+use borrow.Author.Tests.{le-leb, lt-leb}
+use lib.ListN.{length, take, drop, set, length-append, take-append-drop}
+use lib.Seq.{append-snoc, take-at, drop-at, take-take, take-set-le}
+use Rattle.lists.specs.Choice.{pick}
 use Rattle.lists.specs.Over.{over}
-use Rattle.number.specs.declared.Text.{Text}
-use Rattle.number.specs.declared.Text.the-variants.{Spaces, Digits}
-use Rattle.number.specs.declared.Scan.{Scan}
-use Rattle.number.specs.declared.Scan.the-variants.{Prefix, Wrong}
-use Rattle.number.specs.Number.{mostOf, lastOf, beforeOf, textOf, columnsOf}
-use Rattle.number.specs.Reading.{digitOf, stepOf, scanFrom, valueOf, numberOf}
-
--- what follows the magnitude m by a digit
-module _ (greatest : ℕ) (negative : Bool) (m b : ℕ) (low : 48 ≤ b) (high : b ≤ 57) where
-  pub digit-over : mostOf greatest negative < m * 10 + (b - 48) → digitOf greatest negative m b ≡ Wrong
-  digit-over h = simp (le-ltb b 48 low, le-ltb 57 b high, lt-ltb (mostOf greatest negative) (m * 10 + (b - 48)) h)
-
-  pub digit-within : m * 10 + (b - 48) ≤ mostOf greatest negative → digitOf greatest negative m b ≡ Prefix (Digits negative (m * 10 + (b - 48)))
-  digit-within h = simp (le-ltb b 48 low, le-ltb 57 b high, le-ltb (mostOf greatest negative) (m * 10 + (b - 48)) h)
-
-pub most-le : (greatest : ℕ) (negative : Bool) → mostOf greatest negative ≤ greatest + 1
-most-le greatest true = omega arith
-most-le greatest false = omega arith
-
--- the columns from i on are read by one step and those from i + 1 on
-pub scan-next : (greatest : ℕ) (scan : Scan) (columns : List ℕ) (i : ℕ) → i < length columns
-    → scanFrom greatest scan (drop i columns) ≡ scanFrom greatest (stepOf greatest scan (getD columns i 0)) (drop (i + 1) columns)
-unfolding scanFrom
-scan-next greatest scan columns i h = rw (add-one, drop-cons columns i 0)
-
--- at the end of the columns
-pub scan-done : (greatest : ℕ) (scan : Scan) (columns : List ℕ) (i : ℕ) → length columns ≤ i
-    → scanFrom greatest scan (drop i columns) ≡ scanFrom greatest (Prefix Spaces) columns → valueOf scan ≡ numberOf greatest columns
-unfolding scanFrom numberOf
-scan-done greatest scan columns i h e = ap valueOf (rw (drop-of-length-le columns h) at e)
+use Rattle.lists.proofs.Over.{over-set}
+use Rattle.number.specs.Number.{space, minus, digitZero, Text, Spaces, Minus, Digits, lastOf, beforeDigits, beforeOf, columnsOf}
 
 -- what stands from j on once j is stored
 drop-set : (l : List ℕ) (j a : ℕ) → j < length l → drop j (set l j a) ≡ a ∷ drop (suc j) l
@@ -48,7 +21,7 @@ drop-set (x ∷ l) zero a h = refl
 drop-set (x ∷ l) (suc j) a h = drop-set l j a (le-of-suc-le-suc h)
 
 -- one column more is stored before those from i on
-pub written-back : (text : Text) (out : List ℕ) (i : ℕ) → 0 < i → i ≤ length out
+written-back : (text : Text) (out : List ℕ) (i : ℕ) → 0 < i → i ≤ length out
     → columnsOf (i - 1) (beforeOf text) ++ drop (i - 1) (set out (i - 1) (lastOf text)) ≡ columnsOf i text ++ drop i out
 unfolding columnsOf
 written-back text out zero pos h = absurd (not-suc-le-zero pos)
@@ -59,10 +32,60 @@ unfolding columnsOf
 written-length zero text = refl
 written-length (suc width) text = rw (length-append, written-length width (beforeOf text), add-one)
 
-pub written-start : (out : List ℕ) (rest : Text) (width w : ℕ) → rest ≡ textOf w → columnsOf width rest ++ drop width out ≡ over (columnsOf width (textOf w)) out
+-- a text over the first columns, and what is left after them
+pub over-columns : (width : ℕ) (text : Text) (out : List ℕ) → over (columnsOf width text) out ≡ columnsOf width text ++ drop width out
 unfolding over
-written-start out rest width w e = rw (e, written-length width (textOf w))
+over-columns width text out = rw (written-length width text)
 
-pub written-done : (out whole : List ℕ) (rest : Text) (i : ℕ) → i ≤ 0 → columnsOf i rest ++ drop i out ≡ whole → out ≡ whole
+-- what was written over the same columns before is gone
+pub over-again : (width : ℕ) (text before : Text) (out : List ℕ) → over (columnsOf width text) (over (columnsOf width before) out) ≡ over (columnsOf width text) out
+unfolding over
+over-again width text before out = rw (written-length width text, written-length width before, drop-at (columnsOf width before) (drop width out) width (written-length width before))
+
+pub written-done : (out whole : List ℕ) (text : Text) (i : ℕ) → i ≤ 0 → columnsOf i text ++ drop i out ≡ whole → out ≡ whole
 unfolding columnsOf
-written-done out whole rest i h e = let none : i ≡ 0 = omega arith in rw none at e
+written-done out whole text i h e = let none : i ≡ 0 = omega arith in rw none at e
+
+pub no-columns : (out : List ℕ) (text : Text) (i : ℕ) → i ≤ 0 → out ≡ over (columnsOf i text) out
+unfolding columnsOf over
+no-columns out text i h = let none : i ≡ 0 = omega arith in rw none
+
+-- spaces from the left
+pub blank-more : (out xs : List ℕ) (i : ℕ) → i < length xs → out ≡ over (columnsOf i Spaces) xs → set out i space ≡ over (columnsOf (i + 1) Spaces) xs
+unfolding columnsOf
+blank-more out xs i h e = rw add-one (over-set (columnsOf i Spaces) xs out i space (written-length i Spaces) e h)
+
+pub blank-done : (width : ℕ) (out xs : List ℕ) → out ≡ over (columnsOf width Spaces) xs → take width out ≡ columnsOf width Spaces
+unfolding over
+blank-done width out xs e = ap (take width) e ∙ take-at (columnsOf width Spaces) (drop (length (columnsOf width Spaces)) xs) width (written-length width Spaces)
+
+-- the columns before the last one hold spaces too
+spaces-before : (out : List ℕ) (i : ℕ) → 0 < i → take i out ≡ columnsOf i Spaces → take (i - 1) out ≡ columnsOf (i - 1) Spaces
+unfolding columnsOf
+spaces-before out zero p e = absurd (not-suc-le-zero p)
+spaces-before out (suc j) p e =
+    rw sub-one (sym (take-take j (suc j) out (omega arith)) ∙ ap (take j) e ∙ take-at (columnsOf j Spaces) (space ∷ []) j (written-length j Spaces))
+
+pub still-blank : (out : List ℕ) (i a : ℕ) → 0 < i → take i out ≡ columnsOf i Spaces → take (i - 1) (set out (i - 1) a) ≡ columnsOf (i - 1) Spaces
+still-blank out i a p e = take-set-le (i - 1) out (i - 1) a (omega arith) ∙ spaces-before out i p e
+
+-- spaces stay where nothing is stored
+pub all-blank : (out : List ℕ) (width : ℕ) → take width out ≡ columnsOf width Spaces → out ≡ over (columnsOf width Spaces) out
+all-blank out width e = sym (take-append-drop width out) ∙ ap (λ xs. xs ++ drop width out) e ∙ sym (over-columns width Spaces out)
+
+-- a minus in the last of columns that hold spaces
+pub sign-stored : (out : List ℕ) (i : ℕ) → 0 < i → i ≤ length out → take i out ≡ columnsOf i Spaces → set out (i - 1) minus ≡ over (columnsOf i Minus) out
+sign-stored out i p h e =
+    let xs : List ℕ = set out (i - 1) minus in
+    all-blank xs (i - 1) (still-blank out i minus p e) ∙ over-columns (i - 1) Spaces xs ∙ written-back Minus out i p h ∙ sym (over-columns i Minus out)
+
+-- a digit is stored in the column before i; what the columns before it shall hold
+module _ (negative : Bool) (m : ℕ) (out whole : List ℕ) (i : ℕ) (pos : 0 < i) (h : i ≤ length out) (e : columnsOf i (Digits negative m) ++ drop i out ≡ whole) where
+  stored : columnsOf (i - 1) (beforeDigits negative m) ++ drop (i - 1) (set out (i - 1) (digitZero + m % 10)) ≡ whole
+  stored = written-back (Digits negative m) out i pos h ∙ e
+
+  pub stored-first : m < 10 → over (columnsOf (i - 1) (pick negative Minus Spaces)) (set out (i - 1) (digitZero + m % 10)) ≡ whole
+  stored-first l = over-columns (i - 1) (pick negative Minus Spaces) (set out (i - 1) (digitZero + m % 10)) ∙ (simp (lt-leb 10 m l) at stored)
+
+  pub stored-later : 10 ≤ m → columnsOf (i - 1) (Digits negative (m / 10)) ++ drop (i - 1) (set out (i - 1) (digitZero + m % 10)) ≡ whole
+  stored-later l = simp (le-leb 10 m l) at stored

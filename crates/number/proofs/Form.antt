@@ -11,15 +11,12 @@ use borrow.Author.Tests.{lt-ltb, le-ltb, le-leb, lt-leb, eq-eqb, ne-eqb, ltb-fal
 use lib.Dec.{ltb, leb, eqb}
 use lib.ListN.{length, length-append}
 use Rattle.lists.specs.Choice.{pick}
-use Rattle.number.specs.declared.Text.{Text}
-use Rattle.number.specs.declared.Text.the-variants.{Spaces, Minus, Digits}
-use Rattle.number.specs.declared.Scan.{Scan}
-use Rattle.number.specs.declared.Scan.the-variants.{Prefix, Wrong}
 use Rattle.number.specs.declared.Number.{Number}
 use Rattle.number.specs.declared.Number.the-variants.{Value, Malformed}
-use Rattle.number.specs.Number.{mostOf, lastOf, beforeDigits, beforeOf, textOf, columnsOf, restOf, Fits, inRange, InRange, InForm}
-use Rattle.number.specs.Reading.{digitOf, afterSpaces, afterMinus, afterDigits, afterText, wordOf, textValue, stepOf, scanFrom, valueOf, numberOf}
-use Rattle.number.proofs.Columns.{digit-within, most-le, written-length}
+use Rattle.number.specs.Number.{space, minus, digitZero, Text, Spaces, Minus, Digits, mostOf, lastOf, beforeDigits, beforeOf, textOf, columnsOf, restOf, Fits, inRange, InRange, InForm}
+use Rattle.number.specs.Reading.{digitNine, Scan, Prefix, Wrong, digitOf, afterSpaces, afterMinus, afterDigits, afterText, wordOf, textValue, stepOf, scanFrom, valueOf, numberOf}
+use Rattle.number.proofs.Columns.{written-length}
+use Rattle.number.proofs.Scan.{scan-wrong}
 
 wrong-never : (u : Text) → Wrong ≡ Prefix u → ⊥
 wrong-never u e = let z : _≡_ {A = ℕ} 0 1 = cc in omega arith
@@ -56,26 +53,26 @@ module _ (greatest : ℕ) where
 
   -- a digit that reads
   record Digit (negative : Bool) (m b : ℕ) (u : Text) : Type 0 where
-    low : 48 ≤ b
-    high : b ≤ 57
-    within : m * 10 + (b - 48) ≤ mostOf greatest negative
-    text : Digits negative (m * 10 + (b - 48)) ≡ u
+    low : digitZero ≤ b
+    high : b ≤ digitNine
+    within : m * 10 + (b - digitZero) ≤ mostOf greatest negative
+    text : Digits negative (m * 10 + (b - digitZero)) ≡ u
 
   digit-reads : (negative : Bool) (m b : ℕ) (u : Text) → digitOf greatest negative m b ≡ Prefix u → Digit negative m b u
-  digit-reads negative m b u = go (ltb b 48) refl (ltb 57 b) refl (ltb (mostOf greatest negative) (m * 10 + (b - 48))) refl
+  digit-reads negative m b u = go (ltb b digitZero) refl (ltb digitNine b) refl (ltb (mostOf greatest negative) (m * 10 + (b - digitZero))) refl
     where
-      go : (x : Bool) → ltb b 48 ≡ x → (y : Bool) → ltb 57 b ≡ y → (z : Bool) → ltb (mostOf greatest negative) (m * 10 + (b - 48)) ≡ z
-          → pick x Wrong (pick y Wrong (pick z Wrong (Prefix (Digits negative (m * 10 + (b - 48)))))) ≡ Prefix u → Digit negative m b u
+      go : (x : Bool) → ltb b digitZero ≡ x → (y : Bool) → ltb digitNine b ≡ y → (z : Bool) → ltb (mostOf greatest negative) (m * 10 + (b - digitZero)) ≡ z
+          → pick x Wrong (pick y Wrong (pick z Wrong (Prefix (Digits negative (m * 10 + (b - digitZero)))))) ≡ Prefix u → Digit negative m b u
       go true p y q z r e = absurd (wrong-never u e)
       go false p true q z r e = absurd (wrong-never u e)
       go false p false q true r e = absurd (wrong-never u e)
-      go false p false q false r e = record { low = ltb-false b 48 p; high = ltb-false 57 b q; within = ltb-false _ _ r; text = same-text e }
+      go false p false q false r e = record { low = ltb-false b digitZero p; high = ltb-false digitNine b q; within = ltb-false _ _ r; text = same-text e }
 
   -- such a digit ends its text, if the text before it is the one that it follows
-  digit-ends : (negative : Bool) (m b : ℕ) (t u : Text) → Digit negative m b u → beforeDigits negative (m * 10 + (b - 48)) ≡ t
-      → (negative ≡ true → 0 < m * 10 + (b - 48)) → Ends t b u
+  digit-ends : (negative : Bool) (m b : ℕ) (t u : Text) → Digit negative m b u → beforeDigits negative (m * 10 + (b - digitZero)) ≡ t
+      → (negative ≡ true → 0 < m * 10 + (b - digitZero)) → Ends t b u
   digit-ends negative m b t u d e s =
-      let n : ℕ = m * 10 + (b - 48) in
+      let n : ℕ = m * 10 + (b - digitZero) in
       subst (Ends t b) (d .text) (record {
         before = e;
         last = omega (arith, d .low, d .high);
@@ -83,32 +80,32 @@ module _ (greatest : ℕ) where
       })
 
   ends-spaces : (b : ℕ) (u : Text) → afterSpaces greatest b ≡ Prefix u → Ends Spaces b u
-  ends-spaces b u = go (eqb b 32) refl (eqb b 45) refl
+  ends-spaces b u = go (eqb b space) refl (eqb b minus) refl
     where
       first : Digit false 0 b u → Ends Spaces b u
-      first d = digit-ends false 0 b Spaces u d (simp (lt-leb 10 (0 * 10 + (b - 48)) (omega (arith, d .high)))) (λ e. absurd (let z : _≡_ {A = ℕ} 0 1 = cc in omega arith))
+      first d = digit-ends false 0 b Spaces u d (simp (lt-leb 10 (0 * 10 + (b - digitZero)) (omega (arith, d .high)))) (λ e. absurd (let z : _≡_ {A = ℕ} 0 1 = cc in omega arith))
 
-      go : (x : Bool) → eqb b 32 ≡ x → (y : Bool) → eqb b 45 ≡ y → pick x (Prefix Spaces) (pick y (Prefix Minus) (digitOf greatest false 0 b)) ≡ Prefix u → Ends Spaces b u
-      go true p y q e = subst (Ends Spaces b) (same-text e) (record { before = refl; last = sym (eqb-true b 32 p); proper = proper-spaces })
-      go false p true q e = subst (Ends Spaces b) (same-text e) (record { before = refl; last = sym (eqb-true b 45 q); proper = proper-minus })
+      go : (x : Bool) → eqb b space ≡ x → (y : Bool) → eqb b minus ≡ y → pick x (Prefix Spaces) (pick y (Prefix Minus) (digitOf greatest false 0 b)) ≡ Prefix u → Ends Spaces b u
+      go true p y q e = subst (Ends Spaces b) (same-text e) (record { before = refl; last = sym (eqb-true b space p); proper = proper-spaces })
+      go false p true q e = subst (Ends Spaces b) (same-text e) (record { before = refl; last = sym (eqb-true b minus q); proper = proper-minus })
       go false p false q e = first (digit-reads false 0 b u e)
 
   ends-minus : (b : ℕ) (u : Text) → afterMinus greatest b ≡ Prefix u → Ends Minus b u
-  ends-minus b u = go (eqb b 48) refl
+  ends-minus b u = go (eqb b digitZero) refl
     where
-      first : (b ≡ 48 → ⊥) → Digit true 0 b u → Ends Minus b u
-      first f d = digit-ends true 0 b Minus u d (simp (lt-leb 10 (0 * 10 + (b - 48)) (omega (arith, d .high)))) (λ e. omega (arith, f, d .low))
+      first : (b ≡ digitZero → ⊥) → Digit true 0 b u → Ends Minus b u
+      first f d = digit-ends true 0 b Minus u d (simp (lt-leb 10 (0 * 10 + (b - digitZero)) (omega (arith, d .high)))) (λ e. omega (arith, f, d .low))
 
-      go : (x : Bool) → eqb b 48 ≡ x → pick x Wrong (digitOf greatest true 0 b) ≡ Prefix u → Ends Minus b u
+      go : (x : Bool) → eqb b digitZero ≡ x → pick x Wrong (digitOf greatest true 0 b) ≡ Prefix u → Ends Minus b u
       go true p e = absurd (wrong-never u e)
-      go false p e = first (eqb-false b 48 p) (digit-reads true 0 b u e)
+      go false p e = first (eqb-false b digitZero p) (digit-reads true 0 b u e)
 
   ends-digits : (negative : Bool) (m b : ℕ) (u : Text) → afterDigits greatest negative m b ≡ Prefix u → Ends (Digits negative m) b u
   ends-digits negative m b u = go (eqb m 0) refl
     where
       next : (m ≡ 0 → ⊥) → Digit negative m b u → Ends (Digits negative m) b u
       next f d =
-          let n : ℕ = m * 10 + (b - 48) in
+          let n : ℕ = m * 10 + (b - digitZero) in
           let q : n / 10 ≡ m = omega (arith, d .low, d .high) in
           digit-ends negative m b (Digits negative m) u d (simp (le-leb 10 n (omega (arith, f)), q)) (λ e. omega (arith, f))
 
@@ -122,22 +119,22 @@ module _ (greatest : ℕ) where
   text-ends (Digits negative m) b u e = ends-digits negative m b u e
 
   -- and the other way round
-  digit-after : (negative : Bool) (m k : ℕ) → m ≤ mostOf greatest negative → k ≡ m / 10 → digitOf greatest negative k (48 + m % 10) ≡ Prefix (Digits negative m)
+  digit-after : (negative : Bool) (m k : ℕ) → m ≤ mostOf greatest negative → k ≡ m / 10 → digitOf greatest negative k (digitZero + m % 10) ≡ Prefix (Digits negative m)
   digit-after negative m k h e =
-      let n : k * 10 + (48 + m % 10 - 48) ≡ m = omega arith in
-      digit-within greatest negative k (48 + m % 10) (omega arith) (omega arith) (omega (arith, n)) ∙ ap (λ x. Prefix (Digits negative x)) n
+      let n : k * 10 + (digitZero + m % 10 - digitZero) ≡ m = omega arith in
+      simp (le-ltb (digitZero + m % 10) digitZero (omega arith), le-ltb digitNine (digitZero + m % 10) (omega arith), n, le-ltb (mostOf greatest negative) m h)
 
   digits-after : (negative : Bool) (m : ℕ) → m ≤ mostOf greatest negative → (negative ≡ true → 0 < m)
-      → (x : Bool) → leb 10 m ≡ x → afterText greatest (pick x (Digits negative (m / 10)) (pick negative Minus Spaces)) (48 + m % 10) ≡ Prefix (Digits negative m)
+      → (x : Bool) → leb 10 m ≡ x → afterText greatest (pick x (Digits negative (m / 10)) (pick negative Minus Spaces)) (digitZero + m % 10) ≡ Prefix (Digits negative m)
   digits-after negative m h s true e =
       let l : 10 ≤ m = leb-true 10 m e in
       simp (ne-eqb (m / 10) 0 (omega arith)) (digit-after negative m (m / 10) h refl)
   digits-after true m h s false e =
       let l : m < 10 = leb-false 10 m e in
-      simp (ne-eqb (48 + m % 10) 48 (omega (arith, s refl))) (digit-after true m 0 h (omega arith))
+      simp (ne-eqb (digitZero + m % 10) digitZero (omega (arith, s refl))) (digit-after true m 0 h (omega arith))
   digits-after false m h s false e =
       let l : m < 10 = leb-false 10 m e in
-      simp (ne-eqb (48 + m % 10) 32 (omega arith), ne-eqb (48 + m % 10) 45 (omega arith)) (digit-after false m 0 h (omega arith))
+      simp (ne-eqb (digitZero + m % 10) space (omega arith), ne-eqb (digitZero + m % 10) minus (omega arith)) (digit-after false m 0 h (omega arith))
 
   text-after : (u : Text) → Proper u → afterText greatest (beforeOf u) (lastOf u) ≡ Prefix u
   text-after Spaces p = refl
@@ -191,11 +188,6 @@ module _ (greatest : ℕ) where
     proper = e .proper;
   }
 
-  scan-wrong : (ys : List ℕ) → scanFrom greatest Wrong ys ≡ Wrong
-  unfolding scanFrom
-  scan-wrong [] = refl
-  scan-wrong (y ∷ ys) = scan-wrong ys
-
   scan-holds : (width : ℕ) (xs : List ℕ) (t : Text) (ys : List ℕ) (u : Text) → Holds width xs t → scanFrom greatest (Prefix t) ys ≡ Prefix u
       → (n : ℕ) × Holds n (xs ++ ys) u
   unfolding scanFrom
@@ -205,7 +197,7 @@ module _ (greatest : ℕ) where
       go : (s : Scan) → afterText greatest t b ≡ s → scanFrom greatest s ys ≡ Prefix u
           → ((v : Text) → Holds (suc width) (xs ++ (b ∷ [])) v → scanFrom greatest (Prefix v) ys ≡ Prefix u → (n : ℕ) × Holds n ((xs ++ (b ∷ [])) ++ ys) u)
           → (n : ℕ) × Holds n (xs ++ (b ∷ ys)) u
-      go Wrong p e k = absurd (wrong-never u (sym (scan-wrong ys) ∙ e))
+      go Wrong p e k = absurd (wrong-never u (sym (scan-wrong greatest ys) ∙ e))
       go (Prefix v) p e k = rw append-assoc at (k v (holds-more width xs t b v h (text-ends t b v p)) e)
 
   -- words and their texts

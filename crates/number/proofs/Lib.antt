@@ -1,2 +1,3 @@
 pub mod Columns
+pub mod Scan
 pub mod Form

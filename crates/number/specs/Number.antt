@@ -7,8 +7,22 @@ use mathlib.Core.Bool.{Bool, true, false}
 use lib.Dec.{ltb, leb}
 use lib.ListN.{length}
 use Rattle.lists.specs.Choice.{pick}
-use Rattle.number.specs.declared.Text.{Text}
-use Rattle.number.specs.declared.Text.the-variants.{Spaces, Minus, Digits}
+
+-- 01, Rows: "in ASCII after spaces, its minus byte 45"
+abbrev pub space : ℕ
+space = 32
+
+abbrev pub minus : ℕ
+minus = 45
+
+abbrev pub digitZero : ℕ
+digitZero = 48
+
+-- What the columns up to some place hold: only spaces, spaces and a minus, or these and digits (whether a minus stands before them,
+-- and their value).
+pub data Text : Type 0 where
+  Spaces Minus : Text
+  Digits : Bool → ℕ → Text
 
 -- a number is a word of 64 bits, a negative one in two's complement; its text
 abbrev pub textOf : ℕ → Text
@@ -16,9 +30,9 @@ textOf w = pick (ltb w (2 ^ 63)) (Digits false w) (Digits true (2 ^ 64 - w))
 
 -- Written from the right: the last column, and what the columns before it hold.
 abbrev pub lastOf : Text → ℕ
-lastOf Spaces = 32
-lastOf Minus = 45
-lastOf (Digits negative m) = 48 + m % 10
+lastOf Spaces = space
+lastOf Minus = minus
+lastOf (Digits negative m) = digitZero + m % 10
 
 abbrev pub beforeDigits : Bool → ℕ → Text
 beforeDigits negative m = pick (leb 10 m) (Digits negative (m / 10)) (pick negative Minus Spaces)

@@ -4,13 +4,17 @@ use mathlib.Core.List.{List, [], _∷_}
 use mathlib.Core.Bool.{Bool, true, false}
 use lib.Dec.{ltb, eqb}
 use Rattle.lists.specs.Choice.{pick}
-use Rattle.number.specs.declared.Text.{Text}
-use Rattle.number.specs.declared.Text.the-variants.{Spaces, Minus, Digits}
-use Rattle.number.specs.declared.Scan.{Scan}
-use Rattle.number.specs.declared.Scan.the-variants.{Prefix, Wrong}
 use Rattle.number.specs.declared.Number.{Number}
 use Rattle.number.specs.declared.Number.the-variants.{Value, Malformed}
-use Rattle.number.specs.Number.{mostOf}
+use Rattle.number.specs.Number.{space, minus, digitZero, Text, Spaces, Minus, Digits, mostOf}
+
+abbrev pub digitNine : ℕ
+digitNine = 57
+
+-- What reading the columns up to some place has found: the start of a number, or what no number starts with.
+pub data Scan : Type 0 where
+  Prefix : Text → Scan
+  Wrong : Scan
 
 -- the word of a sign and a magnitude
 abbrev pub wordOf : Bool → ℕ → ℕ
@@ -18,16 +22,16 @@ wordOf negative m = pick (eqb m 0) 0 (pick negative (2 ^ 64 - m) m)
 
 abbrev pub digitOf : ℕ → Bool → ℕ → ℕ → Scan
 digitOf greatest negative m b =
-    pick (ltb b 48) Wrong
-    (pick (ltb 57 b) Wrong
-    (pick (ltb (mostOf greatest negative) (m * 10 + (b - 48))) Wrong
-    (Prefix (Digits negative (m * 10 + (b - 48))))))
+    pick (ltb b digitZero) Wrong
+    (pick (ltb digitNine b) Wrong
+    (pick (ltb (mostOf greatest negative) (m * 10 + (b - digitZero))) Wrong
+    (Prefix (Digits negative (m * 10 + (b - digitZero))))))
 
 abbrev pub afterSpaces : ℕ → ℕ → Scan
-afterSpaces greatest b = pick (eqb b 32) (Prefix Spaces) (pick (eqb b 45) (Prefix Minus) (digitOf greatest false 0 b))
+afterSpaces greatest b = pick (eqb b space) (Prefix Spaces) (pick (eqb b minus) (Prefix Minus) (digitOf greatest false 0 b))
 
 abbrev pub afterMinus : ℕ → ℕ → Scan
-afterMinus greatest b = pick (eqb b 48) Wrong (digitOf greatest true 0 b)
+afterMinus greatest b = pick (eqb b digitZero) Wrong (digitOf greatest true 0 b)
 
 abbrev pub afterDigits : ℕ → Bool → ℕ → ℕ → Scan
 afterDigits greatest negative m b = pick (eqb m 0) Wrong (digitOf greatest negative m b)
