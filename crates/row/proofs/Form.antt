@@ -19,7 +19,7 @@ use Rattle.number.proofs.Form.{number-form, written-reads}
 use Rattle.row.specs.declared.Row.{Row}
 use Rattle.row.specs.declared.Line.{Line}
 use Rattle.row.specs.declared.Line.the-variants as line
-use Rattle.row.specs.Row.{rowBytes, rowLength, Writable, part}
+use Rattle.row.specs.Row.{newline, rowBytes, rowLength, Writable, part}
 use Rattle.row.specs.Reading.{joined, lineAt}
 
 pub row-length : (w : ℕ) (r : Row) → length (rowBytes w r) ≡ rowLength w
@@ -71,11 +71,11 @@ module _ (g w : ℕ) (small : g < 2 ^ 63) where
       let c : List ℕ = columnsOf w (textOf (r .c)) in
       let bytes : List ℕ = rowBytes w r in
       joined-whole _ _ _ _ _ r (record {
-        tag = reads-between bytes [] (a ++ (b ++ (c ++ (10 ∷ [])))) 0 4 4 (r .tag) (simp append-assoc) refl refl (h .tagRange) (h .tagFits);
-        first = reads-between bytes t (b ++ (c ++ (10 ∷ []))) 4 (4 + w - 4) w (r .a) (simp append-assoc) (written-length 4 _) (omega arith) (h .aRange) (h .aFits);
-        second = reads-between bytes (t ++ a) (c ++ (10 ∷ [])) (4 + w) (4 + 2 * w - (4 + w)) w (r .b) (simp append-assoc) (simp (length-append, written-length)) (omega arith) (h .bRange) (h .bFits);
-        third = reads-between bytes ((t ++ a) ++ b) (10 ∷ []) (4 + 2 * w) (4 + 3 * w - (4 + 2 * w)) w (r .c) (simp append-assoc) (simp (length-append, written-length) (omega arith)) (omega arith) (h .cRange) (h .cFits);
-        last = ap (λ x. eqb x 10) (getD-at (((t ++ a) ++ b) ++ c) 10 [] 0 (4 + 3 * w) (simp (length-append, written-length) (omega arith)));
+        tag = reads-between bytes [] (a ++ (b ++ (c ++ (newline ∷ [])))) 0 4 4 (r .tag) (simp append-assoc) refl refl (h .tagRange) (h .tagFits);
+        first = reads-between bytes t (b ++ (c ++ (newline ∷ []))) 4 (4 + w - 4) w (r .a) (simp append-assoc) (written-length 4 _) (omega arith) (h .aRange) (h .aFits);
+        second = reads-between bytes (t ++ a) (c ++ (newline ∷ [])) (4 + w) (4 + 2 * w - (4 + w)) w (r .b) (simp append-assoc) (simp (length-append, written-length)) (omega arith) (h .bRange) (h .bFits);
+        third = reads-between bytes ((t ++ a) ++ b) (newline ∷ []) (4 + 2 * w) (4 + 3 * w - (4 + 2 * w)) w (r .c) (simp append-assoc) (simp (length-append, written-length) (omega arith)) (omega arith) (h .cRange) (h .cFits);
+        last = ap (λ x. eqb x newline) (getD-at (((t ++ a) ++ b) ++ c) newline [] 0 (4 + 3 * w) (simp (length-append, written-length) (omega arith)));
       })
 
   -- the columns from a on hold the number v
@@ -106,7 +106,7 @@ module _ (g w : ℕ) (small : g < 2 ^ 63) where
       let fa = front-more bytes _ 4 w (4 + w) (r .a) (kt .form) ka refl in
       let fb = front-more bytes _ (4 + w) w (4 + 2 * w) (r .b) fa kb (omega arith) in
       let fc = front-more bytes _ (4 + 2 * w) w (4 + 3 * w) (r .c) fb kc (omega arith) in
-      let last : getD bytes (4 + 3 * w) 0 ≡ 10 = eqb-true (getD bytes (4 + 3 * w) 0) 10 (j .last) in (
+      let last : getD bytes (4 + 3 * w) 0 ≡ newline = eqb-true (getD bytes (4 + 3 * w) 0) newline (j .last) in (
         record { tagRange = kt .range; tagFits = kt .fits; aRange = ka .range; aFits = ka .fits; bRange = kb .range; bFits = kb .fits; cRange = kc .range; cFits = kc .fits },
         sym (take-all (rowLength w) bytes (omega arith)) ∙ ap (λ n. take n bytes) (add-one (4 + 3 * w)) ∙ take-suc bytes (4 + 3 * w) 0 (omega arith)
             ∙ rw (fc, last),

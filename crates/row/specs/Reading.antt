@@ -12,7 +12,7 @@ use Rattle.row.specs.declared.Line.{Line}
 use Rattle.row.specs.declared.Line.the-variants as line
 use Rattle.row.specs.declared.Read.{Read}
 use Rattle.row.specs.declared.Read.the-variants as read
-use Rattle.row.specs.Row.{rowLength, part}
+use Rattle.row.specs.Row.{newline, rowLength, part}
 
 abbrev pub joined : Number → Number → Number → Number → Bool → Line
 joined (Value t) (Value a) (Value b) (Value c) true = line.Whole (record { tag = t; a = a; b = b; c = c })
@@ -30,7 +30,7 @@ lineAt g w bytes =
     (numberOf g (part bytes 4 (4 + w)))
     (numberOf g (part bytes (4 + w) (4 + 2 * w)))
     (numberOf g (part bytes (4 + 2 * w) (4 + 3 * w)))
-    (eqb (getD bytes (4 + 3 * w) 0) 10)
+    (eqb (getD bytes (4 + 3 * w) 0) newline)
 
 abbrev pub foundAt : ℕ → Line → Read
 foundAt next (line.Whole row) = read.Next row (record { at = next })

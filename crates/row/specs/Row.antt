@@ -13,6 +13,10 @@ greatest = 2147483647
 abbrev pub width : ℕ
 width = 11
 
+-- the last byte of a row
+abbrev pub newline : ℕ
+newline = 10
+
 abbrev pub rowLength : ℕ → ℕ
 rowLength w = 4 + 3 * w + 1
 
@@ -23,7 +27,7 @@ part bytes a e = take (e - a) (drop a bytes)
 -- a row as it is written
 unfoldable pub rowBytes : ℕ → Row → List ℕ
 rowBytes w r =
-    (((columnsOf 4 (textOf (r .tag)) ++ columnsOf w (textOf (r .a))) ++ columnsOf w (textOf (r .b))) ++ columnsOf w (textOf (r .c))) ++ (10 ∷ [])
+    (((columnsOf 4 (textOf (r .tag)) ++ columnsOf w (textOf (r .a))) ++ columnsOf w (textOf (r .b))) ++ columnsOf w (textOf (r .c))) ++ (newline ∷ [])
 
 -- a row whose numbers are in range and fit their columns
 pub record Writable (g w : ℕ) (r : Row) : Type 0 where

@@ -7,6 +7,9 @@ ghost use Rattle.lists.specs.Over.{over};
 ghost use Rattle.row.specs.Row.{rowBytes, width, greatest, rowLength};
 ghost use Rattle.row.specs.Reading.{joined, foundAt, lineAt, readAt};
 
+// The last byte of a row.
+const NEWLINE: u8 = 10;
+
 pub struct Row {
     pub tag: u64,
     pub a: u64,
@@ -91,7 +94,7 @@ impl Row {
         let a = number::read_number(Row::GREATEST, &bytes[Row::A..Row::B]);
         let b = number::read_number(Row::GREATEST, &bytes[Row::B..Row::C]);
         let c = number::read_number(Row::GREATEST, &bytes[Row::C..Row::LAST]);
-        join(tag, a, b, c, bytes[Row::LAST] == 10)
+        join(tag, a, b, c, bytes[Row::LAST] == NEWLINE)
     }
 
     // Writes the row into the first bytes of out.
@@ -103,7 +106,7 @@ impl Row {
         number::write_number(&mut out[Row::A..], Row::WIDTH, self.a);
         number::write_number(&mut out[Row::B..], Row::WIDTH, self.b);
         number::write_number(&mut out[Row::C..], Row::WIDTH, self.c);
-        out[Row::LAST] = 10;
+        out[Row::LAST] = NEWLINE;
     }
 }
 

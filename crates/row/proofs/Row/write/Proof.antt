@@ -7,7 +7,7 @@ use lib.ListN.{length, length-append}
 use Rattle.lists.proofs.Over.{over-tail, over-set, over-length}
 use Rattle.number.specs.Number.{columnsOf, textOf}
 use Rattle.number.proofs.Columns.{written-length}
-use Rattle.row.specs.Row.{rowBytes}
+use Rattle.row.specs.Row.{newline, rowBytes}
 use Rattle.row.proofs.Form.{row-length}
 use borrow.Author.Needs.{needs}
 use Rattle.row.proofs.Row.write.Statement.{statement}
@@ -25,7 +25,7 @@ bytes c =
     let ta : List ℕ = t ++ columnsOf 11 (textOf (a .self .a)) in
     let tab : List ℕ = ta ++ columnsOf 11 (textOf (a .self .b)) in
     let xs : List ℕ = a .out .now in
-    over-set (tab ++ columnsOf 11 (textOf (a .self .c))) xs _ 37 10 (simp (length-append, written-length))
+    over-set (tab ++ columnsOf 11 (textOf (a .self .c))) xs _ 37 newline (simp (length-append, written-length))
     (over-tail tab _ xs _ _ 26 (simp (length-append, written-length))
     (over-tail ta _ xs _ _ 15 (simp (length-append, written-length))
     (over-tail t _ xs _ _ 4 (simp written-length) (c1 .write-number .ensures) (c2 .write-number2 .ensures))
