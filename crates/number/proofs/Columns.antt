@@ -37,10 +37,13 @@ pub over-columns : (width : ℕ) (text : Text) (out : List ℕ) → over (column
 unfolding over
 over-columns width text out = rw (written-length width text)
 
--- what was written over the same columns before is gone
-pub over-again : (width : ℕ) (text before : Text) (out : List ℕ) → over (columnsOf width text) (over (columnsOf width before) out) ≡ over (columnsOf width text) out
+-- what stood in the columns before is gone
+pub over-blank : (width : ℕ) (text : Text) (out blank written : List ℕ) → blank ≡ over (columnsOf width Spaces) out → written ≡ over (columnsOf width text) blank
+    → written ≡ over (columnsOf width text) out
 unfolding over
-over-again width text before out = rw (written-length width text, written-length width before, drop-at (columnsOf width before) (drop width out) width (written-length width before))
+over-blank width text out blank written b w =
+    let size = written-length width in
+    w ∙ rw (b, size text, size Spaces, drop-at (columnsOf width Spaces) (drop width out) width (size Spaces))
 
 pub written-done : (out whole : List ℕ) (text : Text) (i : ℕ) → i ≤ 0 → columnsOf i text ++ drop i out ≡ whole → out ≡ whole
 unfolding columnsOf

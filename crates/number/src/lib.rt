@@ -2,7 +2,7 @@
 // Numbers run from -greatest - 1 to greatest.
 ghost use mathlib.Core.Path.{_≡_};
 ghost use lib.ListN.{length, getD, take, drop};
-ghost use Prim.Native.Nat.{_≤_, _<_, _+_, _^_};
+ghost use Prim.Native.Nat.{_≤_, _<_, _+_, _-_, _^_};
 ghost use Rattle.lists.specs.Over.{over};
 ghost use Rattle.lists.specs.Choice.{pick};
 ghost use Rattle.number.specs.Number.{space, digitZero, Spaces, Minus, Digits, mostOf, textOf, columnsOf};
@@ -16,6 +16,9 @@ const MINUS: u8 = 45;
 const ZERO: u8 = 48;
 
 const NINE: u8 = 57;
+
+// The first word of a negative number.
+const FIRST_NEGATIVE: u64 = 9223372036854775808;
 
 // What columns hold.
 pub enum Number {
@@ -31,6 +34,14 @@ fn most(greatest: u64, negative: bool) -> u64
     if negative { greatest + 1 } else { greatest }
 }
 
+// The two's complement of a word other than 0.
+fn negated(word: u64) -> u64
+    requires { ⌜ 0 < word ⌝ }
+    ensures { λ r. ⌜ r ≡ 2 ^ 64 - word ⌝ }
+{
+    18446744073709551615 - word + 1
+}
+
 // The word of a sign and a magnitude.
 fn word(negative: bool, magnitude: u64) -> u64
     ensures { λ r. ⌜ r ≡ wordOf negative magnitude ⌝ }
@@ -39,7 +50,7 @@ fn word(negative: bool, magnitude: u64) -> u64
         return 0;
     }
     if negative {
-        18446744073709551615 - magnitude + 1
+        negated(magnitude)
     } else {
         magnitude
     }
@@ -58,6 +69,7 @@ fn digits(greatest: u64, negative: bool, columns: &[u8], at: usize) -> Number
         if (b < ZERO) | (NINE < b) {
             return Number::Malformed;
         }
+        // tested before the product, which then fits a word
         if most / 10 < m {
             return Number::Malformed;
         }
@@ -165,9 +177,9 @@ pub fn write_number(out: &mut [u8], width: usize, word: u64)
     ensures { λ _. ⌜ now (out .exit) ≡ over (columnsOf width (textOf word)) (now (out .entry)) ⌝ }
 {
     blank(out, width);
-    if word < 9223372036854775808 {
+    if word < FIRST_NEGATIVE {
         write_digits(out, width, false, word);
     } else {
-        write_digits(out, width, true, 18446744073709551615 - word + 1);
+        write_digits(out, width, true, negated(word));
     }
 }
