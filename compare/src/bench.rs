@@ -28,7 +28,7 @@ struct Times {
     rust: Duration,
 }
 
-/// Runs of one call go on for so long, and there are at least so many.
+/// The runs of either side go on until they have taken so long together, and there are at least so many.
 const LONG_ENOUGH: Duration = Duration::from_millis(400);
 const ENOUGH: usize = 7;
 
@@ -68,6 +68,21 @@ pub fn tables() -> Vec<(&'static str, Vec<u8>)> {
     let grown = growing_ones().into_iter().flatten();
     let all = single().into_iter().chain(grown);
     all.map(|subject| (subject.name, subject.table)).collect()
+}
+
+/// One of the tables, by its name or by its number from 1.
+pub fn table(name: &str) -> Result<Vec<u8>, String> {
+    let tables = tables();
+    let numbered = |place: usize| (place + 1).to_string();
+    let found = (0..tables.len()).find(|&place| tables[place].0 == name || numbered(place) == name);
+    match found {
+        Some(place) => Ok(tables[place].1.clone()),
+        None => {
+            let lines =
+                (0..tables.len()).map(|place| format!("\n{} {}", place + 1, tables[place].0));
+            Err("the timed tables:".to_string() + &lines.collect::<String>())
+        }
+    }
 }
 
 fn rows_of(draft: impl Fn(&mut Random) -> Draft) -> Vec<u8> {
@@ -130,37 +145,78 @@ fn lines(subject: &Subject, times: &[Times]) -> String {
     times.iter().map(line).collect()
 }
 
-/// The times of each call at three sizes, in terms of the first.
+/// The times of each call at three sizes, in terms of the first, and of the last in terms of the one before.
 fn growth(sizes: &[Vec<Times>]) -> String {
     let mut text = String::new();
     for (place, first) in sizes[0].iter().enumerate() {
-        let terms = |time: fn(&Times) -> Duration| -> String {
-            let parts = sizes.iter().map(|one| time(&one[place]));
-            parts
-                .map(|one| format!(" {:.1}", one.as_secs_f64() / time(first).as_secs_f64()))
-                .collect()
+        let times = |side: fn(&Times) -> Duration| -> Vec<f64> {
+            let times = sizes.iter().map(|one| side(&one[place]).as_secs_f64());
+            times.collect()
         };
+        let (proved, rust) = (times(|one| one.proved), times(|one| one.rust));
         text += &format!(
             "growth of {}: proved{}, Rust{}\n",
             first.call,
-            terms(|one| one.proved),
-            terms(|one| one.rust)
+            in_terms_of_first(&proved),
+            in_terms_of_first(&rust)
+        );
+        text += &format!(
+            "growth of {} from the half to the whole: proved {:.1}, Rust {:.1}\n",
+            first.call,
+            proved[2] / proved[1],
+            rust[2] / rust[1]
         );
     }
     text
 }
 
-/// The middle one of the times of many runs.
-fn time<T>(mut run: impl FnMut() -> T) -> Duration {
-    let start = Instant::now();
-    let mut times = Vec::new();
-    while times.len() < ENOUGH || start.elapsed() < LONG_ENOUGH {
-        let one = Instant::now();
+fn in_terms_of_first(times: &[f64]) -> String {
+    let terms = times.iter().map(|one| format!(" {:.1}", one / times[0]));
+    terms.collect()
+}
+
+/// The times of one side's runs.
+#[derive(Default)]
+struct Runs {
+    times: Vec<Duration>,
+    total: Duration,
+}
+
+impl Runs {
+    fn add<T>(&mut self, run: &mut impl FnMut() -> T) {
+        let start = Instant::now();
         black_box(run());
-        times.push(one.elapsed());
+        let time = start.elapsed();
+        self.times.push(time);
+        self.total += time;
     }
-    times.sort();
-    times[times.len() / 2]
+
+    fn are_enough(&self) -> bool {
+        self.times.len() >= ENOUGH && self.total >= LONG_ENOUGH
+    }
+
+    fn median(mut self) -> Duration {
+        self.times.sort();
+        self.times[self.times.len() / 2]
+    }
+}
+
+/// Times both sides in turn, one run of each, until both have enough, so that what else the machine does meets both alike.
+fn time<T, U>(
+    call: &'static str,
+    mut proved: impl FnMut() -> T,
+    mut rust: impl FnMut() -> U,
+) -> Times {
+    let (mut proved_runs, mut rust_runs) = (Runs::default(), Runs::default());
+    while !(proved_runs.are_enough() && rust_runs.are_enough()) {
+        proved_runs.add(&mut proved);
+        rust_runs.add(&mut rust);
+    }
+    Times {
+        call,
+        proved: proved_runs.median(),
+        rust: rust_runs.median(),
+    }
 }
 
 /// Times check, the last sequent and the longest goal, in this process.
@@ -177,22 +233,22 @@ pub fn library(proved: &dyn Services) -> Result<String, String> {
 fn check_times(proved: &dyn Services, subject: &Subject) -> Times {
     let table = &subject.table;
     assert_eq!(proved.check(table).value, subject.count as u64);
-    Times {
-        call: "check",
-        proved: time(|| proved.check(black_box(table))),
-        rust: time(|| check(black_box(table))),
-    }
+    time(
+        "check",
+        || proved.check(black_box(table)),
+        || check(black_box(table)),
+    )
 }
 
 fn write_times(proved: &dyn Services, subject: &Subject) -> Times {
     let (table, k) = (&subject.table, subject.count);
     let mut out = vec![0; 178 * ROW_BYTES];
     let mut same = out.clone();
-    let times = Times {
-        call: "last sequent",
-        proved: time(|| proved.write_sequent(table, k as u64, &mut out)),
-        rust: time(|| write_sequent(table, k, &mut same)),
-    };
+    let times = time(
+        "last sequent",
+        || proved.write_sequent(table, k as u64, &mut out),
+        || write_sequent(table, k, &mut same),
+    );
     assert!(out == same, "{}: the sequents differ", subject.name);
     times
 }
@@ -201,11 +257,11 @@ fn spell_times(proved: &dyn Services, subject: &Subject) -> Times {
     let (table, (k, j, rows)) = (&subject.table, subject.longest);
     let mut out = vec![0; rows * ROW_BYTES];
     let mut same = out.clone();
-    let times = Times {
-        call: "longest entry",
-        proved: time(|| proved.spell_entry(table, k as u64, j as u64, &mut out)),
-        rust: time(|| spell_entry(table, k, j, &mut same)),
-    };
+    let times = time(
+        "longest entry",
+        || proved.spell_entry(table, k as u64, j as u64, &mut out),
+        || spell_entry(table, k, j, &mut same),
+    );
     assert!(out == same, "{}: the entries differ", subject.name);
     times
 }
@@ -214,17 +270,12 @@ fn spell_times(proved: &dyn Services, subject: &Subject) -> Times {
 pub fn program(proved: &Program, rust: &Program) -> Result<String, String> {
     report(|subject| {
         let wanted = print(&subject.table);
-        let run = |program: &Program| {
+        for program in [proved, rust] {
             program.read(&subject.table)?;
             if program.output()? != wanted {
                 return Err(format!("{}: the output differs", subject.name));
             }
-            Ok(time(|| program.output()))
-        };
-        Ok(vec![Times {
-            call: "print",
-            proved: run(proved)?,
-            rust: run(rust)?,
-        }])
+        }
+        Ok(vec![time("print", || proved.output(), || rust.output())])
     })
 }

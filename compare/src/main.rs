@@ -19,7 +19,7 @@ use compare::{campaign, library::Library, stack::report};
 const USAGE: &str =
     "use: compare print | sequent K | entry K J | layout | refute LOW HIGH | table SEED
      | statistics SEEDS [FIRST] | against-library TABLES [FIRST]
-     | against-program PROGRAM TABLES [FIRST] | bench [PROGRAM] | stack";
+     | against-program PROGRAM TABLES [FIRST] | bench [PROGRAM] | bench-table NAME | stack";
 
 fn main() -> ExitCode {
     let words: Vec<String> = std::env::args().skip(1).collect();
@@ -56,6 +56,7 @@ fn answer(words: &[&str]) -> Result<Vec<u8>, String> {
             Ok(refute::report(&table, integer(low)?..=integer(high)?).into_bytes())
         }
         ["table", seed] => Ok(generate::table(number(seed)?)),
+        ["bench-table", name] => bench::table(name),
         ["statistics", seeds] => Ok(Statistics::of(0, number(seeds)?).report().into_bytes()),
         ["statistics", seeds, first] => {
             let statistics = Statistics::of(number(first)?, number(seeds)?);
