@@ -2,6 +2,7 @@
 
 pub mod against;
 pub mod bench;
+pub mod by_sequent;
 pub mod campaign;
 pub mod checks;
 pub mod evaluate;

@@ -1,25 +1,28 @@
 //! The commands of the program `compare`; READINGS.md has the readings of the paper behind it.
 
+use compare::against::Services;
 use compare::bench;
+use compare::by_sequent::hold;
+use compare::campaign;
 use compare::checks::{accept, Refusal};
 use compare::generate;
 use compare::program::{self, Program};
 use compare::refute;
 use compare::rows::{bytes_of, layout, Row};
 use compare::services::{print, refusal_row, Answers};
+use compare::stack::report;
 use compare::statistics::Statistics;
 use compare::table::Table;
+use std::fs::read_to_string;
 use std::io::{stdin, stdout, Read, Write};
 use std::path::Path;
 use std::process::ExitCode;
 
-#[cfg(library)]
-use compare::{campaign, library::Library, stack::report};
-
 const USAGE: &str =
     "use: compare print | sequent K | entry K J | layout | refute LOW HIGH | table SEED
      | statistics SEEDS [FIRST] | against-library TABLES [FIRST]
-     | against-program PROGRAM TABLES [FIRST] | bench [PROGRAM] | bench-table NAME | stack";
+     | against-program PROGRAM TABLES [FIRST] | by-sequent PROGRAM [FILE..]
+     | bench [PROGRAM] | bench-table NAME | stack";
 
 fn main() -> ExitCode {
     let words: Vec<String> = std::env::args().skip(1).collect();
@@ -75,8 +78,9 @@ fn compared(words: &[&str]) -> Result<Vec<u8>, String> {
         ["against-program", program, count, first] => {
             against_program(program, number(count)?, number(first)?)
         }
-        ["bench"] => bench_library(),
-        ["stack"] => stack_of_library(),
+        ["by-sequent", program, files @ ..] => by_sequent(program, files),
+        ["bench"] => Ok(bench::library(linked()?)?.into_bytes()),
+        ["stack"] => Ok(report::report(linked()?)?.into_bytes()),
         ["bench", program] => {
             let this = std::env::current_exe().map_err(|error| error.to_string())?;
             let (proved, rust) = (program_of(program), Program::new(&this, &["print"]));
@@ -86,52 +90,61 @@ fn compared(words: &[&str]) -> Result<Vec<u8>, String> {
     }
 }
 
+/// The proved library, if this was built with it.
+fn library() -> Option<&'static dyn Services> {
+    #[cfg(library)]
+    return Some(&compare::library::Library);
+    #[cfg(not(library))]
+    return None;
+}
+
+/// The proved library, for commands that need it.
+fn linked() -> Result<&'static dyn Services, String> {
+    library().ok_or(
+        "this was built without the library: set SIFTHORMA_LIBRARY to the path of libsifthorma.a"
+            .to_string(),
+    )
+}
+
 /// Compares the proved library with this program on the tables of so many seeds.
-#[cfg(library)]
 fn against_library(count: u64, first: u64) -> Result<Vec<u8>, String> {
     let threads = std::thread::available_parallelism().map_or(1, |threads| threads.get());
-    let (summary, found) = campaign::compare(&Library, first, count, threads, true);
+    let (summary, found) = campaign::compare(linked()?, first, count, threads, true);
     match found {
         None => Ok((summary.report() + "no difference\n").into_bytes()),
         Some(found) => Err(summary.report() + &found.report()),
     }
 }
 
-/// Times the proved library against this program.
-#[cfg(library)]
-fn bench_library() -> Result<Vec<u8>, String> {
-    Ok(bench::library(&Library)?.into_bytes())
-}
-
-/// Measures the stack that calls of the proved library use.
-#[cfg(library)]
-fn stack_of_library() -> Result<Vec<u8>, String> {
-    Ok(report::report(&Library)?.into_bytes())
-}
-
-#[cfg(not(library))]
-const NO_LIBRARY: &str =
-    "this was built without the library: set SIFTHORMA_LIBRARY to the path of libsifthorma.a";
-
-#[cfg(not(library))]
-fn against_library(_: u64, _: u64) -> Result<Vec<u8>, String> {
-    Err(NO_LIBRARY.to_string())
-}
-
-#[cfg(not(library))]
-fn bench_library() -> Result<Vec<u8>, String> {
-    Err(NO_LIBRARY.to_string())
-}
-
-#[cfg(not(library))]
-fn stack_of_library() -> Result<Vec<u8>, String> {
-    Err(NO_LIBRARY.to_string())
-}
-
-/// Compares a program that prints a table's sequents with this one on the tables of so many seeds.
+/// Compares a program that prints a table's sequents with this one on the tables of so many seeds, and with the library's
+/// sequents if it is linked.
 fn against_program(program: &str, count: u64, first: u64) -> Result<Vec<u8>, String> {
-    let same = program::compare(&program_of(program), first, count)?;
+    let same = program::compare(&program_of(program), library(), first, count)?;
     Ok(same.into_bytes())
+}
+
+/// Holds what a program prints for the models in these files and for the timed tables against the library's sequents: a line
+/// for each table as it is done.
+fn by_sequent(program: &str, files: &[&str]) -> Result<Vec<u8>, String> {
+    let (program, services) = (program_of(program), linked()?);
+    let mut tables = Vec::new();
+    for &file in files {
+        let trouble = |error: String| format!("{file}: {error}");
+        let text = read_to_string(file).map_err(|error| trouble(error.to_string()))?;
+        tables.push((file, bytes_of(&layout(&text).map_err(trouble)?)));
+    }
+    tables.extend(bench::tables());
+    let mut differences = 0;
+    for (name, table) in &tables {
+        program.read(table)?;
+        let held = hold(services, table, &program.output()?);
+        println!("{name}: {}", held.report());
+        differences += usize::from(held.difference.is_some());
+    }
+    match differences {
+        0 => Ok("no difference\n".into()),
+        _ => Err(format!("{differences} of {} tables differ", tables.len())),
+    }
 }
 
 /// A program named by its path alone.

@@ -2,9 +2,9 @@
 
 mod common;
 
+use common::{reply, Fault, Faulty};
 use compare::against::{Call, Comparison, Effort, Reply, Services};
 use compare::campaign::{compare, Found};
-use compare::checks::Refusal;
 use compare::generate::random::Random;
 use compare::rows::{Row, ROW_BYTES};
 use compare::services::{check, spell_entry, write_sequent};
@@ -14,49 +14,6 @@ use std::collections::BTreeSet;
 use std::ffi::c_void;
 use std::sync::Mutex;
 use std::time::Duration;
-
-/// What goes wrong with a call that this program has answered.
-type Fault = fn(Call, &mut Reply, &mut [u8]);
-
-struct Faulty(Fault);
-
-fn reply(answer: Result<usize, Refusal>) -> Reply {
-    let (number, value) = match answer {
-        Ok(value) => (0, value),
-        Err(refusal) => (refusal.number as u64, refusal.row),
-    };
-    Reply {
-        number,
-        value: value as u64,
-    }
-}
-
-impl Services for Faulty {
-    /// Enough for the recursion of this program.
-    fn stack(&self) -> usize {
-        8 << 20
-    }
-
-    fn check(&self, table: &[u8]) -> Reply {
-        let mut reply = reply(check(table));
-        self.0(Call::Check, &mut reply, &mut []);
-        reply
-    }
-
-    fn write_sequent(&self, table: &[u8], k: u64, out: &mut [u8]) -> Reply {
-        let mut reply = reply(write_sequent(table, k as usize, out));
-        let room = out.len();
-        self.0(Call::Write { k, room }, &mut reply, out);
-        reply
-    }
-
-    fn spell_entry(&self, table: &[u8], k: u64, j: u64, out: &mut [u8]) -> Reply {
-        let mut reply = reply(spell_entry(table, k as usize, j as usize, out));
-        let room = out.len();
-        self.0(Call::Spell { k, j, room }, &mut reply, out);
-        reply
-    }
-}
 
 fn found(fault: Fault) -> Option<Found> {
     compare(&Faulty(fault), 0, 300, 1, false).1

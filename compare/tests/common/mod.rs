@@ -1,8 +1,10 @@
 //! Tables that several tests share.
 #![allow(dead_code)]
 
+use compare::against::{Call, Reply, Services};
 use compare::checks::Refusal;
 use compare::rows::{bytes_of, layout, Row};
+use compare::services::{check, spell_entry, write_sequent};
 
 /// The bytes of a table in readable text.
 pub fn table(text: &str) -> Vec<u8> {
@@ -15,6 +17,50 @@ pub fn rows(text: &str) -> Vec<Row> {
 
 pub fn refusal(number: i32, row: usize) -> Refusal {
     Refusal { number, row }
+}
+
+/// What goes wrong with a call that this program has answered.
+pub type Fault = fn(Call, &mut Reply, &mut [u8]);
+
+/// Answers as this program does, but for the fault.
+pub struct Faulty(pub Fault);
+
+pub fn reply(answer: Result<usize, Refusal>) -> Reply {
+    let (number, value) = match answer {
+        Ok(value) => (0, value),
+        Err(refusal) => (refusal.number as u64, refusal.row),
+    };
+    Reply {
+        number,
+        value: value as u64,
+    }
+}
+
+impl Services for Faulty {
+    /// Enough for the recursion of this program.
+    fn stack(&self) -> usize {
+        8 << 20
+    }
+
+    fn check(&self, table: &[u8]) -> Reply {
+        let mut reply = reply(check(table));
+        self.0(Call::Check, &mut reply, &mut []);
+        reply
+    }
+
+    fn write_sequent(&self, table: &[u8], k: u64, out: &mut [u8]) -> Reply {
+        let mut reply = reply(write_sequent(table, k as usize, out));
+        let room = out.len();
+        self.0(Call::Write { k, room }, &mut reply, out);
+        reply
+    }
+
+    fn spell_entry(&self, table: &[u8], k: u64, j: u64, out: &mut [u8]) -> Reply {
+        let mut reply = reply(spell_entry(table, k as usize, j as usize, out));
+        let room = out.len();
+        self.0(Call::Spell { k, j, room }, &mut reply, out);
+        reply
+    }
 }
 
 /// Table L of the paper.
