@@ -2,8 +2,10 @@
 
 pub mod damage;
 pub mod draft;
+pub mod near;
 pub mod plan;
 pub mod random;
+pub mod sections;
 pub mod tree;
 
 use crate::checks::{accept, ENTRY, FRAME, MISSING, ROOM, SEQUENT};
@@ -12,8 +14,10 @@ use crate::sequents::{sequents, spell_out};
 use crate::services::check;
 use damage::{aimed, wild};
 use draft::Draft;
+use near::near_miss;
 use plan::{extreme, Plan, EXTREMES};
 use random::Random;
+use sections::{arranged, sectioned};
 
 /// A table and the calls to make with it.
 #[derive(Clone, Debug)]
@@ -30,7 +34,7 @@ pub struct Case {
 /// Fifty seeds in a row meet each refusal at least once.
 pub const ROUND: u64 = 50;
 
-/// The case of a seed: 15 are aimed at one refusal each, 12 damaged anyhow, 23 accepted.
+/// The case of a seed: 15 are aimed at one refusal each, 4 damaged anyhow, 8 near a refusal, 23 accepted.
 pub fn case(seed: u64) -> Case {
     let mut random = Random::new(seed);
     let table = seeded(seed, &mut random);
@@ -51,14 +55,15 @@ fn seeded(seed: u64, random: &mut Random) -> Vec<u8> {
     match slot {
         0..=11 => refused(slot + FRAME, random),
         12..=14 => with_sequents(random),
-        15..=26 => wild(&accepted_draft(random), random),
+        15..=18 => wild(&accepted_draft(random), random),
+        19..=26 => near_miss(random),
         _ => accepted(random),
     }
 }
 
-/// A draft of an accepted table: tiny to large, one in four at some limit.
+/// A draft of an accepted table: tiny to large, one in seven at all limits or some, two in five by their sections.
 pub fn accepted_draft(random: &mut Random) -> Draft {
-    match random.below(8) {
+    match random.below(14) {
         0 | 1 => {
             let number = random.below(EXTREMES);
             extreme(number, random)
@@ -67,7 +72,9 @@ pub fn accepted_draft(random: &mut Random) -> Draft {
         3 => Plan::any(random, 2).draft(random),
         4 | 5 => Plan::any(random, 6).draft(random),
         6 => Plan::any(random, 16).draft(random),
-        _ => Plan::any(random, 512).draft(random),
+        7 => Plan::any(random, 512).draft(random),
+        8 => arranged(random),
+        _ => sectioned(random),
     }
 }
 

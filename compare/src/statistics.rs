@@ -1,12 +1,16 @@
 //! What the tables of many seeds contain and how they are answered.
 
+pub mod shapes;
+
 use crate::checks::{accept, Refusal};
+use crate::generate::sections::COMBINATIONS;
 use crate::generate::{case, Case};
 use crate::rows::ROW_BYTES;
 use crate::sequents::{sequents, spell_out, Sequent};
 use crate::services::{check, print, spell_entry, write_sequent};
 use crate::table::Table;
-use std::collections::BTreeMap;
+use shapes::{empty_sections, shapes};
+use std::collections::{BTreeMap, BTreeSet};
 
 /// How often each of the paper's numbers occurred.
 type Counts = BTreeMap<i32, usize>;
@@ -21,6 +25,10 @@ pub struct Statistics {
     pub hypothesis_forms: Counts,
     pub goal_forms: Counts,
     pub operators: Counts,
+    /// Tables by words for where their rows stand and how near a refusal they are.
+    pub shapes: BTreeMap<String, usize>,
+    /// Combinations of empty sections in accepted tables.
+    pub empty: BTreeSet<Vec<i32>>,
     pub most_sequents: usize,
     pub longest_sequent: usize,
     pub longest_entry: usize,
@@ -44,8 +52,13 @@ impl Statistics {
             count(&mut self.refusals, number);
         }
         self.longest_print = self.longest_print.max(print(&case.table).len() / ROW_BYTES);
-        if let Ok(table) = accept(&case.table) {
+        let accepted = accept(&case.table);
+        for word in shapes(&case.table, accepted.as_ref().err().copied()) {
+            *self.shapes.entry(word).or_default() += 1;
+        }
+        if let Ok(table) = accepted {
             self.accepted += 1;
+            self.empty.insert(empty_sections(&table));
             self.add_table(&table);
         }
     }
@@ -90,6 +103,11 @@ impl Statistics {
             }
             text += "\n";
         }
+        for (word, count) in &self.shapes {
+            text += &format!("{word}: {count}\n");
+        }
+        let empty = self.empty.len();
+        text += &format!("combinations of empty sections {empty} of {COMBINATIONS}\n");
         text += &format!("most rows of an accepted table {}\n", self.most_rows);
         text += &format!("most sequents {}\n", self.most_sequents);
         text += &format!("longest sequent, rows {}\n", self.longest_sequent);

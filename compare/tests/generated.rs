@@ -5,6 +5,7 @@ mod common;
 use compare::checks::accept;
 use compare::evaluate::{evaluate, NoValue, Reading, Value, Values};
 use compare::generate::random::Random;
+use compare::generate::sections::{COMBINATIONS, TAGS};
 use compare::generate::{accepted_draft, case, ROUND};
 use compare::rows::{bytes_of, ROW_BYTES};
 use compare::sequents::{sequents, spell_out, Entry};
@@ -43,6 +44,83 @@ fn all_kinds_forms_and_operators_occur() {
         assert!(statistics.operators.contains_key(&operator), "{operator}");
     }
 }
+
+/// Rows stand in every way that matters to a program that goes by sections, and tables are near the refusals.
+#[test]
+fn shapes_occur_in_numbers() {
+    let statistics = Statistics::of(0, 1500);
+    assert!(3 * statistics.accepted >= statistics.cases);
+    assert!(3 * statistics.empty.len() >= 2 * COMBINATIONS);
+    let count = |word: &str| statistics.shapes.get(word).copied().unwrap_or(0);
+    for tag in TAGS.into_iter().filter(|&tag| tag != 40) {
+        assert!(
+            count(&format!("accepted, section {tag}: empty")) > 5,
+            "{tag}"
+        );
+        assert!(
+            count(&format!("accepted, section {tag}: one row")) > 5,
+            "{tag}"
+        );
+    }
+    for tag in TAGS.into_iter().filter(|&tag| tag != 70) {
+        let limit = format!("accepted, section {tag}: at its limit");
+        assert!(count(&limit) > 20, "{tag}");
+        let later = format!("refused after 4, section {tag}: at its limit");
+        assert!(count(&later) > 3, "{tag}");
+    }
+    for tag in TAGS {
+        let above = format!("refused by 4, section {tag}: one above the limit");
+        assert!(count(&above) > 0, "{tag}");
+    }
+    for (word, least) in SHAPES {
+        assert!(count(word) >= *least, "{word}: {}", count(word));
+    }
+}
+
+/// And how many there must be.
+const SHAPES: &[(&str, usize)] = &[
+    ("accepted, 51 and 52 of one event apart", 100),
+    ("accepted, actions of events interleaved", 100),
+    (
+        "accepted, all actions but initial ones of the last event",
+        10,
+    ),
+    ("accepted, all actions of the last event", 10),
+    ("accepted, an event without actions", 100),
+    ("accepted, guards interleaved", 100),
+    ("accepted, witnesses interleaved", 100),
+    ("accepted, one section at its limit, five or more empty", 50),
+    ("accepted, one target of two events", 100),
+    ("accepted, the last row's root is node 1", 10),
+    ("refused by 3: known tags fall once", 30),
+    (
+        "refused by 4, section 52 with rows 51: one above the limit",
+        2,
+    ),
+    ("refused by 9: no use", 20),
+    ("refused by 9: two uses", 10),
+    (
+        "refused by 9: more than one use, the last in the last row",
+        2,
+    ),
+    ("refused by 9: the last node", 2),
+    ("refused by 11: 51 and 51", 5),
+    ("refused by 11: 51 and 51, far apart", 2),
+    ("refused by 11: 51 and 52", 5),
+    ("refused by 11: 51 and 52, far apart", 2),
+    ("refused by 11: 52 and 52", 5),
+    ("refused by 11: 60 and 60", 5),
+    ("refused by 11: 60 and 60, far apart", 2),
+    ("refused by 12, alone: abstract initialisation", 2),
+    ("refused by 12, alone: concrete initialisation", 2),
+    ("refused by 12, alone: abstract initial action", 2),
+    ("refused by 12, alone: concrete initial action", 2),
+    ("refused by 12, alone: variable witness, initial", 2),
+    ("refused by 12, alone: variable witness, ordinary", 1),
+    ("refused by 12, alone: parameter witness", 1),
+    ("refused by 12, alone: variant", 2),
+    ("refused by 12, alone: convergent event", 2),
+];
 
 #[test]
 fn drafts_are_accepted() {

@@ -1,6 +1,7 @@
 //! Damaged tables: aimed at one refusal, or damaged anyhow.
 
 use super::draft::{Draft, DraftFormula};
+use super::near::{near, NEAR};
 use super::plan::{numbers_of, root_sort, sight, sort_of_type};
 use super::random::Random;
 use super::tree::{Grower, Tree};
@@ -13,6 +14,9 @@ const ODD: [i32; 10] = [0, 1, 2, 3, -1, 7, 64, 513, i32::MAX, i32::MIN];
 
 /// A table that is likely to have this refusal, from 1 to 12.
 pub fn aimed(refusal: i32, draft: &Draft, random: &mut Random) -> Vec<u8> {
+    if NEAR.contains(&refusal) && random.one_in(2) {
+        return bytes_of(&near(refusal, draft, random));
+    }
     let mut draft = draft.clone();
     match refusal {
         8 if !random.one_in(4) => wrong_sort(&mut draft, random),
@@ -137,7 +141,7 @@ fn change_field(rows: &mut [Row], place: usize, random: &mut Random) {
 }
 
 /// The places of the rows that meet the condition.
-fn places(rows: &[Row], meets: impl Fn(&Row) -> bool) -> Vec<usize> {
+pub fn places(rows: &[Row], meets: impl Fn(&Row) -> bool) -> Vec<usize> {
     (0..rows.len())
         .filter(|&place| meets(&rows[place]))
         .collect()
@@ -234,7 +238,7 @@ fn overfill(rows: &mut Vec<Row>, random: &mut Random) {
     rows.sort_by_key(|row| row.tag);
 }
 
-fn is_action(tag: i32) -> bool {
+pub fn is_action(tag: i32) -> bool {
     tag == BECOMES_EQUAL || tag == BECOMES_SUCH_THAT
 }
 

@@ -2,12 +2,36 @@
 
 use super::draft::{Draft, DraftFormula};
 use super::random::Random;
+use super::sections::arrange;
 use super::tree::{Grower, Leaf, Tree};
 use crate::formula::{Sort, AFTER, DIVIDE, IDENTIFIER, LITERAL, NEGATION};
 use crate::table::*;
 
+/// How actions are shared between rows 51 and 52.
+#[derive(Clone, Copy, Debug, Default, PartialEq, Eq)]
+pub enum ActionTags {
+    #[default]
+    Any,
+    Equal,
+    SuchThat,
+    /// One of them has the other tag.
+    AllButOneEqual,
+    AllButOneSuchThat,
+    ByEvent,
+    InTurn,
+}
+
+/// Which events besides the initialisations have actions.
+#[derive(Clone, Copy, Debug, Default, PartialEq, Eq)]
+pub enum Acting {
+    #[default]
+    Any,
+    None,
+    Last,
+}
+
 /// How many of everything. `guards_at` is one event for all guards, or 0 for any.
-/// `nodes` come on top of one for each formula, `spare_nodes` are left to the limit.
+/// Rows of one tag stand in any order unless they are `arranged`. `nodes` come on top of one for each formula, `spare_nodes` are left to the limit.
 #[derive(Clone, Debug, Default)]
 pub struct Plan {
     pub constants: usize,
@@ -24,13 +48,15 @@ pub struct Plan {
     pub guards: usize,
     pub guards_at: i32,
     pub actions: usize,
-    pub only_such_that: bool,
+    pub action_tags: ActionTags,
+    pub acting: Acting,
+    pub arranged: bool,
     pub nodes: usize,
     pub spare_nodes: usize,
 }
 
 /// A formula's row before it has a tree: tag, event, identifier.
-type Place = (i32, i32, i32);
+pub type Place = (i32, i32, i32);
 
 impl Plan {
     /// Any plan in which no part has more than about `size`.
@@ -83,7 +109,11 @@ impl Plan {
             drop_abstract_parameter(&mut draft);
         }
         let mut places = self.places(&draft, random);
-        random.shuffle(&mut places);
+        if self.arranged {
+            arrange(&mut places, random);
+        } else {
+            random.shuffle(&mut places);
+        }
         self.grow_formulas(&mut draft, &places, random);
         draft
     }
@@ -161,12 +191,8 @@ impl Plan {
         for (n, event) in draft.events.iter().enumerate() {
             let kind = variable_kind(event[0]);
             for variable in numbers_of(&draft.identifiers, |one| one[0] == kind) {
-                let such_that = self.only_such_that || random.one_in(2);
-                let tag = if such_that {
-                    BECOMES_SUCH_THAT
-                } else {
-                    BECOMES_EQUAL
-                };
+                let any = self.action_tags == ActionTags::Any;
+                let tag = action_tag(any && random.one_in(2));
                 let place = (tag, n as i32 + 1, variable);
                 if event[1] == INITIALISATION {
                     initial.push(place);
@@ -175,11 +201,37 @@ impl Plan {
                 }
             }
         }
+        match self.acting {
+            Acting::Any => {}
+            Acting::None => others.clear(),
+            Acting::Last => others.retain(|place| place.1 == draft.events.len() as i32),
+        }
         random.shuffle(&mut others);
         let most = self.actions.min(Table::MOST_ACTIONS);
         others.truncate(most.saturating_sub(initial.len()));
         initial.extend(others);
+        self.set_tags(&mut initial, random);
         initial
+    }
+
+    fn set_tags(&self, actions: &mut [Place], random: &mut Random) {
+        let one = match self.action_tags {
+            ActionTags::Any => return,
+            ActionTags::AllButOneEqual | ActionTags::AllButOneSuchThat => {
+                random.below(actions.len())
+            }
+            _ => 0,
+        };
+        for (n, action) in actions.iter_mut().enumerate() {
+            action.0 = action_tag(match self.action_tags {
+                ActionTags::Any | ActionTags::Equal => false,
+                ActionTags::SuchThat => true,
+                ActionTags::AllButOneEqual => n == one,
+                ActionTags::AllButOneSuchThat => n != one,
+                ActionTags::ByEvent => action.1 % 2 == 0,
+                ActionTags::InTurn => n % 2 == 1,
+            });
+        }
     }
 
     /// Gives every formula one node, then hands out the others.
@@ -205,6 +257,14 @@ impl Plan {
                 tree,
             });
         }
+    }
+}
+
+fn action_tag(such_that: bool) -> i32 {
+    if such_that {
+        BECOMES_SUCH_THAT
+    } else {
+        BECOMES_EQUAL
     }
 }
 
@@ -393,7 +453,7 @@ fn most_sequents(full: Plan) -> Plan {
         abstract_events: 1,
         ordinary: 29,
         guards_at: 2,
-        only_such_that: true,
+        action_tags: ActionTags::SuchThat,
         ..full
     }
 }
