@@ -1,5 +1,5 @@
 -- Laws of the counts, searches and lists over the numbers below a bound, each by recursion on the bound or on the list.
-use Prim.Native.Nat.{ℕ, zero, suc, _+_, _≤_, _<_}
+use Prim.Native.Nat.{ℕ, zero, suc, _+_, _-_, _≤_, _<_}
 use mathlib.Core.Path.{_≡_, refl, ap, sym, subst}
 use mathlib.Core.Bool.{Bool, true, false}
 use mathlib.Core.List.{List, [], _∷_}
@@ -7,10 +7,11 @@ use mathlib.Core.Logic.{_⊎_, inl, inr, ⊎-elim}
 use native.Mathlib.Omega.{arith}
 use native.Mathlib.Nat.{eq-or-lt-of-le}
 use native.Mathlib.Numerals.{add-one}
-use lib.Dec.{T, ltb→lt, lt→ltb}
+use borrow.Author.Tests.{lt-ltb}
+use lib.Dec.{T, ltb, ltb→lt, lt→ltb}
 use Rattle.lists.specs.Choice.{pick}
 use Rattle.lists.specs.All.{In, here, there}
-use Rattle.lists.specs.Below.{oneIf, countBelow, someBelow, numbers, keep}
+use Rattle.lists.specs.Below.{oneIf, countBelow, someBelow, NoneBelow, numbers, keep}
 use Rattle.lists.proofs.All.{in-nil, in-cons}
 
 -- a test adds one where it passes
@@ -71,12 +72,21 @@ module _ (P : ℕ → Bool) where
       (λ (l : m < suc n). omega (arith, count-stays m n (omega arith) (λ i g k. f i g (omega arith)), ap oneIf (f n (omega arith) (omega arith)))) (eq-or-lt-of-le h)
 
   -- where none passes, it is 0
-  pub count-none-below : (n : ℕ) → ((i : ℕ) → i < n → P i ≡ false) → countBelow P n ≡ 0
+  pub count-none-below : (n : ℕ) → NoneBelow P n → countBelow P n ≡ 0
   unfolding countBelow
   count-none-below n f = sym (count-stays 0 n (omega arith) (λ i g l. f i l))
 
   pub count-never : ((i : ℕ) → P i ≡ false) → (n : ℕ) → countBelow P n ≡ 0
   count-never f n = count-none-below n (λ i l. f i)
+
+  -- where just those from m on pass, they are counted
+  pub count-from : (m n : ℕ) → m ≤ n → NoneBelow P m → ((i : ℕ) → m ≤ i → i < n → P i ≡ true) → countBelow P n ≡ n - m
+  unfolding countBelow
+  count-from m zero h f g = omega arith
+  count-from m (suc n) h f g =
+      ⊎-elim (λ (e : m ≡ suc n). omega (arith, count-none-below (suc n) (λ i l. f i (omega arith))))
+      (λ (l : m < suc n). omega (arith, count-from m n (omega arith) f (λ i k l. g i k (omega arith)), ap oneIf (g n (omega arith) (omega arith))))
+      (eq-or-lt-of-le h)
 
   -- P passes below whatever passes: below n, the numbers that pass are those below the count
   abbrev pub Downward : ℕ → Type 0
@@ -126,6 +136,12 @@ module _ (P : ℕ → Bool) where
 
   pub some-shown : (n i : ℕ) → i < n → T (P i) → T (someBelow P n)
   some-shown n i h p = lt→ltb 0 (countBelow P n) (count-shown n i h p)
+
+  pub some-passes : (n i : ℕ) → i < n → P i ≡ true → someBelow P n ≡ true
+  some-passes n i h p = lt-ltb 0 (countBelow P n) (omega (arith, count-passes n i h p))
+
+  pub some-fails : (n : ℕ) → NoneBelow P n → someBelow P n ≡ false
+  some-fails n f = ap (ltb 0) (count-none-below n f)
 
 -- where one test passes exactly where one of two others does, and these exclude each other, its count is their sum
 pub count-sum : (P Q R : ℕ → Bool) → ((i : ℕ) → oneIf (R i) ≡ oneIf (P i) + oneIf (Q i)) → (n : ℕ) → countBelow R n ≡ countBelow P n + countBelow Q n

@@ -9,7 +9,7 @@ use native.Mathlib.Numerals.{add-one}
 use lib.Dec.{ltb}
 use borrow.Author.Tests.{ltb-true, ltb-false}
 use Rattle.lists.specs.Choice.{pick}
-use Rattle.lists.specs.Below.{first}
+use Rattle.lists.specs.Below.{NoneBelow, first}
 use Rattle.lists.proofs.Choice.{chosen, not-chosen}
 
 pub record Least (P : ℕ → Bool) (n i k : ℕ) : Type 0 where
@@ -56,10 +56,6 @@ module _ (P : ℕ → Bool) (n i : ℕ) where
   pub first-end : n ≤ i → first P (n - i) i ≡ i
   unfolding first
   first-end h = let z : n - i ≡ 0 = omega arith in rw z
-
--- none of the numbers below i passes
-abbrev pub NoneBelow : (ℕ → Bool) → ℕ → Type 0
-NoneBelow P i = (j : ℕ) → j < i → P j ≡ false
 
 -- The search below n by what does not pass: the first is i where none below i passes but i does, and n where none below n does.
 module _ (P : ℕ → Bool) where

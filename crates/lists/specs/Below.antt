@@ -1,5 +1,6 @@
 -- Notions over the numbers below a bound, as a table's rows are numbered: how many pass a test, the first that passes, and the list of those that do.
-use Prim.Native.Nat.{ℕ, zero, suc, _+_}
+use Prim.Native.Nat.{ℕ, zero, suc, _+_, _<_}
+use mathlib.Core.Path.{_≡_}
 use mathlib.Core.Bool.{Bool, true, false}
 use mathlib.Core.List.{List, [], _∷_}
 use lib.Dec.{ltb}
@@ -18,6 +19,10 @@ countBelow P (suc n) = countBelow P n + oneIf (P n)
 -- some number below n passes
 abbrev pub someBelow : (ℕ → Bool) → ℕ → Bool
 someBelow P n = ltb 0 (countBelow P n)
+
+-- no number below n passes
+abbrev pub NoneBelow : (ℕ → Bool) → ℕ → Type 0
+NoneBelow P n = (j : ℕ) → j < n → P j ≡ false
 
 -- the first of the n numbers from i on that passes, or i + n
 unfoldable pub first : (ℕ → Bool) → ℕ → ℕ → ℕ

@@ -1,14 +1,19 @@
--- Laws of the tests: of two in order, of one row more, of a number after another, and of a variant that stands with convergent events.
+-- Laws of the tests: of two in order, of where those that pass stand, of a number after another, and of a variant that stands with convergent events.
 use Prim.Native.Nat.{ℕ, _+_, _-_}
-use mathlib.Core.Path.{_≡_, refl, ap, _∙_}
+use mathlib.Core.Path.{_≡_, refl, sym, subst}
 use mathlib.Core.Bool.{Bool, true, false, not, _&&_, _||_, Bool·beq}
 use native.Mathlib.Omega.{arith}
-use native.Mathlib.Nat.{add-zero}
 use native.Mathlib.Decide.{ℕ-discrete}
-use borrow.Author.Tests.{eq-eqb, ne-eqb, lt-ltb}
-use lib.Dec.{ltb, eqb}
-use Rattle.lists.specs.Below.{oneIf, countBelow, someBelow}
-use Rattle.lists.proofs.Below.{count-none, count-next}
+use borrow.Author.Tests.{eq-eqb, ne-eqb}
+use lib.Dec.{eqb}
+use Rattle.lists.specs.Below.{someBelow}
+use Rattle.table.specs.Names.{identifierTag, eventTag}
+use Rattle.table.specs.Rows.{Rows, tagged}
+use Rattle.rules.specs.Rules.{lacksAction, lacksWitness, lacksFor, eventLacks}
+use Rattle.scan.specs.declared.Span.{Span}
+use Rattle.scan.specs.Span.{Spans}
+use Rattle.scan.specs.Spans.{tagSpan}
+use Rattle.scan.proofs.Spans.{tag-stricter}
 
 pub and-passed : (a b : Bool) → a ≡ true → (a && b) ≡ b
 and-passed a b e = rw e
@@ -16,25 +21,17 @@ and-passed a b e = rw e
 pub and-failed : (a b : Bool) → a ≡ false → (a && b) ≡ false
 and-failed a b e = rw e
 
-module _ (P : ℕ → Bool) where
-  pub some-none : someBelow P 0 ≡ false
-  some-none = ap (ltb 0) (count-none P)
+-- identifiers for which an event lacks something are identifiers, and events that lack something are events
+module _ (t : Rows) where
+  pub identifiers-span : (i : ℕ) {s : Span} → s ≡ tagSpan t identifierTag → Spans (lacksFor t i) (t .size) s
+  identifiers-span i e =
+      subst (Spans (lacksFor t i) (t .size)) (sym e)
+      (tag-stricter t identifierTag (lacksFor t i) (λ j o. and-failed (tagged t identifierTag j) (lacksAction t i j || lacksWitness t i j) o))
 
-  one-more : (n : ℕ) (b : Bool) → ltb 0 (n + oneIf b) ≡ (ltb 0 n || b)
-  one-more n true = lt-ltb 0 (n + 1) (omega arith) ∙ go (ltb 0 n)
-    where
-      go : (b : Bool) → true ≡ (b || true)
-      go true = refl
-      go false = refl
-  one-more n false = ap (ltb 0) (add-zero n) ∙ go (ltb 0 n)
-    where
-      go : (b : Bool) → b ≡ (b || false)
-      go true = refl
-      go false = refl
-
-  -- some row below n + 1: some row below n, or row n
-  pub some-next : (n : ℕ) → someBelow P (n + 1) ≡ (someBelow P n || P n)
-  some-next n = ap (ltb 0) (count-next P n) ∙ one-more (countBelow P n) (P n)
+  pub events-span : {s : Span} → s ≡ tagSpan t eventTag → Spans (eventLacks t) (t .size) s
+  events-span e =
+      subst (Spans (eventLacks t) (t .size)) (sym e)
+      (tag-stricter t eventTag (eventLacks t) (λ i o. and-failed (tagged t eventTag i) (someBelow (lacksFor t i) (t .size)) o))
 
 -- y is one more than x
 pub follows-next : (x y : ℕ) → (y ≡ 0 → ⊥) → eqb (y - 1) x ≡ eqb y (1 + x)

@@ -7,9 +7,12 @@ use table::b_at;
 use table::c_at;
 use table::event_field;
 use table::named_event;
+use table::tag;
 use table::tag_at;
 ghost use mathlib.Core.Path.{_≡_};
+ghost use Prim.Native.Nat.{_≤_};
 ghost use Rattle.table.specs.Rows.{rowsOf};
+ghost use Rattle.scan.specs.Spans.{Spanned};
 ghost use Rattle.table.specs.Counts.{countsOf};
 ghost use Rattle.rules.specs.Rules.{abstractOrdinaryEvent, goodRefined, outOfOrder, eventOffends, ownerEvent, goodOwner, identifierOffends};
 
@@ -36,27 +39,28 @@ fn good_refined(words: &[u64], table: Table, i: usize) -> bool
 }
 
 // Whether an event stands after one that it must stand before.
-fn out_of_order(words: &[u64], i: usize) -> bool
+fn out_of_order(words: &[u64], spans: &[usize], i: usize) -> bool
+    requires { ⌜ Spanned (rowsOf (now words)) (now spans) × (i ≤ rowsOf (now words) .size) ⌝ }
     ensures { λ r. ⌜ r ≡ outOfOrder (rowsOf (now (words .entry))) i ⌝ }
 {
     let machine = a_at(words, i);
-    let after_concrete = (machine == 1) & some_row(words, Query::Event(2), i);
-    after_concrete | ((b_at(words, i) == 0) & some_row(words, Query::Event(machine), i))
+    let after_concrete = (machine == 1) & some_row(words, spans, Query::Event(2), i);
+    after_concrete | ((b_at(words, i) == 0) & some_row(words, spans, Query::Event(machine), i))
 }
 
-// 5: bad machine, class or refined event, or out of order. Only an event's row is compared with the rows before it.
-pub fn event_offends(words: &[u64], table: Table, i: usize) -> bool
-    requires { ⌜ table ≡ countsOf (rowsOf (now words)) ⌝ }
+// 5: bad machine, class or refined event, or out of order. Only an event's row is compared with the events before it.
+pub fn event_offends(words: &[u64], table: Table, spans: &[usize], i: usize) -> bool
+    requires { ⌜ (table ≡ countsOf (rowsOf (now words))) × Spanned (rowsOf (now words)) (now spans) × (i ≤ rowsOf (now words) .size) ⌝ }
     ensures { λ r. ⌜ r ≡ eventOffends (rowsOf (now (words .entry))) i ⌝ }
 {
-    if tag_at(words, i) != 40 {
+    if tag_at(words, i) != tag::EVENT {
         return false;
     }
     let machine = a_at(words, i);
     let class = b_at(words, i);
     let good_machine = (machine == 1) | (machine == 2);
     let good_class = (class < 2) | ((class == 2) & (machine == 2));
-    let rest = good_refined(words, table, i) & !out_of_order(words, i);
+    let rest = good_refined(words, table, i) & !out_of_order(words, spans, i);
     !(good_machine & (good_class & rest))
 }
 

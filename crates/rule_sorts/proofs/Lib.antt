@@ -1,2 +1,3 @@
 pub mod Sorts
+pub mod Uses
 pub mod Walk

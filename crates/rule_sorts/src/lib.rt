@@ -5,6 +5,7 @@ use rule_references::names_identifier;
 use rule_references::names_root;
 use rule_references::operand_count;
 use rule_references::root_at;
+use scan::clear;
 use table::Table;
 use table::a_at;
 use table::b_at;
@@ -12,19 +13,23 @@ use table::c_at;
 use table::identifier_field;
 use table::node_field;
 use table::number_in;
-use table::one_if;
 use table::size;
+use table::tag;
 use table::tag_at;
 ghost use mathlib.Core.Path.{_≡_};
-ghost use Prim.Native.Nat.{_≤_, _<_};
+ghost use Prim.Native.Nat.{ℕ, _+_, _^_, _≤_, _<_};
+ghost use lib.ListN.{length, getD};
 ghost use Rattle.table.specs.Rows.{rowsOf};
 ghost use Rattle.table.specs.Counts.{countsOf};
-ghost use Rattle.rules.specs.Sorts.{sortOf, fitting};
+ghost use Rattle.table.specs.Lookups.{mostRows, mostWords};
+ghost use mathlib.Core.Bool.{_||_};
+ghost use lib.Dec.{eqb};
+ghost use Rattle.rules.specs.Sorts.{shapeOf, operandCount, sortOf};
 ghost use Rattle.rules.specs.Verdict.{firstRow};
-ghost use Rattle.rule_sorts.specs.Uses.{mayUse};
+ghost use Rattle.rule_sorts.specs.Uses.{usedIf, UsedTo};
 ghost use Rattle.rule_sorts.specs.Walk.{firstBefore, ofPredicate};
 ghost use Rattle.lists.specs.Choice.{pick};
-ghost use Rattle.rules.specs.Rules.{goodOperands, rootSort, sortOffends, usesAt, usesTo, useOffends};
+ghost use Rattle.rules.specs.Rules.{goodOperands, rootSort, sortOffends, useOffends};
 
 // The sort of a node, from its operator, whatever its operands are.
 pub fn sort_of(words: &[u64], table: Table, n: u64) -> u64
@@ -40,38 +45,35 @@ pub fn sort_of(words: &[u64], table: Table, n: u64) -> u64
     found.sort
 }
 
-// Whether an operand has the wanted sort, 0 for either type.
-fn operand_fits(words: &[u64], table: Table, wanted: u64, n: u64) -> bool
-    requires { ⌜ table ≡ countsOf (rowsOf (now words)) ⌝ }
-    ensures { λ r. ⌜ r ≡ fitting (rowsOf (now (words .entry))) wanted n ⌝ }
+// Whether an operand of this sort fits the wanted one, 0 for either type.
+fn fits(wanted: u64, sort: u64) -> bool
+    ensures { λ r. ⌜ r ≡ pick (eqb wanted 0) (eqb sort 1 || eqb sort 2) (eqb sort wanted) ⌝ }
 {
-    let sort = sort_of(words, table, n);
     if wanted == 0 {
         return (sort == 1) | (sort == 2);
     }
     sort == wanted
 }
 
-// Whether the operands of the node at row i, so many, have the sorts that its operator wants.
-fn good_operands(words: &[u64], table: Table, count: u64, i: usize) -> bool
+// Whether the operands of the node at row i have the sorts that its operator wants.
+fn good_operands(words: &[u64], table: Table, i: usize) -> bool
     requires { ⌜ table ≡ countsOf (rowsOf (now words)) ⌝ }
-    ensures { λ r. ⌜ r ≡ goodOperands (rowsOf (now (words .entry))) count i ⌝ }
+    ensures { λ r. ⌜ r ≡ goodOperands (rowsOf (now (words .entry))) (operandCount (shapeOf (rowsOf (now (words .entry)) .a i))) i ⌝ }
 {
     let number = a_at(words, i);
-    let b = b_at(words, i);
-    let c = c_at(words, i);
     let found = find_operator(number);
+    let shape = found.shape;
     let wanted = found.operands;
-    let left = operand_fits(words, table, wanted, b);
-    let right = operand_fits(words, table, wanted, c);
-    let same = sort_of(words, table, b) == sort_of(words, table, c);
+    let count = operand_count(shape);
     if count == 0 {
         return true;
     }
+    let left = sort_of(words, table, b_at(words, i));
     if count == 1 {
-        return left;
+        return fits(wanted, left);
     }
-    left & (right & (!(number == 20) | same))
+    let right = sort_of(words, table, c_at(words, i));
+    fits(wanted, left) & (fits(wanted, right) & (!(number == 20) | (left == right)))
 }
 
 // "Roots are predicates, but 51 takes the variable's type and 70 an integer."
@@ -80,28 +82,27 @@ fn root_sort(words: &[u64], table: Table, i: usize) -> u64
     ensures { λ r. ⌜ r ≡ rootSort (rowsOf (now (words .entry))) i ⌝ }
 {
     let tag = tag_at(words, i);
-    if tag == 51 {
+    if tag == tag::BECOMES_EQUAL {
         return identifier_field(words, table, b_at(words, i), Table::TYPE);
     }
-    if tag == 70 {
+    if tag == tag::VARIANT {
         return 1;
     }
     3
 }
 
-// Whether row i offends against check 8.
-pub fn sort_offends(words: &[u64], table: Table, i: usize) -> bool
+// Whether row i offends against check 8: a node by its operands, another row by its root.
+fn sort_offends(words: &[u64], table: Table, i: usize) -> bool
     requires { ⌜ table ≡ countsOf (rowsOf (now words)) ⌝ }
     ensures { λ r. ⌜ r ≡ sortOffends (rowsOf (now (words .entry))) i ⌝ }
 {
-    let tag = tag_at(words, i);
-    let found = find_operator(a_at(words, i));
-    let shape = found.shape;
-    let operands = good_operands(words, table, operand_count(shape), i);
-    let names = names_root(words, i);
-    let sort = sort_of(words, table, root_at(words, i));
-    let wanted = root_sort(words, table, i);
-    ((tag == 20) & !operands) | (names & !(sort == wanted))
+    if tag_at(words, i) == tag::NODE {
+        return !good_operands(words, table, i);
+    }
+    if !names_root(words, i) {
+        return false;
+    }
+    !(sort_of(words, table, root_at(words, i)) == root_sort(words, table, i))
 }
 
 // Whether row i is of a predicate: a node of an operator from 20 on, or a row whose root is a predicate.
@@ -109,10 +110,10 @@ fn of_predicate(words: &[u64], i: usize) -> bool
     ensures { λ r. ⌜ r ≡ ofPredicate (rowsOf (now (words .entry))) i ⌝ }
 {
     let tag = tag_at(words, i);
-    if tag == 20 {
+    if tag == tag::NODE {
         return 20 <= a_at(words, i);
     }
-    !((tag == 51) | (tag == 70))
+    !((tag == tag::BECOMES_EQUAL) | (tag == tag::VARIANT))
 }
 
 // The row where it offends, else the one found before.
@@ -169,63 +170,85 @@ pub fn first_unsorted(words: &[u64], table: Table) -> usize
     first_expression(words, table, rows, rows)
 }
 
-// Whether row i may use the node n: a column holds n, or n is 0. Most rows are passed over by this.
-fn may_use(words: &[u64], n: u64, i: usize) -> bool
-    requires { ⌜ i < rowsOf (now words) .size ⌝ }
-    ensures { λ r. ⌜ r ≡ mayUse (rowsOf (now (words .entry))) n i ⌝ }
+// Counts one use more of the node n, where a test passes.
+fn use_if(uses: &mut [usize], test: bool, n: u64)
+    requires { ⌜ ((k : ℕ) → getD (now uses) k 0 < 2 ^ 63) ⌝ }
+    ensures { λ _. ⌜ now (uses .exit) ≡ usedIf test n (now (uses .entry)) ⌝ }
 {
-    let a = words[4 * i + 1];
-    let b = words[4 * i + 2];
-    let c = words[4 * i + 3];
-    (n == 0) | ((a == n) | ((b == n) | (c == n)))
+    if !test {
+        return;
+    }
+    if uses.len() as u64 <= n {
+        return;
+    }
+    let at = n as usize;
+    uses[at] = uses[at] + 1;
 }
 
-// How often the row at i uses the node n, as an operand or a root.
-fn uses_at(words: &[u64], n: u64, i: usize) -> u64
-    requires { ⌜ i < rowsOf (now words) .size ⌝ }
-    ensures { λ r. ⌜ r ≡ usesAt (rowsOf (now (words .entry))) n i ⌝ }
-    ensures { λ r. ⌜ r ≤ 2 ⌝ }
+// Counts the uses at row i: the operands of a node, the root of another row.
+fn use_row(words: &[u64], uses: &mut [usize], i: usize)
+    requires { ⌜ UsedTo (rowsOf (now words)) i (now uses) × (i < 2 ^ 61) ⌝ }
+    ensures { λ _. ⌜ UsedTo (rowsOf (now (words .entry))) (i + 1) (now (uses .exit)) ⌝ }
 {
-    if !may_use(words, n, i) {
-        return 0;
+    if tag_at(words, i) == tag::NODE {
+        let found = find_operator(a_at(words, i));
+        let shape = found.shape;
+        let count = operand_count(shape);
+        use_if(uses, 0 < count, b_at(words, i));
+        use_if(uses, 1 < count, c_at(words, i));
+        return;
     }
-    let tag = tag_at(words, i);
-    let found = find_operator(a_at(words, i));
-    let shape = found.shape;
-    let count = operand_count(shape);
-    let b = b_at(words, i);
-    let c = c_at(words, i);
-    let names = names_root(words, i);
-    let root = root_at(words, i);
-    if tag == 20 {
-        return one_if((0 < count) & (b == n)) + one_if((1 < count) & (c == n));
-    }
-    one_if(names & (root == n))
+    use_if(uses, names_root(words, i), root_at(words, i));
 }
 
-// How often all rows use the node n.
-fn uses(words: &[u64], n: u64) -> u64
-    ensures { λ r. ⌜ r ≡ usesTo (rowsOf (now (words .entry))) n (rowsOf (now (words .entry)) .size) ⌝ }
+// Counts the uses of every node, by its number.
+fn count_uses(words: &[u64], uses: &mut [usize])
+    requires { ⌜ length (now uses) ≡ mostRows + 1 ⌝ }
+    ensures { λ _. ⌜ UsedTo (rowsOf (now (words .entry))) (rowsOf (now (words .entry)) .size) (now (uses .exit)) ⌝ }
 {
+    clear(uses);
     let rows = size(words);
-    let mut count = 0;
     let mut i = 0;
     while i < rows {
-        count += uses_at(words, n, i);
+        use_row(words, uses, i);
         i += 1;
     }
-    count
 }
 
-// Whether row i offends against check 9.
-pub fn use_offends(words: &[u64], table: Table, i: usize) -> bool
-    requires { ⌜ table ≡ countsOf (rowsOf (now words)) ⌝ }
+// Whether row i is a node without its one use.
+fn use_offends(words: &[u64], table: Table, uses: &[usize], i: usize) -> bool
+    requires { ⌜ (table ≡ countsOf (rowsOf (now words))) × UsedTo (rowsOf (now words)) (rowsOf (now words) .size) (now uses) × (i < mostRows) ⌝ }
     ensures { λ r. ⌜ r ≡ useOffends (rowsOf (now (words .entry))) i ⌝ }
 {
-    let tag = tag_at(words, i);
-    if tag == 20 {
-        let start = table.nodes_start;
-        return !(uses(words, number_in(start, i)) == 1);
+    if tag_at(words, i) != tag::NODE {
+        return false;
     }
-    false
+    let n = number_in(table.nodes_start, i) as usize;
+    !(uses[n] == 1)
+}
+
+// The first row that offends against check 9, or the number of rows, by the uses of every node.
+fn find_unused(words: &[u64], table: Table, uses: &[usize]) -> usize
+    requires { ⌜ (table ≡ countsOf (rowsOf (now words))) × UsedTo (rowsOf (now words)) (rowsOf (now words) .size) (now uses) × (rowsOf (now words) .size ≤ mostRows) ⌝ }
+    ensures { λ r. ⌜ r ≡ firstRow (rowsOf (now (words .entry))) 9 ⌝ }
+{
+    let rows = size(words);
+    let mut i = 0;
+    while i < rows {
+        if use_offends(words, table, uses, i) {
+            return i;
+        }
+        i += 1;
+    }
+    i
+}
+
+// The first row that offends against check 9, or the number of rows.
+pub fn first_unused(words: &[u64], table: Table) -> usize
+    requires { ⌜ (table ≡ countsOf (rowsOf (now words))) × (length (now words) ≤ mostWords) ⌝ }
+    ensures { λ r. ⌜ r ≡ firstRow (rowsOf (now (words .entry))) 9 ⌝ }
+{
+    let mut uses = [0usize; Table::ROWS + 1];
+    count_uses(words, &mut uses);
+    find_unused(words, table, &uses)
 }

@@ -1,17 +1,21 @@
 // 01, Refusals 3 tag, 4 full and 11 twice: whether a row offends.
 use scan::Query;
-use scan::count_rows;
 use scan::some_row;
+use scan::span_at;
+use scan::span_tag;
 use table::Table;
 use table::a_at;
 use table::b_at;
 use table::c_at;
+use table::tag;
 use table::tag_at;
 ghost use mathlib.Core.Path.{_≡_};
 ghost use mathlib.Core.Bool.{_&&_};
-ghost use Prim.Native.Nat.{_-_, _≤_};
+ghost use Prim.Native.Nat.{_-_, _≤_, _<_};
 ghost use lib.Dec.{ltb};
-ghost use Rattle.table.specs.Rows.{rowsOf};
+ghost use Rattle.table.specs.Names.{variantTag};
+ghost use Rattle.table.specs.Rows.{rowsOf, Rising};
+ghost use Rattle.scan.specs.Spans.{Spanned};
 ghost use Rattle.rules.specs.Tags.{columnsUsed, rowLimit};
 ghost use Rattle.rules.specs.Rules.{tagOffends, fullOffends, twiceOffends};
 
@@ -94,23 +98,26 @@ pub fn tag_offends(words: &[u64], i: usize) -> bool
     (used == 0) | (falls(words, i) | beyond)
 }
 
-// 4: as many rows before it as its tag may have.
-pub fn full_offends(words: &[u64], i: usize) -> bool
+// 4: as many rows before it as its tag may have. Where tags never fall these are all rows from the first of its tag on.
+pub fn full_offends(words: &[u64], spans: &[usize], i: usize) -> bool
+    requires { ⌜ Spanned (rowsOf (now words)) (now spans) × Rising (rowsOf (now words)) × (i < rowsOf (now words) .size) × (rowsOf (now words) .tag i ≤ variantTag) ⌝ }
     ensures { λ r. ⌜ r ≡ fullOffends (rowsOf (now (words .entry))) i ⌝ }
 {
     let tag = tag_at(words, i);
-    tag_limits(tag).most <= count_rows(words, Query::CountedWith(tag), i)
+    let before = i - span_at(words, spans, span_tag(tag)).from;
+    tag_limits(tag).most <= before as u64
 }
 
-// 11: an action or a witness whose event and target an earlier one has. No other row is compared with the rows before it.
-pub fn twice_offends(words: &[u64], i: usize) -> bool
+// 11: an action or a witness whose event and target an earlier one has. It is compared with the actions, or the witnesses, before it.
+pub fn twice_offends(words: &[u64], spans: &[usize], i: usize) -> bool
+    requires { ⌜ Spanned (rowsOf (now words)) (now spans) × (i ≤ rowsOf (now words) .size) ⌝ }
     ensures { λ r. ⌜ r ≡ twiceOffends (rowsOf (now (words .entry))) i ⌝ }
 {
     let tag = tag_at(words, i);
-    if !(((tag == 51) | (tag == 52)) | (tag == 60)) {
+    if !(((tag == tag::BECOMES_EQUAL) | (tag == tag::BECOMES_SUCH)) | (tag == tag::WITNESS)) {
         return false;
     }
     let event = a_at(words, i);
     let target = b_at(words, i);
-    some_row(words, Query::SameTarget { tag, event, target }, i)
+    some_row(words, spans, Query::SameTarget { tag, event, target }, i)
 }

@@ -1,10 +1,12 @@
 -- The cases of the judgement of a table's rows, and of the verdict of bytes: each is the branch that its tests choose.
 use Prim.Native.Nat.{ℕ, _+_, _≤_, _<_}
-use mathlib.Core.Path.{_≡_, _∙_}
+use mathlib.Core.Path.{_≡_, sym, subst, _∙_}
 use mathlib.Core.Bool.{true, false}
 use mathlib.Core.List.{List}
+use mathlib.Core.Logic.{⊎-elim}
+use native.Mathlib.Nat.{eq-or-lt-of-le}
 use native.Mathlib.Omega.{arith}
-use borrow.Author.Tests.{lt-ltb, le-ltb}
+use borrow.Author.Tests.{lt-ltb, le-ltb, ltb-false}
 use lib.Dec.{ltb}
 use lib.ListN.{length}
 use Rattle.lists.specs.Below.{first}
@@ -16,7 +18,7 @@ use Rattle.sequent.specs.Listed.{sequents}
 use Rattle.rules.specs.declared.Verdict.the-variants.{Accepted, Refused}
 use Rattle.rules.specs.Decoded.{framed, rowCount, lineOf, notRow, decoded}
 use Rattle.rules.specs.Rules.{offends, missing}
-use Rattle.rules.specs.Verdict.{firstRow, firstCheck, judge, verdict}
+use Rattle.rules.specs.Verdict.{firstRow, firstCheck, PassedBefore, judge, verdict}
 
 module _ (t : Rows) where
   pub judge-row : firstCheck t < 12 → judge t ≡ Refused (firstCheck t) (firstRow t (firstCheck t) + 1)
@@ -33,6 +35,19 @@ module _ (t : Rows) where
 
   pub row-at-most : (check : ℕ) → firstRow t check ≤ t .size
   row-at-most check = omega (arith, first-least (offends t check) (t .size) 0 .to)
+
+  -- a check that no row offends against has passed
+  row-passes : (k i : ℕ) → t .size ≤ firstRow t k → i < t .size → offends t k i ≡ false
+  row-passes k i h l = first-least (offends t k) (t .size) 0 .before i (omega arith) (omega arith)
+
+  pub passed-next : (check : ℕ) → PassedBefore t check → t .size ≤ firstRow t check → PassedBefore t (check + 1)
+  passed-next check passed h k i low high l =
+      ⊎-elim (λ (e : k ≡ check). row-passes k i (subst (λ k. t .size ≤ firstRow t k) (sym e) h) l) (λ (m : k < check). passed k i low m l) (eq-or-lt-of-le (omega arith))
+
+  pub first-passed : PassedBefore t (firstCheck t)
+  unfolding firstCheck
+  first-passed k i low high l =
+      row-passes k i (ltb-false (firstRow t k) (t .size) (first-least (λ check. ltb (firstRow t check) (t .size)) 9 3 .before k low high)) l
 
 module _ (bytes : List ℕ) where
   -- the first row that is not in the row form, or the number of rows

@@ -16,3 +16,4 @@ pub mod Range
 pub mod RangedSequents
 pub mod Refused
 pub mod Formed
+pub mod Full

@@ -1,5 +1,7 @@
 -- 01, Refusals: "Checks run by number, each over the whole table .. The first offending row, counted from 1, is named".
-use Prim.Native.Nat.{ℕ, _+_}
+use Prim.Native.Nat.{ℕ, _+_, _≤_, _<_}
+use mathlib.Core.Path.{_≡_}
+use mathlib.Core.Bool.{false}
 use mathlib.Core.List.{List}
 use lib.Dec.{ltb}
 use lib.ListN.{length}
@@ -20,6 +22,10 @@ firstRow t check = first (offends t check) (t .size) 0
 -- the first check from 3 to 11 against which a row offends, or 12
 unfoldable pub firstCheck : Rows → ℕ
 firstCheck t = first (λ check. ltb (firstRow t check) (t .size)) 9 3
+
+-- no row offends against a check from 3 on that runs before this one
+abbrev pub PassedBefore : Rows → ℕ → Type 0
+PassedBefore t check = (k i : ℕ) → 3 ≤ k → k < check → i < t .size → offends t k i ≡ false
 
 unfoldable pub judge : Rows → Verdict
 judge t =

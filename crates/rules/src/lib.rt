@@ -7,6 +7,24 @@ pub enum Verdict {
 }
 
 impl Verdict {
-    // The last check, which concerns no row: refusal 12, missing.
+    // The checks from 3 on, by 01's words for their refusals; the last concerns no row.
+    pub const TAG: u64 = 3;
+
+    pub const FULL: u64 = 4;
+
+    pub const EVENT: u64 = 5;
+
+    pub const IDENTIFIER: u64 = 6;
+
+    pub const REFERENCE: u64 = 7;
+
+    pub const SORT: u64 = 8;
+
+    pub const USE: u64 = 9;
+
+    pub const SIGHT: u64 = 10;
+
+    pub const TWICE: u64 = 11;
+
     pub const MISSING: u64 = 12;
 }

@@ -1,3 +1,3 @@
+pub mod Queries
 pub mod Spans
-pub mod Tags
 pub mod Within

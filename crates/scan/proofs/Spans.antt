@@ -1,22 +1,22 @@
 -- Rows outside the span of a test never pass it: by recursion on the bound. With it a search or a count over the span is one over all rows. And what one row
 -- more does to the spans of all tags.
-use Prim.Native.Nat.{ℕ, zero, suc, _+_, _*_, _≤_, _<_}
+use Prim.Native.Nat.{ℕ, zero, suc, _+_, _-_, _*_, _≤_, _<_}
 use mathlib.Core.Path.{_≡_, refl, ap, ap₂, sym, subst, _∙_}
-use mathlib.Core.Bool.{Bool, true, false, _&&_, true≢false}
+use mathlib.Core.Bool.{Bool, true, false, _&&_, _||_, true≢false}
 use mathlib.Core.List.{List}
 use mathlib.Core.Logic.{⊎-elim}
 use native.Mathlib.Omega.{arith}
 use native.Mathlib.Nat.{eq-or-lt-of-le}
 use native.Mathlib.Numerals.{add-one}
 use native.Mathlib.Decide.{ℕ-discrete}
-use borrow.Author.Tests.{eq-eqb, ne-eqb, eqb-true, ltb-true, ltb-false}
+use borrow.Author.Tests.{eq-eqb, ne-eqb, eqb-true, eqb-false, ltb-true, ltb-false}
 use lib.Dec.{eqb, ltb}
 use lib.ListN.{length, getD, set, length-set}
 use lib.Seq.{getD-set-same, getD-set-other}
 use Rattle.lists.specs.Choice.{pick}
 use Rattle.lists.proofs.Choice.{chosen, not-chosen}
 use Rattle.table.specs.Names.{becomesEqualTag, becomesSuchTag, variantTag}
-use Rattle.table.specs.Rows.{Rows, tagged, isAction}
+use Rattle.table.specs.Rows.{Rows, tagged, isAction, Rising}
 use Rattle.scan.specs.Span.{Spans}
 use Rattle.scan.specs.Spans.{spanTo, spanFrom, ofTag, tagSpan, spanWords, SpannedTo, noted}
 use Rattle.scan.proofs.Within.{past-at-most, past-above, spans-stricter}
@@ -91,6 +91,27 @@ module _ (P : ℕ → Bool) where
   pub in-span : (n i : ℕ) → P i ≡ true → i < n → (spanFrom P n ≤ i) × (i < spanTo P n)
   in-span n i e l = (not-before-from n i e l, before-to n i e l)
 
+  -- the span of a test that something passes ends behind a number that passes, and starts at one
+  to-last : (n : ℕ) → 0 < spanTo P n → (spanTo P n - 1 < n) × (P (spanTo P n - 1) ≡ true)
+  unfolding spanTo
+  to-last zero h = absurd (omega arith)
+  to-last (suc n) h = go (P n) refl h (to-last n)
+    where
+      go : (b : Bool) → P n ≡ b → 0 < pick b (suc n) (spanTo P n) → (0 < spanTo P n → (spanTo P n - 1 < n) × (P (spanTo P n - 1) ≡ true))
+          → (pick b (suc n) (spanTo P n) - 1 < suc n) × (P (pick b (suc n) (spanTo P n) - 1) ≡ true)
+      go true e h ih = let last : suc n - 1 ≡ n = omega arith in (omega arith, ap P last ∙ e)
+      go false e h ih = let l = ih h in (omega (arith, l .0), l .1)
+
+  pub from-first : (n i : ℕ) → P i ≡ true → i < n → P (spanFrom P n) ≡ true
+  unfolding spanFrom
+  from-first zero i e l = absurd (omega arith)
+  from-first (suc n) i e l = go (P n) (eqb (spanTo P n) 0) refl refl (from-first n)
+    where
+      go : (b z : Bool) → P n ≡ b → eqb (spanTo P n) 0 ≡ z → ((j : ℕ) → P j ≡ true → j < n → P (spanFrom P n) ≡ true) → P (pick (b && z) n (spanFrom P n)) ≡ true
+      go true true p q ih = p
+      go true false p q ih = let last = to-last n (omega (arith, eqb-false (spanTo P n) 0 q)) in ih (spanTo P n - 1) (last .1) (last .0)
+      go false z p q ih = ⊎-elim (λ (k : i ≡ n). absurd (true≢false (sym (ap P (sym k) ∙ e) ∙ p))) (λ (k : i < n). ih i e k) (eq-or-lt-of-le (omega arith))
+
   pub span-spans : (n : ℕ) → Spans P n (record { from = spanFrom P n; to = spanTo P n })
   span-spans n = record {
     within = to-at-most n;
@@ -113,6 +134,33 @@ module _ (t : Rows) where
 
   pub tag-stricter : (k : ℕ) (Q : ℕ → Bool) → ((i : ℕ) → ofTag t k i ≡ false → Q i ≡ false) → Spans Q (t .size) (tagSpan t k)
   tag-stricter k Q f = spans-stricter (ofTag t k) Q f (tag-spans k)
+
+  -- where tags never fall, a row between two rows of a tag is one of it
+  pub between : Rising t → (k i j l : ℕ) → i ≤ j → j ≤ l → l < t .size → ofTag t k i ≡ true → ofTag t k l ≡ true → ofTag t k j ≡ true
+  between rising k i j l low high h p q =
+      let up = rising i j low (omega arith) in
+      let down = rising j l high h in
+      by-action (eqb k becomesEqualTag) p q up down
+    where
+      low-action : (x : ℕ) → (eqb x becomesEqualTag || eqb x becomesSuchTag) ≡ true → (becomesEqualTag ≤ x) × (x ≤ becomesSuchTag)
+      low-action x e = go (eqb x becomesEqualTag) refl e
+        where
+          go : (b : Bool) → eqb x becomesEqualTag ≡ b → (b || eqb x becomesSuchTag) ≡ true → (becomesEqualTag ≤ x) × (x ≤ becomesSuchTag)
+          go true r e = let s = eqb-true x becomesEqualTag r in (omega arith, omega arith)
+          go false r e = let s = eqb-true x becomesSuchTag e in (omega arith, omega arith)
+
+      action : (x : ℕ) → becomesEqualTag ≤ x → x ≤ becomesSuchTag → (eqb x becomesEqualTag || eqb x becomesSuchTag) ≡ true
+      action x l h = go (eqb x becomesEqualTag) refl
+        where
+          go : (b : Bool) → eqb x becomesEqualTag ≡ b → (b || eqb x becomesSuchTag) ≡ true
+          go true r = refl
+          go false r = eq-eqb x becomesSuchTag (omega (arith, eqb-false x becomesEqualTag r))
+
+      by-action : (b : Bool) → pick b (isAction t i) (tagged t k i) ≡ true → pick b (isAction t l) (tagged t k l) ≡ true → t .tag i ≤ t .tag j → t .tag j ≤ t .tag l
+          → pick b (isAction t j) (tagged t k j) ≡ true
+      by-action true p q up down =
+          action (t .tag j) (omega (arith, low-action (t .tag i) p .0)) (omega (arith, low-action (t .tag l) q .1))
+      by-action false p q up down = eq-eqb (t .tag j) k (omega (arith, eqb-true (t .tag i) k p, eqb-true (t .tag l) k q))
 
 -- the two numbers of k are the span of a test among the first n rows
 abbrev Held : (ℕ → Bool) → ℕ → ℕ → List ℕ → Type 0

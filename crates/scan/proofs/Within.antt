@@ -8,10 +8,10 @@ use native.Mathlib.Nat.{eq-or-lt-of-le}
 use native.Mathlib.Numerals.{add-one}
 use native.Mathlib.Decide.{decLt}
 use Rattle.lists.specs.Choice.{pick}
-use Rattle.lists.specs.Below.{first, countBelow}
+use Rattle.lists.specs.Below.{NoneBelow, first, countBelow}
 use Rattle.lists.proofs.Choice.{chosen, not-chosen}
 use Rattle.lists.proofs.Below.{count-stays, count-none-below}
-use Rattle.lists.proofs.First.{NoneBelow, first-least}
+use Rattle.lists.proofs.First.{first-least}
 use Rattle.scan.specs.declared.Span.{Span}
 use Rattle.scan.specs.Span.{spanOf, Spans}
 use Rattle.scan.specs.Spans.{spanTo}

@@ -2,8 +2,9 @@
 use Prim.Native.Nat.{ℕ}
 use mathlib.Core.Bool.{Bool, _&&_, _||_}
 use lib.Dec.{eqb}
-use Rattle.lists.specs.Choice.{pick}
+use Rattle.table.specs.Names.{eventTag, becomesEqualTag, witnessTag}
 use Rattle.table.specs.Rows.{Rows}
+use Rattle.scan.specs.Spans.{spanTag}
 use Rattle.scan.specs.declared.Query.{Query}
 use Rattle.scan.specs.declared.Query.the-variants.{CountedWith, Event, SameTarget, Initialises, Assigns, Witnesses, Convergent, Tagged}
 
@@ -21,26 +22,16 @@ holds (Witnesses event target) tag a b = eqb tag 60 && (eqb a event && eqb b tar
 holds Convergent tag a b = eqb tag 40 && eqb b 2
 holds (Tagged k) tag a b = eqb tag k
 
--- the lowest and the highest tag of the rows that pass
-abbrev pub lowestTag : Query → ℕ
-lowestTag (CountedWith other) = pick (eqb other 52) 51 other
-lowestTag (Event machine) = 40
-lowestTag (SameTarget other event target) = 51
-lowestTag (Initialises machine) = 40
-lowestTag (Assigns event target) = 51
-lowestTag (Witnesses event target) = 60
-lowestTag Convergent = 40
-lowestTag (Tagged k) = k
-
-abbrev pub highestTag : Query → ℕ
-highestTag (CountedWith other) = pick (eqb other 51) 52 other
-highestTag (Event machine) = 40
-highestTag (SameTarget other event target) = 60
-highestTag (Initialises machine) = 40
-highestTag (Assigns event target) = 52
-highestTag (Witnesses event target) = 60
-highestTag Convergent = 40
-highestTag (Tagged k) = k
+-- the tag under which the rows that pass stand
+abbrev pub queryTag : Query → ℕ
+queryTag (CountedWith other) = spanTag other
+queryTag (Event machine) = eventTag
+queryTag (SameTarget other event target) = spanTag other
+queryTag (Initialises machine) = eventTag
+queryTag (Assigns event target) = becomesEqualTag
+queryTag (Witnesses event target) = witnessTag
+queryTag Convergent = eventTag
+queryTag (Tagged k) = k
 
 -- the row j of a table passes
 abbrev pub passesOf : Rows → Query → ℕ → Bool

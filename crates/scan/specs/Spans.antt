@@ -6,7 +6,7 @@ use mathlib.Core.List.{List}
 use lib.Dec.{eqb}
 use lib.ListN.{length, getD, set}
 use Rattle.lists.specs.Choice.{pick}
-use Rattle.table.specs.Names.{becomesEqualTag, variantTag}
+use Rattle.table.specs.Names.{becomesEqualTag, becomesSuchTag, variantTag}
 use Rattle.table.specs.Rows.{Rows, tagged, isAction}
 use Rattle.scan.specs.declared.Span.{Span}
 
@@ -23,6 +23,10 @@ spanFrom P (suc n) = pick (P n && eqb (spanTo P n) 0) n (spanFrom P n)
 -- the rows of a tag; 51 stands for 51 and 52, the actions: "128 together"
 abbrev pub ofTag : Rows → ℕ → ℕ → Bool
 ofTag t k i = pick (eqb k becomesEqualTag) (isAction t i) (tagged t k i)
+
+-- the tag under which the rows of a tag stand
+abbrev pub spanTag : ℕ → ℕ
+spanTag tag = pick (eqb tag becomesSuchTag) becomesEqualTag tag
 
 -- the rows between which those of a tag stand
 abbrev pub tagSpan : Rows → ℕ → Span

@@ -1,7 +1,6 @@
-// Rows below a bound that pass a test: how many, whether there is one, and the first.
+// Rows that pass a test: whether there is one before a row, the first, and between which rows they stand.
 use table::a_at;
 use table::b_at;
-use table::one_if;
 use table::size;
 use table::tag;
 use table::tag_at;
@@ -9,13 +8,13 @@ ghost use mathlib.Core.Path.{_≡_};
 ghost use Prim.Native.Nat.{ℕ, _+_, _^_, _≤_, _<_};
 ghost use lib.ListN.{length, getD};
 ghost use Rattle.table.specs.Names.{variantTag};
-ghost use Rattle.lists.specs.Below.{countBelow, someBelow, first};
+ghost use Rattle.lists.specs.Below.{NoneBelow, someBelow, first};
 ghost use Rattle.table.specs.Rows.{rowsOf};
 ghost use Rattle.lists.specs.Choice.{pick};
-ghost use lib.Dec.{eqb};
-ghost use Rattle.scan.specs.Query.{holds, lowestTag, highestTag, passesOf};
+ghost use lib.Dec.{eqb, ltb};
+ghost use Rattle.scan.specs.Query.{holds, queryTag, passesOf};
 ghost use Rattle.scan.specs.Span.{spanOf, Spans};
-ghost use Rattle.scan.specs.Spans.{spanTo, spanWords, tagSpan, Spanned, SpannedTo, noted};
+ghost use Rattle.scan.specs.Spans.{spanTo, spanTag, spanWords, tagSpan, Spanned, SpannedTo, noted};
 
 // A test of a row, with the numbers that it compares the row's with.
 pub enum Query {
@@ -64,85 +63,6 @@ fn passes(query: Query, tag: u64, a: u64, b: u64) -> bool
     }
 }
 
-// The lowest tag of a row that is counted together with those of a tag: 51 and 52 are.
-fn first_counted(tag: u64) -> u64
-    ensures { λ r. ⌜ r ≡ pick (eqb tag 52) 51 tag ⌝ }
-{
-    if tag == 52 { 51 } else { tag }
-}
-
-fn last_counted(tag: u64) -> u64
-    ensures { λ r. ⌜ r ≡ pick (eqb tag 51) 52 tag ⌝ }
-{
-    if tag == 51 { 52 } else { tag }
-}
-
-// The lowest tag of a row that passes.
-fn lowest_tag(query: Query) -> u64
-    ensures { λ r. ⌜ r ≡ lowestTag query ⌝ }
-{
-    match query {
-        Query::CountedWith(tag) => first_counted(tag),
-        Query::Event(machine) => 40,
-        Query::SameTarget { tag, event, target } => 51,
-        Query::Initialises(machine) => 40,
-        Query::Assigns { event, target } => 51,
-        Query::Witnesses { event, target } => 60,
-        Query::Convergent => 40,
-        Query::Tagged(k) => k,
-    }
-}
-
-// The highest.
-fn highest_tag(query: Query) -> u64
-    ensures { λ r. ⌜ r ≡ highestTag query ⌝ }
-{
-    match query {
-        Query::CountedWith(tag) => last_counted(tag),
-        Query::Event(machine) => 40,
-        Query::SameTarget { tag, event, target } => 60,
-        Query::Initialises(machine) => 40,
-        Query::Assigns { event, target } => 52,
-        Query::Witnesses { event, target } => 60,
-        Query::Convergent => 40,
-        Query::Tagged(k) => k,
-    }
-}
-
-// Whether row i passes, by its tag alone where that is not between the lowest and the highest, as of most rows.
-fn passes_at(words: &[u64], query: Query, low: u64, high: u64, i: usize) -> bool
-    requires { ⌜ (low ≡ lowestTag query) × (high ≡ highestTag query) ⌝ }
-    ensures { λ r. ⌜ r ≡ passesOf (rowsOf (now (words .entry))) query i ⌝ }
-{
-    let tag = tag_at(words, i);
-    if !((low <= tag) & (tag <= high)) {
-        return false;
-    }
-    passes(query, tag, a_at(words, i), b_at(words, i))
-}
-
-// How many of the rows before row n pass.
-pub fn count_rows(words: &[u64], query: Query, n: usize) -> u64
-    ensures { λ r. ⌜ r ≡ countBelow (passesOf (rowsOf (now (words .entry))) query) n ⌝ }
-{
-    let low = lowest_tag(query);
-    let high = highest_tag(query);
-    let mut count = 0;
-    let mut j = 0;
-    while j < n {
-        count += one_if(passes_at(words, query, low, high, j));
-        j += 1;
-    }
-    count
-}
-
-// Whether one of them passes.
-pub fn some_row(words: &[u64], query: Query, n: usize) -> bool
-    ensures { λ r. ⌜ r ≡ someBelow (passesOf (rowsOf (now (words .entry))) query) n ⌝ }
-{
-    0 < count_rows(words, query, n)
-}
-
 // Rows among which those that pass a test stand: none is before `from`, and none at `to` or behind it.
 pub struct Span {
     pub from: usize,
@@ -157,12 +77,12 @@ impl Span {
 // One pass over the rows finds the spans of all tags, in every table, sorted or not.
 
 // Sets all numbers to 0.
-fn clear(spans: &mut [usize])
-    ensures { λ _. ⌜ (length (now (spans .exit)) ≡ length (now (spans .entry))) × ((k : ℕ) → getD (now (spans .exit)) k 0 ≡ 0) ⌝ }
+pub fn clear(numbers: &mut [usize])
+    ensures { λ _. ⌜ (length (now (numbers .exit)) ≡ length (now (numbers .entry))) × ((k : ℕ) → getD (now (numbers .exit)) k 0 ≡ 0) ⌝ }
 {
     let mut k = 0;
-    while k < spans.len() {
-        spans[k] = 0;
+    while k < numbers.len() {
+        numbers[k] = 0;
         k += 1;
     }
 }
@@ -212,6 +132,16 @@ pub fn fill_spans(words: &[u64], spans: &mut [usize])
         note_row(words, spans, i);
         i += 1;
     }
+}
+
+// The tag under which the rows of a tag stand: 51 of 52.
+pub fn span_tag(tag: u64) -> u64
+    ensures { λ r. ⌜ r ≡ spanTag tag ⌝ }
+{
+    if tag == tag::BECOMES_SUCH {
+        return tag::BECOMES_EQUAL;
+    }
+    tag
 }
 
 // The rows between which those of a tag stand; of 51, those of 51 and 52.
@@ -269,6 +199,54 @@ pub fn find_within(words: &[u64], query: Query, span: Span) -> usize
         i += 1;
     }
     size(words)
+}
+
+// Whether one of the rows before the end of a span passes, where none before it does.
+fn some_within(words: &[u64], query: Query, span: Span) -> bool
+    requires { ⌜ NoneBelow (passesOf (rowsOf (now words)) query) (span .from) ⌝ }
+    ensures { λ r. ⌜ r ≡ someBelow (passesOf (rowsOf (now (words .entry))) query) (span .to) ⌝ }
+{
+    let mut i = span.from;
+    while i < span.to {
+        if passes(query, tag_at(words, i), a_at(words, i), b_at(words, i)) {
+            return true;
+        }
+        i += 1;
+    }
+    false
+}
+
+// The tag under which the rows that pass stand.
+fn query_tag(query: Query) -> u64
+    ensures { λ r. ⌜ r ≡ queryTag query ⌝ }
+{
+    match query {
+        Query::CountedWith(tag) => span_tag(tag),
+        Query::Event(machine) => tag::EVENT,
+        Query::SameTarget { tag, event, target } => span_tag(tag),
+        Query::Initialises(machine) => tag::EVENT,
+        Query::Assigns { event, target } => tag::BECOMES_EQUAL,
+        Query::Witnesses { event, target } => tag::WITNESS,
+        Query::Convergent => tag::EVENT,
+        Query::Tagged(k) => k,
+    }
+}
+
+fn lesser(m: usize, n: usize) -> usize
+    ensures { λ r. ⌜ r ≡ pick (ltb m n) m n ⌝ }
+{
+    if m < n { m } else { n }
+}
+
+// Whether one of the rows before row n passes. Of these only those are read between which the rows of the query's tag stand.
+pub fn some_row(words: &[u64], spans: &[usize], query: Query, n: usize) -> bool
+    requires { ⌜ Spanned (rowsOf (now words)) (now spans) × (n ≤ rowsOf (now words) .size) × (queryTag query ≤ variantTag) ⌝ }
+    ensures { λ r. ⌜ r ≡ someBelow (passesOf (rowsOf (now (words .entry))) query) n ⌝ }
+{
+    let span = span_at(words, spans, query_tag(query));
+    let from = span.from;
+    let to = lesser(n, span.to);
+    some_within(words, query, Span { from, to })
 }
 
 // The first row that passes, or the number of rows.

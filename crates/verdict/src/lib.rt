@@ -57,11 +57,11 @@ pub fn judge_with(words: &[u64], table: Table, spans: &[usize]) -> Verdict
     requires { ⌜ (table ≡ countsOf (rowsOf (now words))) × Spanned (rowsOf (now words)) (now spans) × (length (now words) ≤ mostWords) ⌝ }
     ensures { λ r. ⌜ r ≡ judgeOf (rowsOf (now (words .entry))) ⌝ }
 {
-    let check = first_check(words, table);
+    let check = first_check(words, table, spans);
     if check < Verdict::MISSING {
-        return Verdict::Refused(check, first_row(words, table, check) as u64 + 1);
+        return Verdict::Refused(check, first_row(words, table, spans, check) as u64 + 1);
     }
-    if missing(words, table) {
+    if missing(words, table, spans) {
         return Verdict::Refused(Verdict::MISSING, 0);
     }
     Verdict::Accepted(count(words, table, spans))

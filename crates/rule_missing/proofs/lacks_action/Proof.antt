@@ -22,7 +22,7 @@ lacks-action-spec = tie.close (tie.spec
     (λ c κs. search needs)
     (λ c κs. search needs)
     (λ c. let read = c .before .before .before in
-    let a = read .before .before .before .before .before .args in
+    let a = read .before .before .before .before .before .before .args in
     let t = rowsOf (a .words .now) in
     let machine = read .before .before in
     let class = machine .before in
@@ -32,7 +32,7 @@ lacks-action-spec = tie.close (tie.spec
     let found = c .some-row .ensures ∙ ap (someBelow (passesOf t (Assigns (a .event) (a .target)))) (c .before .size .ensures) in
     ap not found ∙ sym (and-passed (actionWanted t (a .i) (a .j)) (not (assigned t (a .event) (a .target))) (sym same ∙ c .before .before .if1 .taken)))
     (λ c. let read = c .before in
-    let a = read .before .before .before .before .before .args in
+    let a = read .before .before .before .before .before .before .args in
     let t = rowsOf (a .words .now) in
     let machine = read .before .before in
     let class = machine .before in

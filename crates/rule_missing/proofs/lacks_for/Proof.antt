@@ -14,7 +14,7 @@ use Rattle.rule_missing.proofs.lacks_for.Tie as tie
 pub lacks-for-spec : {M : Type 1} → statement M
 lacks-for-spec = tie.close (tie.spec
     (λ c κs. search needs)
-    (λ c. let a = c .before .before .before .args in
+    (λ c. let a = c .before .before .before .before .args in
     let t = rowsOf (a .words .now) in
     sym (and-failed (tagged t 10 (a .j)) (lacksAction t (a .i) (a .j) || lacksWitness t (a .i) (a .j))
     (ne-eqb (t .tag (a .j)) 10 (λ e. c .if1 .taken (c .before .tag-at .ensures ∙ e)))))
@@ -23,7 +23,7 @@ lacks-for-spec = tie.close (tie.spec
     (λ c κs. search needs)
     (λ c κs. search needs)
     (λ c. let test = c .before .before .before .before in
-    let s = test .before .before .before in
+    let s = test .before .before .before .before in
     let a = s .args in
     let t = rowsOf (a .words .now) in
     let event : c .before .before .before .number-in .result ≡ numberIn t 40 (a .i) =

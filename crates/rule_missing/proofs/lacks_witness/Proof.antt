@@ -23,7 +23,7 @@ lacks-witness-spec = tie.close (tie.spec
     (λ c κs. search needs)
     (λ c κs. search needs)
     (λ c. let read = c .before .before .before in
-    let a = read .before .before .before .before .before .before .args in
+    let a = read .before .before .before .before .before .before .before .args in
     let t = rowsOf (a .words .now) in
     let class = read .before .before in
     let machine = class .before in
@@ -34,7 +34,7 @@ lacks-witness-spec = tie.close (tie.spec
     let found = c .some-row .ensures ∙ ap (someBelow (passesOf t (Witnesses (a .event) (a .target)))) (c .before .size .ensures) in
     ap not found ∙ sym (and-passed (witnessWanted t (a .i) (a .j)) (not (hasWitness t (a .event) (a .target))) (sym same ∙ c .before .before .if1 .taken)))
     (λ c. let read = c .before in
-    let a = read .before .before .before .before .before .before .args in
+    let a = read .before .before .before .before .before .before .before .args in
     let t = rowsOf (a .words .now) in
     let class = read .before .before in
     let machine = class .before in

@@ -27,7 +27,7 @@ missing-spec = tie.close (tie.spec
     (λ c κs. search needs)
     (λ c κs. search needs)
     (λ c. let rows = c .before .before .before .before .before .size .ensures in
-    let t = rowsOf (c .before .before .before .before .before .before .before .args .words .now) in
+    let t = rowsOf (c .before .before .before .before .before .before .before .before .args .words .now) in
     missing-parts t (c .before .before .before .before .some-row .result) (c .before .before .before .some-row2 .result) (c .before .before .some-event-lacks .result) (c .before .some-row3 .result) (c .some-row4 .result)
     (c .before .before .before .before .some-row .ensures ∙ ap (someBelow (passesOf t (Initialises 1))) rows)
     (c .before .before .before .some-row2 .ensures ∙ ap (someBelow (passesOf t (Initialises 2))) rows)

@@ -1,6 +1,8 @@
 -- By the number of operands.
+use mathlib.Core.Path.{_≡_, ap, sym, _∙_}
 use Rattle.table.specs.Rows.{rowsOf}
-use Rattle.rule_references.proofs.Found.{operands-found}
+use Rattle.rules.specs.Sorts.{shapeOf, operandCount}
+use Rattle.rule_references.proofs.Found.{shape-found, operands-found}
 use Rattle.rule_sorts.proofs.Sorts.{operands-none, operands-one, operands-two}
 use borrow.Author.Needs.{needs}
 use Rattle.rule_sorts.proofs.good_operands.Statement.{statement}
@@ -11,24 +13,33 @@ good-operands-spec = tie.close (tie.spec
     (λ c κs. search needs)
     (λ c κs. search needs)
     (λ c κs. search needs)
+    (λ c. let counted = c .before in let o = counted .before in let n = o .before in let a = n .before .before .args in
+    let t = rowsOf (a .words .now) in
+    let count = counted .operand-count .ensures ∙ ap operandCount (shape-found (o .find-operator .result) (n .a-at .result) (o .find-operator .ensures) ∙ ap shapeOf (n .a-at .ensures)) in
+    operands-none t (operandCount (shapeOf (t .a (a .i)))) (a .i) (sym count ∙ c .if1 .taken))
+    (λ c κs. search needs)
+    (λ c κs. search needs)
+    (λ c κs. search needs)
+    (λ c. let left = c .before .before in let counted = left .before .before .before in let o = counted .before in let n = o .before in let a = n .before .before .args in
+    let t = rowsOf (a .words .now) in
+    let count = counted .operand-count .ensures ∙ ap operandCount (shape-found (o .find-operator .result) (n .a-at .result) (o .find-operator .ensures) ∙ ap shapeOf (n .a-at .ensures)) in
+    simp (c .fits2 .ensures, left .sort-of .ensures, left .before .b-at .ensures, operands-found (o .find-operator .result) (n .a-at .result) (o .find-operator .ensures), n .a-at .ensures)
+    (operands-one t (operandCount (shapeOf (t .a (a .i)))) (a .i) (sym count ∙ c .before .if2 .taken)))
     (λ c κs. search needs)
     (λ c κs. search needs)
     (λ c κs. search needs)
     (λ c κs. search needs)
-    (λ c κs. search needs)
-    (λ c. let a = c .before .before .before .before .before .before .before .before .before .before .args in operands-none (rowsOf (a .words .now)) (a .count) (a .i) (c .if1 .taken))
-    (λ c. let f = c .before .before .before .before .before in let o = f .before .find-operator in let n = f .before .before .before .before in let a = n .before .before .args in
-    simp (f .operand-fits .ensures, operands-found (o .result) (n .a-at .result) (o .ensures), f .before .before .before .b-at .ensures, n .a-at .ensures)
-    (operands-one (rowsOf (a .words .now)) (a .count) (a .i) (c .if2 .taken)))
-    (λ c. let s = c .before .before in let f = s .before .before .before in let o = f .before .find-operator in let n = f .before .before .before .before in let a = n .before .before .args in
+    (λ c. let right = c .before .before in let more = right .before .before in let left = more .before in let counted = left .before .before .before in let o = counted .before in let n = o .before in let a = n .before .before .args in
+    let t = rowsOf (a .words .now) in
+    let count = counted .operand-count .ensures ∙ ap operandCount (shape-found (o .find-operator .result) (n .a-at .result) (o .find-operator .ensures) ∙ ap shapeOf (n .a-at .ensures)) in
     simp (
-      s .sort-of2 .ensures,
-      s .before .sort-of .ensures,
-      s .before .before .operand-fits2 .ensures,
-      f .operand-fits .ensures,
-      operands-found (o .result) (n .a-at .result) (o .ensures),
-      f .before .before .c-at .ensures,
-      f .before .before .before .b-at .ensures,
+      c .fits4 .ensures,
+      c .before .fits3 .ensures,
+      right .sort-of2 .ensures,
+      right .before .c-at .ensures,
+      left .sort-of .ensures,
+      left .before .b-at .ensures,
+      operands-found (o .find-operator .result) (n .a-at .result) (o .find-operator .ensures),
       n .a-at .ensures,
     )
-    (operands-two (rowsOf (a .words .now)) (a .count) (a .i) (c .before .if1 .left) (c .if2 .left))))
+    (operands-two t (operandCount (shapeOf (t .a (a .i)))) (a .i) (λ e. left .before .before .if1 .left (count ∙ e)) (λ e. more .if2 .left (count ∙ e)))))

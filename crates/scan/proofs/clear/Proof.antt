@@ -15,10 +15,10 @@ use Rattle.scan.proofs.clear.Statement.{statement}
 use Rattle.scan.proofs.clear.Tie as tie
 
 abbrev Inv-loop : tie.InvT-loop
-Inv-loop spans₀ k₀ spans k = (length spans ≡ length spans₀) × ((j : ℕ) → j < k → getD spans j 0 ≡ 0)
+Inv-loop numbers₀ k₀ numbers k = (length numbers ≡ length numbers₀) × ((j : ℕ) → j < k → getD numbers j 0 ≡ 0)
 
 abbrev μ-loop : tie.MeasureT-loop
-μ-loop spans₀ k₀ spans k = length spans - k
+μ-loop numbers₀ k₀ numbers k = length numbers - k
 
 -- the numbers before k, and the one at k
 zero-next : (s : List ℕ) (k : ℕ) → k < length s → ((j : ℕ) → j < k → getD s j 0 ≡ 0) → (j : ℕ) → j < k + 1 → getD (set s k 0) j 0 ≡ 0
@@ -43,6 +43,6 @@ clear-spec = tie.close (tie.spec
     (λ c. search needs)
     (λ c. simp length-set (omega arith))
     (λ c. let turn = c .before in
-    (simp length-set (turn .loop .inv .0), zero-next (turn .loop .spans) (turn .loop .k) (omega arith) (turn .loop .inv .1)))
+    (simp length-set (turn .loop .inv .0), zero-next (turn .loop .numbers) (turn .loop .k) (omega arith) (turn .loop .inv .1)))
     (λ c. c .before .loop .inv .0)
-    (λ c. let turn = c .before in (turn .loop .inv .0, zero-all (turn .loop .spans) (turn .loop .k) (omega arith) (turn .loop .inv .1))))
+    (λ c. let turn = c .before in (turn .loop .inv .0, zero-all (turn .loop .numbers) (turn .loop .k) (omega arith) (turn .loop .inv .1))))

@@ -2,7 +2,8 @@
 use Prim.Native.Nat.{_-_}
 use mathlib.Core.Path.{_≡_, sym, _∙_}
 use native.Mathlib.Omega.{arith}
-use Rattle.lists.proofs.First.{NoneBelow, none-next, first-at, first-none}
+use Rattle.lists.specs.Below.{NoneBelow}
+use Rattle.lists.proofs.First.{none-next, first-at, first-none}
 use Rattle.table.specs.Rows.{rowsOf}
 use Rattle.scan.specs.Query.{passesOf}
 use Rattle.scan.proofs.Within.{spans-none}

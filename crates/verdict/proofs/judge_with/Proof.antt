@@ -1,11 +1,11 @@
 -- By the first check that a row offends against, then by whether something is missing (Cases, of the rules).
-use mathlib.Core.Path.{_≡_, ap, ap₂, sym, _∙_}
+use mathlib.Core.Path.{_≡_, ap, ap₂, sym, subst, _∙_}
 use Prim.Native.Nat.{_+_}
 use native.Mathlib.Omega.{arith}
 use Rattle.table.specs.Rows.{rowsOf}
 use Rattle.rules.specs.declared.Verdict.the-variants.{Accepted, Refused}
-use Rattle.rules.specs.Verdict.{firstRow}
-use Rattle.rules.proofs.Cases.{judge-row, judge-missing, judge-accepted, row-at-most}
+use Rattle.rules.specs.Verdict.{firstRow, PassedBefore}
+use Rattle.rules.proofs.Cases.{judge-row, judge-missing, judge-accepted, row-at-most, first-passed}
 use borrow.Author.Needs.{needs}
 use Rattle.verdict.proofs.judge_with.Statement.{statement}
 use Rattle.verdict.proofs.judge_with.Tie as tie
@@ -13,7 +13,8 @@ use Rattle.verdict.proofs.judge_with.Tie as tie
 pub judge-with-spec : {M : Type 1} → statement M
 judge-with-spec = tie.close (tie.spec
     (λ c κs. search needs)
-    (λ c κs. search needs)
+    (λ c κs. let s = c .before .before .before .before in
+    (s .pre, subst (PassedBefore (rowsOf (s .args .words .now))) (sym (c .before .first-check .ensures)) (first-passed (rowsOf (s .args .words .now)))))
     (λ c. let checked = c .before .before in
     let a = checked .before .before .before .args in
     let t = rowsOf (a .words .now) in
