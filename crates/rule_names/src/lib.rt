@@ -95,9 +95,11 @@ pub fn identifier_offends(words: &[u64], table: Table, i: usize) -> bool
     requires { ⌜ table ≡ countsOf (rowsOf (now words)) ⌝ }
     ensures { λ r. ⌜ r ≡ identifierOffends (rowsOf (now (words .entry))) i ⌝ }
 {
+    if tag_at(words, i) != tag::IDENTIFIER {
+        return false;
+    }
     let kind = a_at(words, i);
     let sort = b_at(words, i);
     let good_type = (sort == 1) | (sort == 2);
-    (tag_at(words, i) == 10)
-        & !(((1 <= kind) & (kind <= 5)) & (good_type & good_owner(words, table, i)))
+    !(((1 <= kind) & (kind <= 5)) & (good_type & good_owner(words, table, i)))
 }

@@ -9,6 +9,7 @@ use table::identifier_field;
 use table::named_event;
 use table::named_identifier;
 use table::named_node;
+use table::tag;
 use table::tag_at;
 ghost use mathlib.Core.Path.{_≡_};
 ghost use Prim.Native.Nat.{_+_};
@@ -236,17 +237,18 @@ fn good_target(words: &[u64], table: Table, i: usize) -> bool
     true
 }
 
-// Whether row i offends against check 7.
+// Whether row i offends against check 7: a node by its columns, another row by what it names.
 pub fn reference_offends(words: &[u64], table: Table, i: usize) -> bool
     requires { ⌜ table ≡ countsOf (rowsOf (now words)) ⌝ }
     ensures { λ r. ⌜ r ≡ referenceOffends (rowsOf (now (words .entry))) i ⌝ }
 {
-    let tag = tag_at(words, i);
-    let found = find_operator(a_at(words, i));
-    let shape = found.shape;
-    let columns = good_columns(words, table, shape, i);
-    let names = names_root(words, i);
-    let target = good_target(words, table, i);
-    let root = named_node(words, table, root_at(words, i));
-    ((tag == 20) & !columns) | (names & !(target & root))
+    if tag_at(words, i) == tag::NODE {
+        let found = find_operator(a_at(words, i));
+        let shape = found.shape;
+        return !good_columns(words, table, shape, i);
+    }
+    if !names_root(words, i) {
+        return false;
+    }
+    !(good_target(words, table, i) & named_node(words, table, root_at(words, i)))
 }

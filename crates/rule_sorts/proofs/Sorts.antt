@@ -1,17 +1,17 @@
 -- The definitions of check 8 by their cases: an operator that names an identifier, a number of operands, a tag.
 use Prim.Native.Nat.{ℕ, zero, suc}
-use mathlib.Core.Path.{_≡_, refl, subst, _∙_}
+use mathlib.Core.Path.{_≡_, refl, subst}
 use mathlib.Core.Bool.{Bool, true, false, not, _&&_, _||_}
 use native.Mathlib.Omega.{arith}
-use borrow.Author.Tests.{eq-eqb, ne-eqb, le-ltb}
 use lib.Dec.{eqb}
 use Rattle.lists.specs.Choice.{pick}
 use Rattle.table.specs.Names.{nodeTag}
-use Rattle.table.specs.Rows.{Rows, tagged, typeOf, operatorOf, leftOf}
+use Rattle.table.specs.Rows.{Rows, typeOf, operatorOf, leftOf}
 use Rattle.machine.specs.Operator.{operandSort, resultSort}
 use Rattle.rules.specs.Sorts.{shapeOf, operandCount, namesIdentifier, sortOf, fitting}
 use Rattle.rules.specs.Rules.{goodOperands, rootAt, namesRoot, rootSort, sortOffends}
 use Rattle.rules.proofs.Sorts.{rootSortOf}
+use Rattle.rule_references.proofs.Parts.{node-part, root-part, no-part}
 
 module _ (t : Rows) where
   pub sort-when : (n r : ℕ) (b : Bool) → b ≡ namesIdentifier (shapeOf (operatorOf t n))
@@ -40,18 +40,14 @@ module _ (t : Rows) where
   root-sort-when i tag r e h = subst (λ k. r ≡ rootSortOf t k i) e h
 
   -- a node, a row that names a root, and another row
-  or-false : (b : Bool) → (b || false) ≡ b
-  or-false true = refl
-  or-false false = refl
-
   pub sort-node : (i : ℕ) → t .tag i ≡ nodeTag → sortOffends t i ≡ not (goodOperands t (operandCount (shapeOf (t .a i))) i)
   unfolding sortOffends
-  sort-node i e = rw (eq-eqb (t .tag i) nodeTag e, le-ltb nodeTag (t .tag i) (omega arith)) (or-false (not (goodOperands t (operandCount (shapeOf (t .a i))) i)))
+  sort-node i = node-part t i (goodOperands t (operandCount (shapeOf (t .a i))) i) (eqb (sortOf t (rootAt t i)) (rootSort t i))
 
   pub sort-root : (i : ℕ) → (t .tag i ≡ nodeTag → ⊥) → namesRoot t i ≡ true → sortOffends t i ≡ not (eqb (sortOf t (rootAt t i)) (rootSort t i))
   unfolding sortOffends
-  sort-root i f e = rw (ne-eqb (t .tag i) nodeTag f, e)
+  sort-root i = root-part t i (goodOperands t (operandCount (shapeOf (t .a i))) i) (eqb (sortOf t (rootAt t i)) (rootSort t i))
 
   pub sort-none : (i : ℕ) → (t .tag i ≡ nodeTag → ⊥) → namesRoot t i ≡ false → sortOffends t i ≡ false
   unfolding sortOffends
-  sort-none i f e = rw (ne-eqb (t .tag i) nodeTag f, e)
+  sort-none i = no-part t i (goodOperands t (operandCount (shapeOf (t .a i))) i) (eqb (sortOf t (rootAt t i)) (rootSort t i))

@@ -36,11 +36,11 @@ pub fn sort_of(words: &[u64], table: Table, n: u64) -> u64
     requires { ⌜ table ≡ countsOf (rowsOf (now words)) ⌝ }
     ensures { λ r. ⌜ r ≡ sortOf (rowsOf (now (words .entry))) n ⌝ }
 {
-    let left = node_field(words, table, n, Table::LEFT);
     let found = find_operator(node_field(words, table, n, Table::OPERATOR));
     let shape = found.shape;
     if names_identifier(shape) {
-        return identifier_field(words, table, left, Table::TYPE);
+        let identifier = node_field(words, table, n, Table::LEFT);
+        return identifier_field(words, table, identifier, Table::TYPE);
     }
     found.sort
 }

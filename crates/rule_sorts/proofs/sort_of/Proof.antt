@@ -16,11 +16,11 @@ sort-of-spec = tie.close (tie.spec
     (λ c κs. search needs)
     (λ c κs. search needs)
     (λ c κs. search needs)
-    (λ c. let k = c .before .before in let o = k .before .find-operator in let f = k .before .before in let a = f .before .before .before .args in
+    (λ c. let k = c .before .before .before in let o = k .before .find-operator in let f = k .before .before in let a = f .before .before .args in
     sort-when (rowsOf (a .words .now)) (a .n) (c .identifier-field .result) (k .names-identifier .result)
-    (k .names-identifier .ensures ∙ ap namesIdentifier (shape-found (o .result) (f .node-field2 .result) (o .ensures) ∙ ap shapeOf (f .node-field2 .ensures)))
-    (rw (c .before .if1 .taken) (simp (f .before .node-field .ensures) at (c .identifier-field .ensures))))
-    (λ c. let k = c .before in let o = k .before .find-operator in let f = k .before .before in let a = f .before .before .before .args in
+    (k .names-identifier .ensures ∙ ap namesIdentifier (shape-found (o .result) (f .node-field .result) (o .ensures) ∙ ap shapeOf (f .node-field .ensures)))
+    (rw (c .before .before .if1 .taken) (simp (c .before .node-field2 .ensures) at (c .identifier-field .ensures))))
+    (λ c. let k = c .before in let o = k .before .find-operator in let f = k .before .before in let a = f .before .before .args in
     sort-when (rowsOf (a .words .now)) (a .n) (o .result .sort) (k .names-identifier .result)
-    (k .names-identifier .ensures ∙ ap namesIdentifier (shape-found (o .result) (f .node-field2 .result) (o .ensures) ∙ ap shapeOf (f .node-field2 .ensures)))
-    (rw (c .if1 .left) (sort-found (o .result) (f .node-field2 .result) (o .ensures) ∙ ap resultSort (f .node-field2 .ensures)))))
+    (k .names-identifier .ensures ∙ ap namesIdentifier (shape-found (o .result) (f .node-field .result) (o .ensures) ∙ ap shapeOf (f .node-field .ensures)))
+    (rw (c .if1 .left) (sort-found (o .result) (f .node-field .result) (o .ensures) ∙ ap resultSort (f .node-field .ensures)))))
