@@ -5,6 +5,9 @@ use Prim.Native.Nat.{ℕ, zero, suc}
 use lib.Dec.{ltb, eqb}
 use Rattle.lists.specs.Choice.{pick}
 use Rattle.lists.specs.Below.{first, numbers, keep}
+use Rattle.table.specs.Names.{abstractInvariantTag, abstractMachine, abstractParameterKind, abstractVariableKind, axiomTag, becomesEqualTag}
+use Rattle.table.specs.Names.{booleanType, concreteInvariantTag, concreteVariableKind, constantKind as kindOfConstants, eventTag, guardTag}
+use Rattle.table.specs.Names.{identifierTag, initialisationClass, ordinaryClass, variantTag, witnessTag}
 use Rattle.table.specs.Rows.{Rows, tagged, section, count, kindOf, typeOf, operatorOf, leftOf, rightOf, machineNumber, classOf, refinedBy, isAction}
 use Rattle.formula.specs.Values.{ValueType, integer, boolean}
 use Rattle.formula.specs.Tree.{literal, bottom, Tree, constant, identifier, after, unary, binary, division, connective}
@@ -15,23 +18,23 @@ use Rattle.machine.specs.Operator.{Operator, literalOf, identifierOf, af
 
 -- 01: "type: 1 integer, 2 boolean"
 unfoldable pub typeNumbered : ℕ → ValueType
-typeNumbered n = pick (eqb n 2) boolean integer
+typeNumbered n = pick (eqb n booleanType) boolean integer
 
 -- 01: "kind: 1 constant, 2 abstract variable, 3 concrete variable, 4 abstract parameter, 5 concrete parameter"
 unfoldable pub kindNumbered : ℕ → Kind
 kindNumbered n =
-    pick (eqb n 1) constantKind
-    (pick (eqb n 2) abstractVariable
-    (pick (eqb n 3) concreteVariable
-    (pick (eqb n 4) abstractParameter concreteParameter)))
+    pick (eqb n kindOfConstants) constantKind
+    (pick (eqb n abstractVariableKind) abstractVariable
+    (pick (eqb n concreteVariableKind) concreteVariable
+    (pick (eqb n abstractParameterKind) abstractParameter concreteParameter)))
 
 -- 01: "machine: 1 abstract, 2 concrete; class: 0 initialisation, 1 ordinary, 2 convergent"; the abstract initialisation is event 1
 unfoldable pub roleNumbered : ℕ → ℕ → ℕ → Role
 roleNumbered machine class refined =
-    pick (eqb machine 1)
-    (pick (eqb class 0) abstractInitialisation abstractOrdinary)
-    (pick (eqb class 0) (concreteInitialisation 1)
-    (pick (eqb class 1) (refining refined) convergent))
+    pick (eqb machine abstractMachine)
+    (pick (eqb class initialisationClass) abstractInitialisation abstractOrdinary)
+    (pick (eqb class initialisationClass) (concreteInitialisation 1)
+    (pick (eqb class ordinaryClass) (refining refined) convergent))
 
 -- a node of an operator, its column b and the trees of its operands
 abbrev pub node : Operator → ℕ → Tree → Tree → Tree
@@ -68,29 +71,29 @@ module _ (t : Rows) where
   unfoldable pub actionOf : ℕ → ℕ → Action
   actionOf e x =
       let i = first (sets e x) (t .size) 0 in
-      pick (ltb i (t .size)) (pick (tagged t 51 i) (becomesEqual (t .c i)) (becomesSuchThat (t .c i))) unassigned
+      pick (ltb i (t .size)) (pick (tagged t becomesEqualTag i) (becomesEqual (t .c i)) (becomesSuchThat (t .c i))) unassigned
 
   -- the rows of a section that belong to an event
   unfoldable pub belonging : ℕ → ℕ → List ℕ
   belonging k e = keep (λ i. eqb (t .a i) e) (section t k)
 
   unfoldable pub identifiersOf : ℕ → List ℕ
-  identifiersOf kind = keep (λ x. eqb (kindOf t x) kind) (numbers (count t 10) 1)
+  identifiersOf kind = keep (λ x. eqb (kindOf t x) kind) (numbers (count t identifierTag) 1)
 
   unfoldable pub machineOf : Machine
   machineOf = record {
     type = λ x. typeNumbered (typeOf t x);
     kind = λ x. kindNumbered (kindOf t x);
     tree = treeOf;
-    abstractVariables = identifiersOf 2;
-    concreteVariables = identifiersOf 3;
-    axioms = map (t .a) (section t 30);
-    abstractInvariants = map (t .a) (section t 31);
-    concreteInvariants = map (t .a) (section t 32);
-    variants = map (t .a) (section t 70);
-    events = numbers (count t 40) 1;
+    abstractVariables = identifiersOf abstractVariableKind;
+    concreteVariables = identifiersOf concreteVariableKind;
+    axioms = map (t .a) (section t axiomTag);
+    abstractInvariants = map (t .a) (section t abstractInvariantTag);
+    concreteInvariants = map (t .a) (section t concreteInvariantTag);
+    variants = map (t .a) (section t variantTag);
+    events = numbers (count t eventTag) 1;
     role = λ e. roleNumbered (machineNumber t e) (classOf t e) (refinedBy t e);
-    guards = λ e. map (t .b) (belonging 50 e);
+    guards = λ e. map (t .b) (belonging guardTag e);
     action = actionOf;
-    witnesses = λ e. map (λ i. record { target = t .b i; root = t .c i }) (belonging 60 e);
+    witnesses = λ e. map (λ i. record { target = t .b i; root = t .c i }) (belonging witnessTag e);
   }

@@ -28,6 +28,10 @@ pub record Numbered : Type 0 where
 abbrev pub is : ℕ → Operator → ℕ → ℕ → Numbered
 is n o s r = record { number = n; operator = o; operands = s; sort = r }
 
+-- "20 = (both integer or both boolean)", which takes operands of either type
+abbrev pub equalNumber : ℕ
+equalNumber = 20
+
 -- "1 literal (b its value), 2 identifier (b), 3 after value of a variable (b), 4 TRUE, 5 FALSE, 6 bool; integers 10 plus, 11 minus, 12 times, 13 ÷,
 -- 14 mod, 15 negation; predicates 20 = (both integer or both boolean), 21 <, 22 ≤, 30 ⊤, 31 ⊥, 32 ¬, 33 ∧, 34 ∨, 35 ⇒, 36 ⇔": number, what it is, the
 -- sort of its operands, its own
@@ -45,7 +49,7 @@ operators =
     ∷ is 13 (divisionOf quotient) 1 1
     ∷ is 14 (divisionOf remainder) 1 1
     ∷ is 15 (unaryOf negation) 1 1
-    ∷ is 20 (binaryOf equal) 0 3
+    ∷ is equalNumber (binaryOf equal) 0 3
     ∷ is 21 (binaryOf less) 1 3
     ∷ is 22 (binaryOf atMost) 1 3
     ∷ is 30 (constantOf top) 0 3

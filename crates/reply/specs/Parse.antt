@@ -11,6 +11,7 @@ use Rattle.row.specs.declared.Row.{Row}
 use Rattle.formula.specs.Tree.{literal, Tree, constant, identifier, after, unary, binary, division, connective}
 use Rattle.formula.specs.Formula.{Formula, plain, someValue, someAfterValue}
 use Rattle.machine.specs.Operator.{Operator, literalOf, identifierOf, afterOf, constantOf, unaryOf, binaryOf, divisionOf, connectiveOf, unknown, operatorNumbered}
+use Rattle.reply.specs.Spelled.{spelledTag, someValueNumber, someAfterValueNumber}
 
 -- what is read from the front of the rows, and the rows that are left
 abbrev pub Parser : Type 0 → Type 0
@@ -42,12 +43,12 @@ parseNode unknown b read rs = none
 unfoldable pub parseTree : ℕ → Parser Tree
 parseTree zero rs = none
 parseTree (suc most) [] = none
-parseTree (suc most) (r ∷ rs) = pick (eqb (r .tag) 83) (parseNode (operatorNumbered (r .a)) (r .b) (parseTree most) rs) none
+parseTree (suc most) (r ∷ rs) = pick (eqb (r .tag) spelledTag) (parseNode (operatorNumbered (r .a)) (r .b) (parseTree most) rs) none
 
 -- "with 40 "some value of" and 41 "some after value of" the identifier in b"
 unfoldable pub parseFormula : Parser Formula
 parseFormula [] = none
 parseFormula (r ∷ rs) =
-    pick (eqb (r .tag) 83 && eqb (r .a) 40) (made (someValue (r .b)) (parseTree (length rs) rs))
-    (pick (eqb (r .tag) 83 && eqb (r .a) 41) (made (someAfterValue (r .b)) (parseTree (length rs) rs))
+    pick (eqb (r .tag) spelledTag && eqb (r .a) someValueNumber) (made (someValue (r .b)) (parseTree (length rs) rs))
+    (pick (eqb (r .tag) spelledTag && eqb (r .a) someAfterValueNumber) (made (someAfterValue (r .b)) (parseTree (length rs) rs))
     (made plain (parseTree (length (r ∷ rs)) (r ∷ rs))))

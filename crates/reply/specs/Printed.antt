@@ -7,6 +7,15 @@ use Rattle.sequent.specs.Entry.{Entry}
 use Rattle.sequent.specs.Numbers.{numbersOf}
 use Rattle.sequent.specs.Sequent.{Sequent}
 
+abbrev pub sequentTag : ℕ
+sequentTag = 80
+
+abbrev pub hypothesisTag : ℕ
+hypothesisTag = 81
+
+abbrev pub goalTag : ℕ
+goalTag = 82
+
 abbrev pub row : ℕ → ℕ → ℕ → ℕ → Row
 row t a b c = record { tag = t; a = a; b = b; c = c }
 
@@ -15,7 +24,7 @@ abbrev pub entryRow : ℕ → Entry → Row
 entryRow t h = let n = numbersOf h in row t (n .form) (n .first) (n .second)
 
 unfoldable pub sequentRows : Sequent → List Row
-sequentRows s = row 80 (s .kind) (s .event) (s .item) ∷ (map (entryRow 81) (s .hypotheses) ++ (entryRow 82 (s .goal) ∷ []))
+sequentRows s = row sequentTag (s .kind) (s .event) (s .item) ∷ (map (entryRow hypothesisTag) (s .hypotheses) ++ (entryRow goalTag (s .goal) ∷ []))
 
 -- rows one after another
 unfoldable pub rowsBytes : List Row → List ℕ

@@ -8,8 +8,18 @@ use Rattle.formula.specs.Tree.{Division, quotient, remainder, Connective, and, 
 use Rattle.formula.specs.Formula.{Formula, plain, someValue, someAfterValue}
 use Rattle.reply.specs.Printed.{row}
 
+abbrev pub spelledTag : ℕ
+spelledTag = 83
+
+-- "40 'some value of' and 41 'some after value of' the identifier in b"
+abbrev pub someValueNumber : ℕ
+someValueNumber = 40
+
+abbrev pub someAfterValueNumber : ℕ
+someAfterValueNumber = 41
+
 abbrev pub spelled : ℕ → ℕ → Row
-spelled operator b = row 83 operator b 0
+spelled operator b = row spelledTag operator b 0
 
 abbrev pub constantRow : Constant → Row
 constantRow (literal w) = spelled 1 w
@@ -52,5 +62,5 @@ spellTree (connective o a b) = spelled (connectiveNumber o) 0 ∷ (spellTree a +
 
 unfoldable pub spell : Formula → List Row
 spell (plain f) = spellTree f
-spell (someValue x f) = spelled 40 x ∷ spellTree f
-spell (someAfterValue x f) = spelled 41 x ∷ spellTree f
+spell (someValue x f) = spelled someValueNumber x ∷ spellTree f
+spell (someAfterValue x f) = spelled someAfterValueNumber x ∷ spellTree f

@@ -6,6 +6,8 @@ use table::Table;
 use table::a_at;
 use table::b_at;
 use table::c_at;
+use table::event;
+use table::identifier;
 use table::number_in;
 use table::size;
 use table::tag;
@@ -35,7 +37,7 @@ fn lacks_action(words: &[u64], spans: &[usize], i: usize, j: usize, event: u64, 
     requires { ⌜ Spanned (rowsOf (now words)) (now spans) ⌝ }
     ensures { λ r. ⌜ r ≡ actionWanted (rowsOf (now (words .entry))) i j && not (assigned (rowsOf (now (words .entry))) event target) ⌝ }
 {
-    if (b_at(words, i) == 0) & follows(a_at(words, i), a_at(words, j)) {
+    if (b_at(words, i) == event::INITIALISATION) & follows(a_at(words, i), a_at(words, j)) {
         return !some_row(words, spans, Query::Assigns { event, target }, size(words));
     }
     false
@@ -54,8 +56,11 @@ fn lacks_witness(
     ensures { λ r. ⌜ r ≡ witnessWanted (rowsOf (now (words .entry))) i j && not (hasWitness (rowsOf (now (words .entry))) event target) ⌝ }
 {
     let kind = a_at(words, j);
-    let refining = (a_at(words, i) == 2) & (b_at(words, i) < 2);
-    if refining & ((kind == 2) | ((kind == 4) & (c_at(words, j) == c_at(words, i)))) {
+    let refining = (a_at(words, i) == event::CONCRETE) & (b_at(words, i) < event::CONVERGENT);
+    if refining
+        & ((kind == identifier::ABSTRACT_VARIABLE)
+            | ((kind == identifier::ABSTRACT_PARAMETER) & (c_at(words, j) == c_at(words, i))))
+    {
         return !some_row(
             words,
             spans,
@@ -121,8 +126,8 @@ pub fn missing(words: &[u64], table: Table, spans: &[usize]) -> bool
     ensures { λ r. ⌜ r ≡ missing (rowsOf (now (words .entry))) ⌝ }
 {
     let rows = size(words);
-    let abstract_initialised = some_row(words, spans, Query::Initialises(1), rows);
-    let concrete_initialised = some_row(words, spans, Query::Initialises(2), rows);
+    let abstract_initialised = some_row(words, spans, Query::Initialises(event::ABSTRACT), rows);
+    let concrete_initialised = some_row(words, spans, Query::Initialises(event::CONCRETE), rows);
     let lacks = some_event_lacks(words, table, spans);
     let convergent = some_row(words, spans, Query::Convergent, rows);
     let variant = some_row(words, spans, Query::Tagged(tag::VARIANT), rows);

@@ -5,7 +5,9 @@ use table::Table;
 use table::a_at;
 use table::b_at;
 use table::c_at;
+use table::event;
 use table::event_field;
+use table::identifier;
 use table::named_event;
 use table::tag;
 use table::tag_at;
@@ -23,7 +25,7 @@ fn abstract_ordinary_event(words: &[u64], table: Table, f: u64) -> bool
 {
     let machine = event_field(words, table, f, Table::MACHINE);
     let class = event_field(words, table, f, Table::CLASS);
-    named_event(words, table, f) & ((machine == 1) & (class == 1))
+    named_event(words, table, f) & ((machine == event::ABSTRACT) & (class == event::ORDINARY))
 }
 
 // Whether the refined event of an event's row is right.
@@ -32,7 +34,7 @@ fn good_refined(words: &[u64], table: Table, i: usize) -> bool
     ensures { λ r. ⌜ r ≡ goodRefined (rowsOf (now (words .entry))) i ⌝ }
 {
     let refined = c_at(words, i);
-    if (a_at(words, i) == 2) & (b_at(words, i) == 1) {
+    if (a_at(words, i) == event::CONCRETE) & (b_at(words, i) == event::ORDINARY) {
         return abstract_ordinary_event(words, table, refined);
     }
     refined == 0
@@ -44,8 +46,11 @@ fn out_of_order(words: &[u64], spans: &[usize], i: usize) -> bool
     ensures { λ r. ⌜ r ≡ outOfOrder (rowsOf (now (words .entry))) i ⌝ }
 {
     let machine = a_at(words, i);
-    let after_concrete = (machine == 1) & some_row(words, spans, Query::Event(2), i);
-    after_concrete | ((b_at(words, i) == 0) & some_row(words, spans, Query::Event(machine), i))
+    let after_concrete = (machine == event::ABSTRACT)
+        & some_row(words, spans, Query::Event(event::CONCRETE), i);
+    after_concrete
+        | ((b_at(words, i) == event::INITIALISATION)
+            & some_row(words, spans, Query::Event(machine), i))
 }
 
 // 5: bad machine, class or refined event, or out of order. Only an event's row is compared with the events before it.
@@ -58,8 +63,9 @@ pub fn event_offends(words: &[u64], table: Table, spans: &[usize], i: usize) -> 
     }
     let machine = a_at(words, i);
     let class = b_at(words, i);
-    let good_machine = (machine == 1) | (machine == 2);
-    let good_class = (class < 2) | ((class == 2) & (machine == 2));
+    let good_machine = (machine == event::ABSTRACT) | (machine == event::CONCRETE);
+    let good_class = (class < event::CONVERGENT)
+        | ((class == event::CONVERGENT) & (machine == event::CONCRETE));
     let rest = good_refined(words, table, i) & !out_of_order(words, spans, i);
     !(good_machine & (good_class & rest))
 }
@@ -71,7 +77,7 @@ fn owner_event(words: &[u64], table: Table, machine: u64, e: u64) -> bool
 {
     let owner = event_field(words, table, e, Table::MACHINE);
     let class = event_field(words, table, e, Table::CLASS);
-    named_event(words, table, e) & ((owner == machine) & (class != 0))
+    named_event(words, table, e) & ((owner == machine) & (class != event::INITIALISATION))
 }
 
 // Whether the owner of an identifier's row is right.
@@ -81,11 +87,11 @@ fn good_owner(words: &[u64], table: Table, i: usize) -> bool
 {
     let kind = a_at(words, i);
     let owner = c_at(words, i);
-    if kind == 4 {
-        return owner_event(words, table, 1, owner);
+    if kind == identifier::ABSTRACT_PARAMETER {
+        return owner_event(words, table, event::ABSTRACT, owner);
     }
-    if kind == 5 {
-        return owner_event(words, table, 2, owner);
+    if kind == identifier::CONCRETE_PARAMETER {
+        return owner_event(words, table, event::CONCRETE, owner);
     }
     owner == 0
 }
@@ -100,6 +106,7 @@ pub fn identifier_offends(words: &[u64], table: Table, i: usize) -> bool
     }
     let kind = a_at(words, i);
     let sort = b_at(words, i);
-    let good_type = (sort == 1) | (sort == 2);
-    !(((1 <= kind) & (kind <= 5)) & (good_type & good_owner(words, table, i)))
+    let good_type = (sort == identifier::INTEGER) | (sort == identifier::BOOLEAN);
+    !(((identifier::CONSTANT <= kind) & (kind <= identifier::CONCRETE_PARAMETER))
+        & (good_type & good_owner(words, table, i)))
 }

@@ -4,11 +4,14 @@ use table::a_at;
 use table::among;
 use table::b_at;
 use table::c_at;
+use table::event;
 use table::event_field;
+use table::identifier;
 use table::identifier_field;
 use table::named_event;
 use table::named_identifier;
 use table::named_node;
+use table::operator;
 use table::tag;
 use table::tag_at;
 ghost use mathlib.Core.Path.{_≡_};
@@ -58,18 +61,18 @@ pub fn find_operator(number: u64) -> Operator
     ensures { λ r. ⌜ meant r ≡ usageOf number ⌝ }
 {
     match number {
-        1 => Operator::new(number, Shape::Value, 0, 1),
-        2 => Operator::new(number, Shape::Identifier, 0, 0),
-        3 => Operator::new(number, Shape::Variable, 0, 0),
-        4..=5 => Operator::new(number, Shape::NoOperand, 0, 2),
-        6 => Operator::new(number, Shape::OneOperand, 3, 2),
-        10..=14 => Operator::new(number, Shape::TwoOperands, 1, 1),
-        15 => Operator::new(number, Shape::OneOperand, 1, 1),
-        20 => Operator::new(number, Shape::TwoOperands, 0, 3),
-        21..=22 => Operator::new(number, Shape::TwoOperands, 1, 3),
-        30..=31 => Operator::new(number, Shape::NoOperand, 0, 3),
-        32 => Operator::new(number, Shape::OneOperand, 3, 3),
-        33..=36 => Operator::new(number, Shape::TwoOperands, 3, 3),
+        operator::LITERAL => Operator::new(number, Shape::Value, 0, 1),
+        operator::IDENTIFIER => Operator::new(number, Shape::Identifier, 0, 0),
+        operator::AFTER => Operator::new(number, Shape::Variable, 0, 0),
+        operator::TRUE..=operator::FALSE => Operator::new(number, Shape::NoOperand, 0, 2),
+        operator::BOOL => Operator::new(number, Shape::OneOperand, 3, 2),
+        operator::PLUS..=operator::REMAINDER => Operator::new(number, Shape::TwoOperands, 1, 1),
+        operator::NEGATION => Operator::new(number, Shape::OneOperand, 1, 1),
+        operator::EQUAL => Operator::new(number, Shape::TwoOperands, 0, 3),
+        operator::LESS..=operator::AT_MOST => Operator::new(number, Shape::TwoOperands, 1, 3),
+        operator::TOP..=operator::BOTTOM => Operator::new(number, Shape::NoOperand, 0, 3),
+        operator::NOT => Operator::new(number, Shape::OneOperand, 3, 3),
+        operator::AND..=operator::IFF => Operator::new(number, Shape::TwoOperands, 3, 3),
         _ => Operator::new(number, Shape::Unknown, 0, 0),
     }
 }
@@ -123,7 +126,7 @@ pub fn named_variable(words: &[u64], table: Table, x: u64) -> bool
 {
     let named = named_identifier(words, table, x);
     let kind = identifier_field(words, table, x, Table::KIND);
-    named & ((kind == 2) | (kind == 3))
+    named & ((kind == identifier::ABSTRACT_VARIABLE) | (kind == identifier::CONCRETE_VARIABLE))
 }
 
 // Whether the columns of the node at row i fit the shape of its operator.
@@ -151,7 +154,7 @@ fn guard_event(words: &[u64], table: Table, e: u64) -> bool
 {
     let named = named_event(words, table, e);
     let class = event_field(words, table, e, Table::CLASS);
-    named & !(class == 0)
+    named & !(class == event::INITIALISATION)
 }
 
 // Whether a kind is that of a machine's variables.
@@ -189,8 +192,10 @@ fn witness_target(words: &[u64], table: Table, e: u64, x: u64) -> bool
     let identifier = named_identifier(words, table, x);
     let kind = identifier_field(words, table, x, Table::KIND);
     let owner = identifier_field(words, table, x, Table::OWNER);
-    (event & ((machine == 2) & (class < 2)))
-        & (identifier & ((kind == 2) | ((kind == 4) & (owner == refined))))
+    (event & ((machine == event::CONCRETE) & (class < event::CONVERGENT)))
+        & (identifier
+            & ((kind == identifier::ABSTRACT_VARIABLE)
+                | ((kind == identifier::ABSTRACT_PARAMETER) & (owner == refined))))
 }
 
 // The root that row i names; 0 where it names none.
@@ -198,13 +203,16 @@ pub fn root_at(words: &[u64], i: usize) -> u64
     ensures { λ r. ⌜ r ≡ rootAt (rowsOf (now (words .entry))) i ⌝ }
 {
     let tag = tag_at(words, i);
-    if (tag == 30) | ((tag == 31) | ((tag == 32) | (tag == 70))) {
+    if (tag == tag::AXIOM)
+        | ((tag == tag::ABSTRACT_INVARIANT)
+            | ((tag == tag::CONCRETE_INVARIANT) | (tag == tag::VARIANT)))
+    {
         return a_at(words, i);
     }
-    if tag == 50 {
+    if tag == tag::GUARD {
         return b_at(words, i);
     }
-    if ((tag == 51) | (tag == 52)) | (tag == 60) {
+    if ((tag == tag::BECOMES_EQUAL) | (tag == tag::BECOMES_SUCH)) | (tag == tag::WITNESS) {
         return c_at(words, i);
     }
     0
@@ -214,7 +222,7 @@ pub fn names_root(words: &[u64], i: usize) -> bool
     ensures { λ r. ⌜ r ≡ namesRoot (rowsOf (now (words .entry))) i ⌝ }
 {
     let tag = tag_at(words, i);
-    (20 < tag) & !(tag == 40)
+    (tag::NODE < tag) & !(tag == tag::EVENT)
 }
 
 // Whether the event and the identifier that row i names fit its tag.
@@ -225,13 +233,13 @@ fn good_target(words: &[u64], table: Table, i: usize) -> bool
     let tag = tag_at(words, i);
     let a = a_at(words, i);
     let b = b_at(words, i);
-    if tag == 50 {
+    if tag == tag::GUARD {
         return guard_event(words, table, a);
     }
-    if (tag == 51) | (tag == 52) {
+    if (tag == tag::BECOMES_EQUAL) | (tag == tag::BECOMES_SUCH) {
         return action_target(words, table, a, b);
     }
-    if tag == 60 {
+    if tag == tag::WITNESS {
         return witness_target(words, table, a, b);
     }
     true

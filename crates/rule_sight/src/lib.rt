@@ -7,10 +7,13 @@ use rule_references::variable_kind;
 use table::Table;
 use table::a_at;
 use table::b_at;
+use table::event;
 use table::event_field;
+use table::identifier;
 use table::identifier_field;
 use table::node_field;
 use table::operand;
+use table::tag;
 use table::tag_at;
 ghost use mathlib.Core.Path.{_≡_};
 ghost use Rattle.table.specs.Rows.{rowsOf};
@@ -28,7 +31,10 @@ fn event_sees(words: &[u64], table: Table, e: u64, x: u64) -> bool
     let machine = event_field(words, table, e, Table::MACHINE);
     let class = event_field(words, table, e, Table::CLASS);
     let variable = variable_kind(kind, machine);
-    (kind == 1) | ((((kind == 4) | (kind == 5)) & (owner == e)) | (variable & !(class == 0)))
+    (kind == identifier::CONSTANT)
+        | ((((kind == identifier::ABSTRACT_PARAMETER) | (kind == identifier::CONCRETE_PARAMETER))
+            & (owner == e))
+            | (variable & !(class == event::INITIALISATION)))
 }
 
 // Whether the formula of row i may mention the identifier x.
@@ -40,20 +46,21 @@ fn may_mention(words: &[u64], table: Table, i: usize, x: u64) -> bool
     let event = event_sees(words, table, a_at(words, i), x);
     let b = b_at(words, i);
     let tag = tag_at(words, i);
-    if tag == 30 {
-        return kind == 1;
+    if tag == tag::AXIOM {
+        return kind == identifier::CONSTANT;
     }
-    if tag == 31 {
-        return (kind == 1) | (kind == 2);
+    if tag == tag::ABSTRACT_INVARIANT {
+        return (kind == identifier::CONSTANT) | (kind == identifier::ABSTRACT_VARIABLE);
     }
-    if tag == 32 {
-        return (kind == 1) | ((kind == 2) | (kind == 3));
+    if tag == tag::CONCRETE_INVARIANT {
+        return (kind == identifier::CONSTANT)
+            | ((kind == identifier::ABSTRACT_VARIABLE) | (kind == identifier::CONCRETE_VARIABLE));
     }
-    if tag == 70 {
-        return (kind == 1) | (kind == 3);
+    if tag == tag::VARIANT {
+        return (kind == identifier::CONSTANT) | (kind == identifier::CONCRETE_VARIABLE);
     }
-    if tag == 60 {
-        return event | ((kind == 4) & (x == b));
+    if tag == tag::WITNESS {
+        return event | ((kind == identifier::ABSTRACT_PARAMETER) & (x == b));
     }
     event
 }
@@ -68,11 +75,12 @@ fn may_mention_after(words: &[u64], table: Table, i: usize, x: u64) -> bool
     let kind = identifier_field(words, table, x, Table::KIND);
     let target = identifier_field(words, table, b, Table::KIND);
     let tag = tag_at(words, i);
-    if tag == 52 {
+    if tag == tag::BECOMES_SUCH {
         return x == b;
     }
-    if tag == 60 {
-        return (target == 2) & ((kind == 3) | (x == b));
+    if tag == tag::WITNESS {
+        return (target == identifier::ABSTRACT_VARIABLE)
+            & ((kind == identifier::CONCRETE_VARIABLE) | (x == b));
     }
     false
 }

@@ -10,9 +10,11 @@ use table::Table;
 use table::a_at;
 use table::b_at;
 use table::c_at;
+use table::identifier;
 use table::identifier_field;
 use table::node_field;
 use table::number_in;
+use table::operator;
 use table::size;
 use table::tag;
 use table::tag_at;
@@ -50,7 +52,7 @@ fn fits(wanted: u64, sort: u64) -> bool
     ensures { λ r. ⌜ r ≡ pick (eqb wanted 0) (eqb sort 1 || eqb sort 2) (eqb sort wanted) ⌝ }
 {
     if wanted == 0 {
-        return (sort == 1) | (sort == 2);
+        return (sort == identifier::INTEGER) | (sort == identifier::BOOLEAN);
     }
     sort == wanted
 }
@@ -73,7 +75,7 @@ fn good_operands(words: &[u64], table: Table, i: usize) -> bool
         return fits(wanted, left);
     }
     let right = sort_of(words, table, c_at(words, i));
-    fits(wanted, left) & (fits(wanted, right) & (!(number == 20) | (left == right)))
+    fits(wanted, left) & (fits(wanted, right) & (!(number == operator::EQUAL) | (left == right)))
 }
 
 // "Roots are predicates, but 51 takes the variable's type and 70 an integer."
@@ -111,7 +113,7 @@ fn of_predicate(words: &[u64], i: usize) -> bool
 {
     let tag = tag_at(words, i);
     if tag == tag::NODE {
-        return 20 <= a_at(words, i);
+        return operator::EQUAL <= a_at(words, i);
     }
     !((tag == tag::BECOMES_EQUAL) | (tag == tag::VARIANT))
 }

@@ -30,7 +30,7 @@ fn step_limits(tag: u64) -> Limits
     requires { ⌜ (50 ≤ tag) × (tag ≤ 52) ⌝ }
     ensures { λ r. ⌜ (r .columns ≡ columnsUsed tag) × (r .most ≡ rowLimit tag) ⌝ }
 {
-    if tag == 50 {
+    if tag == tag::GUARD {
         return Limits {
             columns: 2,
             most: Table::GUARDS,

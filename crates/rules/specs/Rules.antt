@@ -4,8 +4,12 @@ use mathlib.Core.Bool.{Bool, true, false, not, _&&_, _||_, Bool·beq}
 use lib.Dec.{ltb, leb, eqb}
 use Rattle.lists.specs.Choice.{pick}
 use Rattle.lists.specs.Below.{oneIf, countBelow, someBelow}
+use Rattle.table.specs.Names.{abstractInvariantTag, abstractMachine, abstractParameterKind, abstractVariableKind, axiomTag, becomesEqualTag}
+use Rattle.table.specs.Names.{booleanType, concreteInvariantTag, concreteMachine, concreteParameterKind, concreteVariableKind, constantKind}
+use Rattle.table.specs.Names.{convergentClass, eventTag, guardTag, identifierTag, initialisationClass, integerType}
+use Rattle.table.specs.Names.{nodeTag, ordinaryClass, predicateSort, variantTag, witnessTag}
 use Rattle.table.specs.Rows.{Rows, tagged, count, named, rowOf, numberIn, isAction, kindOf, typeOf, ownerOf, machineNumber, classOf, refinedBy}
-use Rattle.machine.specs.Operator.{operandSort}
+use Rattle.machine.specs.Operator.{equalNumber, operandSort}
 use Rattle.rules.specs.Tags.{columnsUsed, rowLimit}
 use Rattle.rules.specs.Sorts.{Shape, value, anIdentifier, aVariable, none, one, two, unknown, shapeOf, operandCount, sortOf, fitting}
 use Rattle.rules.specs.Sight.{hasKind, seesOnly}
@@ -28,53 +32,53 @@ module _ (t : Rows) where
 
   -- 5 event: "bad machine, class or refined event; machines out of order; class 0 anywhere but first of its machine"
   abbrev pub isEvent : ℕ → ℕ → Bool
-  isEvent machine i = tagged t 40 i && eqb (t .a i) machine
+  isEvent machine i = tagged t eventTag i && eqb (t .a i) machine
 
   abbrev pub goodMachine : ℕ → Bool
-  goodMachine i = eqb (t .a i) 1 || eqb (t .a i) 2
+  goodMachine i = eqb (t .a i) abstractMachine || eqb (t .a i) concreteMachine
 
   -- "class: 0 initialisation, 1 ordinary, 2 convergent (concrete only)"
   abbrev pub goodClass : ℕ → Bool
-  goodClass i = ltb (t .b i) 2 || (eqb (t .b i) 2 && eqb (t .a i) 2)
+  goodClass i = ltb (t .b i) convergentClass || (eqb (t .b i) convergentClass && eqb (t .a i) concreteMachine)
 
   -- "refined event (abstract, class 1) of a concrete ordinary one, else 0"
   abbrev pub abstractOrdinaryEvent : ℕ → Bool
-  abstractOrdinaryEvent f = named t 40 f && (eqb (machineNumber t f) 1 && eqb (classOf t f) 1)
+  abstractOrdinaryEvent f = named t eventTag f && (eqb (machineNumber t f) abstractMachine && eqb (classOf t f) ordinaryClass)
 
   abbrev pub goodRefined : ℕ → Bool
   goodRefined i =
-      pick (eqb (t .a i) 2 && eqb (t .b i) 1) (abstractOrdinaryEvent (t .c i)) (eqb (t .c i) 0)
+      pick (eqb (t .a i) concreteMachine && eqb (t .b i) ordinaryClass) (abstractOrdinaryEvent (t .c i)) (eqb (t .c i) 0)
 
   -- an abstract event after a concrete one; an initialisation after another event of its machine
   abbrev pub outOfOrder : ℕ → Bool
-  outOfOrder i = (eqb (t .a i) 1 && someBelow (isEvent 2) i) || (eqb (t .b i) 0 && someBelow (isEvent (t .a i)) i)
+  outOfOrder i = (eqb (t .a i) abstractMachine && someBelow (isEvent concreteMachine) i) || (eqb (t .b i) initialisationClass && someBelow (isEvent (t .a i)) i)
 
   unfoldable pub eventOffends : ℕ → Bool
-  eventOffends i = tagged t 40 i && not (goodMachine i && (goodClass i && (goodRefined i && not (outOfOrder i))))
+  eventOffends i = tagged t eventTag i && not (goodMachine i && (goodClass i && (goodRefined i && not (outOfOrder i))))
 
   -- 6 identifier: "bad kind, type or owner (owner: own machine, class not 0)"
   abbrev pub ownerEvent : ℕ → ℕ → Bool
-  ownerEvent machine e = named t 40 e && (eqb (machineNumber t e) machine && not (eqb (classOf t e) 0))
+  ownerEvent machine e = named t eventTag e && (eqb (machineNumber t e) machine && not (eqb (classOf t e) initialisationClass))
 
   abbrev pub goodOwner : ℕ → Bool
   goodOwner i =
-      pick (eqb (t .a i) 4) (ownerEvent 1 (t .c i)) (pick (eqb (t .a i) 5) (ownerEvent 2 (t .c i)) (eqb (t .c i) 0))
+      pick (eqb (t .a i) abstractParameterKind) (ownerEvent abstractMachine (t .c i)) (pick (eqb (t .a i) concreteParameterKind) (ownerEvent concreteMachine (t .c i)) (eqb (t .c i) 0))
 
   unfoldable pub identifierOffends : ℕ → Bool
   identifierOffends i =
-      tagged t 10 i && not ((leb 1 (t .a i) && leb (t .a i) 5) && ((eqb (t .b i) 1 || eqb (t .b i) 2) && goodOwner i))
+      tagged t identifierTag i && not ((leb constantKind (t .a i) && leb (t .a i) concreteParameterKind) && ((eqb (t .b i) integerType || eqb (t .b i) booleanType) && goodOwner i))
 
   -- 7 reference: "unknown operator, nonzero unused node column, or a number that names nothing fitting"
   -- "operands: an earlier node"
   abbrev pub earlierNode : ℕ → ℕ → Bool
-  earlierNode i n = leb 1 n && ltb n (numberIn t 20 i)
+  earlierNode i n = leb 1 n && ltb n (numberIn t nodeTag i)
 
   abbrev pub namedVariable : ℕ → Bool
-  namedVariable x = named t 10 x && (hasKind t 2 x || hasKind t 3 x)
+  namedVariable x = named t identifierTag x && (hasKind t abstractVariableKind x || hasKind t concreteVariableKind x)
 
   abbrev pub goodColumns : Shape → ℕ → Bool
   goodColumns value i = eqb (t .c i) 0
-  goodColumns anIdentifier i = named t 10 (t .b i) && eqb (t .c i) 0
+  goodColumns anIdentifier i = named t identifierTag (t .b i) && eqb (t .c i) 0
   goodColumns aVariable i = namedVariable (t .b i) && eqb (t .c i) 0
   goodColumns none i = eqb (t .b i) 0 && eqb (t .c i) 0
   goodColumns one i = earlierNode i (t .b i) && eqb (t .c i) 0
@@ -83,38 +87,38 @@ module _ (t : Rows) where
 
   -- "guards: class not 0"
   abbrev pub guardEvent : ℕ → Bool
-  guardEvent e = named t 40 e && not (eqb (classOf t e) 0)
+  guardEvent e = named t eventTag e && not (eqb (classOf t e) initialisationClass)
 
   -- actions: "event, variable of its machine"
   abbrev pub actionTarget : ℕ → ℕ → Bool
-  actionTarget e x = named t 40 e && (named t 10 x && hasKind t (1 + machineNumber t e) x)
+  actionTarget e x = named t eventTag e && (named t identifierTag x && hasKind t (1 + machineNumber t e) x)
 
   -- "witnesses: class 0 or 1, with an abstract variable or a parameter of the refined event"
   abbrev pub witnessTarget : ℕ → ℕ → Bool
   witnessTarget e x =
-      (named t 40 e && (eqb (machineNumber t e) 2 && ltb (classOf t e) 2))
-      && (named t 10 x && (hasKind t 2 x || (hasKind t 4 x && eqb (ownerOf t x) (refinedBy t e))))
+      (named t eventTag e && (eqb (machineNumber t e) concreteMachine && ltb (classOf t e) convergentClass))
+      && (named t identifierTag x && (hasKind t abstractVariableKind x || (hasKind t abstractParameterKind x && eqb (ownerOf t x) (refinedBy t e))))
 
   -- the root that a row names; 0 where it names none
   unfoldable pub rootAt : ℕ → ℕ
   rootAt i =
-      pick (tagged t 30 i || (tagged t 31 i || (tagged t 32 i || tagged t 70 i))) (t .a i)
-      (pick (tagged t 50 i) (t .b i)
-      (pick (isAction t i || tagged t 60 i) (t .c i) 0))
+      pick (tagged t axiomTag i || (tagged t abstractInvariantTag i || (tagged t concreteInvariantTag i || tagged t variantTag i))) (t .a i)
+      (pick (tagged t guardTag i) (t .b i)
+      (pick (isAction t i || tagged t witnessTag i) (t .c i) 0))
 
   abbrev pub namesRoot : ℕ → Bool
-  namesRoot i = ltb 20 (t .tag i) && not (tagged t 40 i)
+  namesRoot i = ltb nodeTag (t .tag i) && not (tagged t eventTag i)
 
   abbrev pub goodTarget : ℕ → Bool
   goodTarget i =
-      pick (tagged t 50 i) (guardEvent (t .a i))
+      pick (tagged t guardTag i) (guardEvent (t .a i))
       (pick (isAction t i) (actionTarget (t .a i) (t .b i))
-      (pick (tagged t 60 i) (witnessTarget (t .a i) (t .b i)) true))
+      (pick (tagged t witnessTag i) (witnessTarget (t .a i) (t .b i)) true))
 
   unfoldable pub referenceOffends : ℕ → Bool
   referenceOffends i =
-      (tagged t 20 i && not (goodColumns (shapeOf (t .a i)) i))
-      || (namesRoot i && not (goodTarget i && named t 20 (rootAt i)))
+      (tagged t nodeTag i && not (goodColumns (shapeOf (t .a i)) i))
+      || (namesRoot i && not (goodTarget i && named t nodeTag (rootAt i)))
 
   -- 8 sort: "operand or root of the wrong sort"; "= (both integer or both boolean)"
   abbrev pub goodOperands : ℕ → ℕ → Bool
@@ -122,28 +126,28 @@ module _ (t : Rows) where
   goodOperands (suc zero) i = fitting t (operandSort (t .a i)) (t .b i)
   goodOperands (suc (suc n)) i =
       fitting t (operandSort (t .a i)) (t .b i)
-      && (fitting t (operandSort (t .a i)) (t .c i) && (not (eqb (t .a i) 20) || eqb (sortOf t (t .b i)) (sortOf t (t .c i))))
+      && (fitting t (operandSort (t .a i)) (t .c i) && (not (eqb (t .a i) equalNumber) || eqb (sortOf t (t .b i)) (sortOf t (t .c i))))
 
   -- "Roots are predicates, but 51 takes the variable's type and 70 an integer."
   unfoldable pub rootSort : ℕ → ℕ
-  rootSort i = pick (tagged t 51 i) (typeOf t (t .b i)) (pick (tagged t 70 i) 1 3)
+  rootSort i = pick (tagged t becomesEqualTag i) (typeOf t (t .b i)) (pick (tagged t variantTag i) integerType predicateSort)
 
   unfoldable pub sortOffends : ℕ → Bool
   sortOffends i =
-      (tagged t 20 i && not (goodOperands (operandCount (shapeOf (t .a i))) i))
+      (tagged t nodeTag i && not (goodOperands (operandCount (shapeOf (t .a i))) i))
       || (namesRoot i && not (eqb (sortOf t (rootAt i)) (rootSort i)))
 
   -- 9 use: "a node without its one use", as an operand or a root
   abbrev pub usesAt : ℕ → ℕ → ℕ
   usesAt n i =
-      pick (tagged t 20 i) (oneIf (ltb 0 (operandCount (shapeOf (t .a i))) && eqb (t .b i) n) + oneIf (ltb 1 (operandCount (shapeOf (t .a i))) && eqb (t .c i) n)) (oneIf (namesRoot i && eqb (rootAt i) n))
+      pick (tagged t nodeTag i) (oneIf (ltb 0 (operandCount (shapeOf (t .a i))) && eqb (t .b i) n) + oneIf (ltb 1 (operandCount (shapeOf (t .a i))) && eqb (t .c i) n)) (oneIf (namesRoot i && eqb (rootAt i) n))
 
   unfoldable pub usesTo : ℕ → ℕ → ℕ
   usesTo n zero = 0
   usesTo n (suc i) = usesTo n i + usesAt n i
 
   unfoldable pub useOffends : ℕ → Bool
-  useOffends i = tagged t 20 i && not (eqb (usesTo (numberIn t 20 i) (t .size)) 1)
+  useOffends i = tagged t nodeTag i && not (eqb (usesTo (numberIn t nodeTag i) (t .size)) 1)
 
   -- 10 sight: "a formula mentions what it may not"
   unfoldable pub sightOffends : ℕ → Bool
@@ -151,7 +155,7 @@ module _ (t : Rows) where
 
   -- 11 twice: "second action or witness for one target"
   abbrev pub sameTarget : ℕ → ℕ → Bool
-  sameTarget i j = ((isAction t i && isAction t j) || (tagged t 60 i && tagged t 60 j)) && (eqb (t .a j) (t .a i) && eqb (t .b j) (t .b i))
+  sameTarget i j = ((isAction t i && isAction t j) || (tagged t witnessTag i && tagged t witnessTag j)) && (eqb (t .a j) (t .a i) && eqb (t .b j) (t .b i))
 
   unfoldable pub twiceOffends : ℕ → Bool
   twiceOffends i = someBelow (sameTarget i) i
@@ -172,43 +176,43 @@ module _ (t : Rows) where
   -- 12 missing
   -- "an initialisation of either machine"
   abbrev pub initialises : ℕ → ℕ → Bool
-  initialises machine i = isEvent machine i && eqb (t .b i) 0
+  initialises machine i = isEvent machine i && eqb (t .b i) initialisationClass
 
   -- an action, or a witness, for the target x of the event e
   abbrev pub assigned : ℕ → ℕ → Bool
   assigned e x = someBelow (λ i. isAction t i && (eqb (t .a i) e && eqb (t .b i) x)) (t .size)
 
   abbrev pub hasWitness : ℕ → ℕ → Bool
-  hasWitness e x = someBelow (λ i. tagged t 60 i && (eqb (t .a i) e && eqb (t .b i) x)) (t .size)
+  hasWitness e x = someBelow (λ i. tagged t witnessTag i && (eqb (t .a i) e && eqb (t .b i) x)) (t .size)
 
   -- "an initial action for a variable": the event at row i initialises the machine whose variable is at row j, and has no action for it
   abbrev pub actionWanted : ℕ → ℕ → Bool
-  actionWanted i j = eqb (t .b i) 0 && eqb (t .a j) (1 + t .a i)
+  actionWanted i j = eqb (t .b i) initialisationClass && eqb (t .a j) (1 + t .a i)
 
   abbrev pub lacksAction : ℕ → ℕ → Bool
-  lacksAction i j = actionWanted i j && not (assigned (numberIn t 40 i) (numberIn t 10 j))
+  lacksAction i j = actionWanted i j && not (assigned (numberIn t eventTag i) (numberIn t identifierTag j))
 
   -- "a witness (at concrete classes 0 and 1: for each abstract variable, assigned or not, and each parameter of the refined event)"
   abbrev pub witnessWanted : ℕ → ℕ → Bool
-  witnessWanted i j = (eqb (t .a i) 2 && ltb (t .b i) 2) && (eqb (t .a j) 2 || (eqb (t .a j) 4 && eqb (t .c j) (t .c i)))
+  witnessWanted i j = (eqb (t .a i) concreteMachine && ltb (t .b i) convergentClass) && (eqb (t .a j) abstractVariableKind || (eqb (t .a j) abstractParameterKind && eqb (t .c j) (t .c i)))
 
   abbrev pub lacksWitness : ℕ → ℕ → Bool
-  lacksWitness i j = witnessWanted i j && not (hasWitness (numberIn t 40 i) (numberIn t 10 j))
+  lacksWitness i j = witnessWanted i j && not (hasWitness (numberIn t eventTag i) (numberIn t identifierTag j))
 
   -- row j is an identifier for which the event at row i lacks an action or a witness
   abbrev pub lacksFor : ℕ → ℕ → Bool
-  lacksFor i j = tagged t 10 j && (lacksAction i j || lacksWitness i j)
+  lacksFor i j = tagged t identifierTag j && (lacksAction i j || lacksWitness i j)
 
   abbrev pub eventLacks : ℕ → Bool
-  eventLacks i = tagged t 40 i && someBelow (lacksFor i) (t .size)
+  eventLacks i = tagged t eventTag i && someBelow (lacksFor i) (t .size)
 
   -- "a variant without convergent events or the reverse"
   abbrev pub convergentEvent : ℕ → Bool
-  convergentEvent i = tagged t 40 i && eqb (t .b i) 2
+  convergentEvent i = tagged t eventTag i && eqb (t .b i) convergentClass
 
   unfoldable pub missing : Bool
   missing =
-      not (someBelow (initialises 1) (t .size))
-      || (not (someBelow (initialises 2) (t .size))
+      not (someBelow (initialises abstractMachine) (t .size))
+      || (not (someBelow (initialises concreteMachine) (t .size))
       || (someBelow eventLacks (t .size)
-      || not (Bool·beq (someBelow convergentEvent (t .size)) (someBelow (tagged t 70) (t .size)))))
+      || not (Bool·beq (someBelow convergentEvent (t .size)) (someBelow (tagged t variantTag) (t .size)))))

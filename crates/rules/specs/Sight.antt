@@ -4,6 +4,8 @@ use mathlib.Core.Bool.{Bool, true, false, not, _&&_, _||_}
 use lib.Dec.{eqb}
 use Rattle.lists.specs.Choice.{pick}
 use Rattle.formula.specs.Mentions.{mentions}
+use Rattle.table.specs.Names.{abstractInvariantTag, abstractParameterKind, abstractVariableKind, axiomTag, becomesSuchTag, concreteInvariantTag}
+use Rattle.table.specs.Names.{concreteParameterKind, concreteVariableKind, constantKind, initialisationClass, variantTag, witnessTag}
 use Rattle.table.specs.Rows.{Rows, tagged, isAction, kindOf, ownerOf, machineNumber, classOf}
 use Rattle.machine.specs.Described.{treeOf}
 
@@ -13,30 +15,30 @@ module _ (t : Rows) where
 
   -- the variables of an event's machine, at present: "No formula of an initialisation, its witnesses included, mentions a present variable value."
   abbrev pub presentVariable : ℕ → ℕ → Bool
-  presentVariable e x = hasKind (1 + machineNumber t e) x && not (eqb (classOf t e) 0)
+  presentVariable e x = hasKind (1 + machineNumber t e) x && not (eqb (classOf t e) initialisationClass)
 
   -- "the event's own parameters"
   abbrev pub ownParameter : ℕ → ℕ → Bool
-  ownParameter e x = (hasKind 4 x || hasKind 5 x) && eqb (ownerOf t x) e
+  ownParameter e x = (hasKind abstractParameterKind x || hasKind concreteParameterKind x) && eqb (ownerOf t x) e
 
   -- "guard and action, constants, the event's own parameters and its machine's variables"
   abbrev pub eventSees : ℕ → ℕ → Bool
-  eventSees e x = hasKind 1 x || (ownParameter e x || presentVariable e x)
+  eventSees e x = hasKind constantKind x || (ownParameter e x || presentVariable e x)
 
   -- the row's formula may mention the identifier x
   unfoldable pub mayMention : ℕ → ℕ → Bool
   mayMention i x =
-      pick (tagged t 30 i) (hasKind 1 x)
-      (pick (tagged t 31 i) (hasKind 1 x || hasKind 2 x)
-      (pick (tagged t 32 i) (hasKind 1 x || (hasKind 2 x || hasKind 3 x))
-      (pick (tagged t 70 i) (hasKind 1 x || hasKind 3 x)
-      (pick (tagged t 60 i) (eventSees (t .a i) x || (hasKind 4 x && eqb x (t .b i))) (eventSees (t .a i) x)))))
+      pick (tagged t axiomTag i) (hasKind constantKind x)
+      (pick (tagged t abstractInvariantTag i) (hasKind constantKind x || hasKind abstractVariableKind x)
+      (pick (tagged t concreteInvariantTag i) (hasKind constantKind x || (hasKind abstractVariableKind x || hasKind concreteVariableKind x))
+      (pick (tagged t variantTag i) (hasKind constantKind x || hasKind concreteVariableKind x)
+      (pick (tagged t witnessTag i) (eventSees (t .a i) x || (hasKind abstractParameterKind x && eqb x (t .b i))) (eventSees (t .a i) x)))))
 
   -- the row's formula may mention the after value of x: "52 also the after value it sets"; "variable witness, the same with concrete after values, and its
   -- own after value in place of the identifier"
   unfoldable pub mayMentionAfter : ℕ → ℕ → Bool
   mayMentionAfter i x =
-      pick (tagged t 52 i) (eqb x (t .b i)) (pick (tagged t 60 i) (hasKind 2 (t .b i) && (hasKind 3 x || eqb x (t .b i))) false)
+      pick (tagged t becomesSuchTag i) (eqb x (t .b i)) (pick (tagged t witnessTag i) (hasKind abstractVariableKind (t .b i) && (hasKind concreteVariableKind x || eqb x (t .b i))) false)
 
   -- the formula at a root mentions only that
   unfoldable pub seesOnly : ℕ → ℕ → Bool

@@ -3,6 +3,7 @@ use Prim.Native.Nat.{ℕ}
 use mathlib.Core.Bool.{Bool, true, false, _&&_, _||_}
 use lib.Dec.{eqb, leb}
 use Rattle.lists.specs.Choice.{pick}
+use Rattle.table.specs.Names.{booleanType, integerType}
 use Rattle.table.specs.Rows.{Rows, operatorOf, leftOf, typeOf}
 use Rattle.machine.specs.Operator as operator
 use Rattle.machine.specs.Operator.{Operator, literalOf, identifierOf, afterOf, constantOf, unaryOf, binaryOf, divisionOf, connectiveOf, operatorNumbered, resultSort}
@@ -51,4 +52,4 @@ module _ (t : Rows) where
 
   -- an operand of the wanted sort; of = (wanted 0) any that is no predicate
   abbrev pub fitting : ℕ → ℕ → Bool
-  fitting wanted n = pick (eqb wanted 0) (eqb (sortOf n) 1 || eqb (sortOf n) 2) (eqb (sortOf n) wanted)
+  fitting wanted n = pick (eqb wanted 0) (eqb (sortOf n) integerType || eqb (sortOf n) booleanType) (eqb (sortOf n) wanted)

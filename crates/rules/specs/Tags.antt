@@ -4,6 +4,8 @@ use mathlib.Core.Bool.{Bool, true, false}
 use mathlib.Core.List.{List, [], _∷_}
 use lib.Dec.{eqb}
 use Rattle.lists.specs.Choice.{pick}
+use Rattle.table.specs.Names.{abstractInvariantTag, axiomTag, becomesEqualTag, becomesSuchTag, concreteInvariantTag, eventTag}
+use Rattle.table.specs.Names.{guardTag, identifierTag, nodeTag, variantTag, witnessTag}
 
 pub record Tag : Type 0 where
   pub tag : ℕ
@@ -17,7 +19,7 @@ is t c m = record { tag = t; columns = c; most = m }
 -- that ("128 together"), 60 witness, 70 variant
 abbrev pub tags : List Tag
 tags =
-    is 10 3 64 ∷ is 20 3 512 ∷ is 30 1 16 ∷ is 31 1 16 ∷ is 32 1 16 ∷ is 40 3 32 ∷ is 50 2 64 ∷ is 51 3 128 ∷ is 52 3 128 ∷ is 60 3 128 ∷ is 70 1 1 ∷ []
+    is identifierTag 3 64 ∷ is nodeTag 3 512 ∷ is axiomTag 1 16 ∷ is abstractInvariantTag 1 16 ∷ is concreteInvariantTag 1 16 ∷ is eventTag 3 32 ∷ is guardTag 2 64 ∷ is becomesEqualTag 3 128 ∷ is becomesSuchTag 3 128 ∷ is witnessTag 3 128 ∷ is variantTag 1 1 ∷ []
 
 -- an unknown tag uses no column and has no row
 abbrev pub tagNumbered : List Tag → ℕ → Tag

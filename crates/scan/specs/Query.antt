@@ -2,7 +2,7 @@
 use Prim.Native.Nat.{ℕ}
 use mathlib.Core.Bool.{Bool, _&&_, _||_}
 use lib.Dec.{eqb}
-use Rattle.table.specs.Names.{eventTag, becomesEqualTag, witnessTag}
+use Rattle.table.specs.Names.{eventTag, becomesEqualTag, witnessTag, becomesSuchTag, convergentClass, initialisationClass}
 use Rattle.table.specs.Rows.{Rows}
 use Rattle.scan.specs.Spans.{spanTag}
 use Rattle.scan.specs.declared.Query.{Query}
@@ -10,16 +10,16 @@ use Rattle.scan.specs.declared.Query.the-variants.{CountedWith, Event, S
 
 -- 01: 51 and 52 are the actions
 abbrev pub actionTag : ℕ → Bool
-actionTag tag = eqb tag 51 || eqb tag 52
+actionTag tag = eqb tag becomesEqualTag || eqb tag becomesSuchTag
 
 abbrev pub holds : Query → ℕ → ℕ → ℕ → Bool
 holds (CountedWith other) tag a b = eqb tag other || (actionTag other && actionTag tag)
-holds (Event machine) tag a b = eqb tag 40 && eqb a machine
-holds (SameTarget other event target) tag a b = ((actionTag other && actionTag tag) || (eqb other 60 && eqb tag 60)) && (eqb a event && eqb b target)
-holds (Initialises machine) tag a b = (eqb tag 40 && eqb a machine) && eqb b 0
+holds (Event machine) tag a b = eqb tag eventTag && eqb a machine
+holds (SameTarget other event target) tag a b = ((actionTag other && actionTag tag) || (eqb other witnessTag && eqb tag witnessTag)) && (eqb a event && eqb b target)
+holds (Initialises machine) tag a b = (eqb tag eventTag && eqb a machine) && eqb b initialisationClass
 holds (Assigns event target) tag a b = actionTag tag && (eqb a event && eqb b target)
-holds (Witnesses event target) tag a b = eqb tag 60 && (eqb a event && eqb b target)
-holds Convergent tag a b = eqb tag 40 && eqb b 2
+holds (Witnesses event target) tag a b = eqb tag witnessTag && (eqb a event && eqb b target)
+holds Convergent tag a b = eqb tag eventTag && eqb b convergentClass
 holds (Tagged k) tag a b = eqb tag k
 
 -- the tag under which the rows that pass stand

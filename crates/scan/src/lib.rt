@@ -1,6 +1,7 @@
 // Rows that pass a test: whether there is one before a row, the first, and between which rows they stand.
 use table::a_at;
 use table::b_at;
+use table::event;
 use table::size;
 use table::tag;
 use table::tag_at;
@@ -42,23 +43,29 @@ fn passes(query: Query, tag: u64, a: u64, b: u64) -> bool
 {
     match query {
         Query::CountedWith(other) => {
-            (tag == other) | (((other == 51) | (other == 52)) & ((tag == 51) | (tag == 52)))
+            (tag == other)
+                | (((other == tag::BECOMES_EQUAL) | (other == tag::BECOMES_SUCH))
+                    & ((tag == tag::BECOMES_EQUAL) | (tag == tag::BECOMES_SUCH)))
         }
-        Query::Event(machine) => (tag == 40) & (a == machine),
+        Query::Event(machine) => (tag == tag::EVENT) & (a == machine),
         Query::SameTarget {
             tag: other,
             event,
             target,
         } => {
-            ((((other == 51) | (other == 52)) & ((tag == 51) | (tag == 52)))
-                | ((other == 60) & (tag == 60)))
+            ((((other == tag::BECOMES_EQUAL) | (other == tag::BECOMES_SUCH))
+                & ((tag == tag::BECOMES_EQUAL) | (tag == tag::BECOMES_SUCH)))
+                | ((other == tag::WITNESS) & (tag == tag::WITNESS)))
                 & ((a == event) & (b == target))
         }
-        Query::Initialises(machine) => ((tag == 40) & (a == machine)) & (b == 0),
-        Query::Assigns { event, target } => ((tag == 51) | (tag == 52))
+        Query::Initialises(machine) => ((tag == tag::EVENT) & (a == machine))
+            & (b == event::INITIALISATION),
+        Query::Assigns { event, target } => ((tag == tag::BECOMES_EQUAL)
+            | (tag == tag::BECOMES_SUCH))
             & ((a == event) & (b == target)),
-        Query::Witnesses { event, target } => (tag == 60) & ((a == event) & (b == target)),
-        Query::Convergent => (tag == 40) & (b == 2),
+        Query::Witnesses { event, target } => (tag == tag::WITNESS)
+            & ((a == event) & (b == target)),
+        Query::Convergent => (tag == tag::EVENT) & (b == event::CONVERGENT),
         Query::Tagged(k) => tag == k,
     }
 }

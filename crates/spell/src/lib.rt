@@ -1,17 +1,21 @@
 // 01, Sequents: an entry spelled out as rows 83. Each function gives the count of its rows, capped, and writes as many of them as there
 // is room for into the front of the buffer; with an empty buffer it only counts.
+use reply::tags;
 use row::Row;
 use rule_references::Shape;
 use rule_references::find_operator;
 use scan::Query;
 use scan::find_row;
 use sequent::Entry;
+use sequent::form;
 use table::Table;
 use table::c_at;
 use table::is_variable;
 use table::node_field;
 use table::operand;
+use table::operator;
 use table::size;
+use table::tag;
 use table::tag_at;
 ghost use mathlib.Core.Path.{_≡_};
 ghost use Prim.Native.Nat.{_+_, _≤_};
@@ -67,7 +71,7 @@ fn row_83(out: &mut [u8], operator: u64, b: u64) -> u64
 {
     if Row::LENGTH <= out.len() {
         let row = Row {
-            tag: 83,
+            tag: tags::SPELLED,
             a: operator,
             b,
             c: 0,
@@ -120,7 +124,7 @@ fn shaped_node(shape: Shape, operator: u64, primed: bool, b: u64, left: u64, rig
             left,
             right,
         },
-        Shape::Unknown => leaf(31, 0),
+        Shape::Unknown => leaf(operator::BOTTOM, 0),
     }
 }
 
@@ -130,7 +134,7 @@ fn node_at(words: &[u64], table: Table, n: u64, primed: bool) -> Node
     ensures { λ r. ⌜ r ≡ nodeOf (rowsOf (now (words .entry))) primed n ⌝ }
 {
     if n == 0 {
-        return leaf(31, 0);
+        return leaf(operator::BOTTOM, 0);
     }
     let operator = node_field(words, table, n, Table::OPERATOR);
     let b = node_field(words, table, n, Table::LEFT);
@@ -149,7 +153,7 @@ pub fn spell_expression(words: &[u64], table: Table, n: u64, primed: bool, out: 
     ensures { λ r. ⌜ Spelled (shownRows (rowsOf (now (words .entry))) primed n) r (now (out .entry)) (now (out .exit)) ⌝ }
 {
     let node = node_at(words, table, n, primed);
-    if 15 < node.operator {
+    if operator::NEGATION < node.operator {
         return spell_predicate(words, table, n, primed, out);
     }
     let head = row_83(out, node.operator, node.b);
@@ -210,10 +214,10 @@ fn spell_under(
 fn spell_opening(operator: u64, out: &mut [u8]) -> u64
     ensures { λ r. ⌜ Spelled (openingRows operator) r (now (out .entry)) (now (out .exit)) ⌝ }
 {
-    let head = row_83(out, 33, 0);
-    if (operator == 13) | (operator == 14) {
+    let head = row_83(out, operator::AND, 0);
+    if (operator == operator::QUOTIENT) | (operator == operator::REMAINDER) {
         let at = rest_start(out.len(), head);
-        let second = row_83(&mut out[at..], 33, 0);
+        let second = row_83(&mut out[at..], operator::AND, 0);
         return add_rows(head, second);
     }
     head
@@ -224,11 +228,11 @@ fn spell_guard(words: &[u64], table: Table, operator: u64, left: u64, out: &mut 
     requires { ⌜ table ≡ countsOf (rowsOf (now words)) ⌝ }
     ensures { λ r. ⌜ Spelled (guardRows operator (shownRows (rowsOf (now (words .entry))) false left)) r (now (out .entry)) (now (out .exit)) ⌝ }
 {
-    if (operator == 33) | (operator == 35) {
-        return spell_under(words, table, 35, 0, left, false, out);
+    if (operator == operator::AND) | (operator == operator::IMPLIES) {
+        return spell_under(words, table, operator::IMPLIES, 0, left, false, out);
     }
-    if operator == 34 {
-        return spell_under(words, table, 34, 0, left, false, out);
+    if operator == operator::OR {
+        return spell_under(words, table, operator::OR, 0, left, false, out);
     }
     0
 }
@@ -238,9 +242,9 @@ fn spell_equals_zero(words: &[u64], table: Table, n: u64, out: &mut [u8]) -> u64
     requires { ⌜ table ≡ countsOf (rowsOf (now words)) ⌝ }
     ensures { λ r. ⌜ Spelled ((spelled 20 0 ∷ shownRows (rowsOf (now (words .entry))) false n) ++ (spelled 1 0 ∷ [])) r (now (out .entry)) (now (out .exit)) ⌝ }
 {
-    let equal = spell_under(words, table, 20, 0, n, false, out);
+    let equal = spell_under(words, table, operator::EQUAL, 0, n, false, out);
     let at = rest_start(out.len(), equal);
-    let zero = row_83(&mut out[at..], 1, 0);
+    let zero = row_83(&mut out[at..], operator::LITERAL, 0);
     add_rows(equal, zero)
 }
 
@@ -249,8 +253,8 @@ fn spell_closing(words: &[u64], table: Table, operator: u64, right: u64, out: &m
     requires { ⌜ table ≡ countsOf (rowsOf (now words)) ⌝ }
     ensures { λ r. ⌜ Spelled (closingRows operator (shownRows (rowsOf (now (words .entry))) false right)) r (now (out .entry)) (now (out .exit)) ⌝ }
 {
-    if (operator == 13) | (operator == 14) {
-        let head = row_83(out, 32, 0);
+    if (operator == operator::QUOTIENT) | (operator == operator::REMAINDER) {
+        let head = row_83(out, operator::NOT, 0);
         let equal_at = rest_start(out.len(), head);
         let equal = spell_equals_zero(words, table, right, &mut out[equal_at..]);
         return add_rows(head, equal);
@@ -265,7 +269,7 @@ pub fn spell_defined(words: &[u64], table: Table, n: u64, out: &mut [u8]) -> u64
 {
     let node = node_at(words, table, n, false);
     if node.operands == 0 {
-        return row_83(out, 30, 0);
+        return row_83(out, operator::TOP, 0);
     }
     if node.operands == 1 {
         return spell_defined(words, table, node.left, out);
@@ -334,11 +338,11 @@ fn spell_moves(words: &[u64], table: Table, e: u64, x: u64, out: &mut [u8]) -> u
     };
     let i = find_row(words, query);
     if size(words) <= i {
-        return spell_equation(x, 3, 2, out);
+        return spell_equation(x, operator::AFTER, operator::IDENTIFIER, out);
     }
     let root = c_at(words, i);
-    if tag_at(words, i) == 51 {
-        return spell_comparison(words, table, 20, 3, x, root, out);
+    if tag_at(words, i) == tag::BECOMES_EQUAL {
+        return spell_comparison(words, table, operator::EQUAL, operator::AFTER, x, root, out);
     }
     spell_expression(words, table, root, false, out)
 }
@@ -348,7 +352,7 @@ fn spell_feasible(words: &[u64], table: Table, e: u64, x: u64, out: &mut [u8]) -
     requires { ⌜ table ≡ countsOf (rowsOf (now words)) ⌝ }
     ensures { λ r. ⌜ Spelled (spelled 41 x ∷ movesRows (rowsOf (now (words .entry))) e x) r (now (out .entry)) (now (out .exit)) ⌝ }
 {
-    let head = row_83(out, 41, x);
+    let head = row_83(out, operator::SOME_AFTER_VALUE, x);
     let at = rest_start(out.len(), head);
     let action = spell_moves(words, table, e, x, &mut out[at..]);
     add_rows(head, action)
@@ -369,7 +373,11 @@ fn witness_root(words: &[u64], e: u64, x: u64) -> u64
 fn some_operator(variable: bool) -> u64
     ensures { λ r. ⌜ r ≡ pick variable 41 40 ⌝ }
 {
-    if variable { 41 } else { 40 }
+    if variable {
+        operator::SOME_AFTER_VALUE
+    } else {
+        operator::SOME_VALUE
+    }
 }
 
 // Form 6: some value of x, or some after value of a variable, meets the witness.
@@ -387,7 +395,7 @@ fn spell_decreases(words: &[u64], table: Table, root: u64, out: &mut [u8]) -> u6
     requires { ⌜ table ≡ countsOf (rowsOf (now words)) ⌝ }
     ensures { λ r. ⌜ Spelled ((spelled 21 0 ∷ shownRows (rowsOf (now (words .entry))) true root) ++ shownRows (rowsOf (now (words .entry))) false root) r (now (out .entry)) (now (out .exit)) ⌝ }
 {
-    let after = spell_under(words, table, 21, 0, root, true, out);
+    let after = spell_under(words, table, operator::LESS, 0, root, true, out);
     let at = rest_start(out.len(), after);
     let before = spell_expression(words, table, root, false, &mut out[at..]);
     add_rows(after, before)
@@ -402,13 +410,21 @@ pub fn spell(words: &[u64], table: Table, entry: Entry, out: &mut [u8]) -> u64
     let first = entry.first;
     let second = entry.second;
     match form {
-        2 => spell_expression(words, table, first, true, out),
-        3 => spell_defined(words, table, first, out),
-        4 => spell_moves(words, table, first, second, out),
-        5 => spell_feasible(words, table, first, second, out),
-        6 => spell_witnessed(words, table, first, second, out),
-        7 => spell_comparison(words, table, 22, 1, 0, first, out),
-        8 => spell_decreases(words, table, first, out),
+        form::PRIMED => spell_expression(words, table, first, true, out),
+        form::DEFINED => spell_defined(words, table, first, out),
+        form::MOVES => spell_moves(words, table, first, second, out),
+        form::FEASIBLE => spell_feasible(words, table, first, second, out),
+        form::WITNESSED => spell_witnessed(words, table, first, second, out),
+        form::NATURAL => spell_comparison(
+            words,
+            table,
+            operator::AT_MOST,
+            operator::LITERAL,
+            0,
+            first,
+            out,
+        ),
+        form::DECREASES => spell_decreases(words, table, first, out),
         _ => spell_expression(words, table, first, false, out),
     }
 }

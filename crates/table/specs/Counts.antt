@@ -2,6 +2,7 @@
 use Prim.Native.Nat.{ℕ, zero, suc, _+_, _<_, _^_}
 use lib.Dec.{ltb, eqb}
 use Rattle.lists.specs.Below.{oneIf, countBelow}
+use Rattle.table.specs.Names.{eventTag, identifierTag, nodeTag}
 use Rattle.table.specs.declared.Table.{Table as Counts}
 use Rattle.table.specs.Rows.{Rows, count, start}
 
@@ -10,12 +11,12 @@ emptyCounts = record { «identifiers_start» = 0; identifiers = 0; «nodes_start
 
 abbrev pub countedRow : Counts → ℕ → Counts
 countedRow k tag = record {
-  «identifiers_start» = k .«identifiers_start» + oneIf (ltb tag 10);
-  identifiers = k .identifiers + oneIf (eqb tag 10);
-  «nodes_start» = k .«nodes_start» + oneIf (ltb tag 20);
-  nodes = k .nodes + oneIf (eqb tag 20);
-  «events_start» = k .«events_start» + oneIf (ltb tag 40);
-  events = k .events + oneIf (eqb tag 40);
+  «identifiers_start» = k .«identifiers_start» + oneIf (ltb tag identifierTag);
+  identifiers = k .identifiers + oneIf (eqb tag identifierTag);
+  «nodes_start» = k .«nodes_start» + oneIf (ltb tag nodeTag);
+  nodes = k .nodes + oneIf (eqb tag nodeTag);
+  «events_start» = k .«events_start» + oneIf (ltb tag eventTag);
+  events = k .events + oneIf (eqb tag eventTag);
 }
 
 -- room for one more in every count
@@ -30,12 +31,12 @@ pub record Small (k : Counts) : Type 0 where
 -- of the first n rows, and of all
 abbrev pub countsTo : Rows → ℕ → Counts
 countsTo t n = record {
-  «identifiers_start» = countBelow (λ i. ltb (t .tag i) 10) n;
-  identifiers = countBelow (λ i. eqb (t .tag i) 10) n;
-  «nodes_start» = countBelow (λ i. ltb (t .tag i) 20) n;
-  nodes = countBelow (λ i. eqb (t .tag i) 20) n;
-  «events_start» = countBelow (λ i. ltb (t .tag i) 40) n;
-  events = countBelow (λ i. eqb (t .tag i) 40) n;
+  «identifiers_start» = countBelow (λ i. ltb (t .tag i) identifierTag) n;
+  identifiers = countBelow (λ i. eqb (t .tag i) identifierTag) n;
+  «nodes_start» = countBelow (λ i. ltb (t .tag i) nodeTag) n;
+  nodes = countBelow (λ i. eqb (t .tag i) nodeTag) n;
+  «events_start» = countBelow (λ i. ltb (t .tag i) eventTag) n;
+  events = countBelow (λ i. eqb (t .tag i) eventTag) n;
 }
 
 abbrev pub countsOf : Rows → Counts

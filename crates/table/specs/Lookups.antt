@@ -4,6 +4,7 @@ use mathlib.Core.Bool.{Bool, _&&_, _||_}
 use lib.Dec.{ltb, eqb}
 use Rattle.lists.specs.Choice.{pick}
 use Rattle.row.specs.Row.{width, rowLength}
+use Rattle.table.specs.Names.{abstractVariableKind, concreteVariableKind}
 use Rattle.table.specs.Rows.{Rows, kindOf}
 use Rattle.table.specs.Limits.{mostBytes}
 
@@ -13,7 +14,7 @@ operandNode n x = pick (ltb 0 x && ltb x n) x 0
 
 -- "2 abstract variable, 3 concrete variable": whether an identifier is one of them
 abbrev pub isVariableNumber : Rows → ℕ → Bool
-isVariableNumber t x = eqb (kindOf t x) 2 || eqb (kindOf t x) 3
+isVariableNumber t x = eqb (kindOf t x) abstractVariableKind || eqb (kindOf t x) concreteVariableKind
 
 -- the most rows that a table has, and their words, four a row
 abbrev pub mostRows : ℕ

@@ -66,3 +66,13 @@ ordinaryClass = 1
 
 abbrev pub convergentClass : ℕ
 convergentClass = 2
+
+-- "type: 1 integer, 2 boolean"; a formula is also of the third sort
+abbrev pub integerType : ℕ
+integerType = 1
+
+abbrev pub booleanType : ℕ
+booleanType = 2
+
+abbrev pub predicateSort : ℕ
+predicateSort = 3

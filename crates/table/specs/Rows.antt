@@ -5,6 +5,7 @@ use mathlib.Core.List.{List, [], _∷_, _++_, map}
 use lib.Dec.{ltb, leb, eqb}
 use lib.ListN.{length, getD}
 use Rattle.lists.specs.Below.{countBelow, numbers, keep}
+use Rattle.table.specs.Names.{becomesEqualTag, becomesSuchTag, eventTag, identifierTag, nodeTag}
 
 -- The rows, counted from 0: a tag and numbers a, b, c, each a word of 64 bits.
 pub record Rows : Type 0 where
@@ -52,37 +53,37 @@ module _ (t : Rows) where
 
   -- 01's table of rows: kind, type and owner of an identifier
   abbrev pub kindOf : ℕ → ℕ
-  kindOf x = t .a (rowOf 10 x)
+  kindOf x = t .a (rowOf identifierTag x)
 
   abbrev pub typeOf : ℕ → ℕ
-  typeOf x = t .b (rowOf 10 x)
+  typeOf x = t .b (rowOf identifierTag x)
 
   abbrev pub ownerOf : ℕ → ℕ
-  ownerOf x = t .c (rowOf 10 x)
+  ownerOf x = t .c (rowOf identifierTag x)
 
   -- operator and operands of a node
   abbrev pub operatorOf : ℕ → ℕ
-  operatorOf n = t .a (rowOf 20 n)
+  operatorOf n = t .a (rowOf nodeTag n)
 
   abbrev pub leftOf : ℕ → ℕ
-  leftOf n = t .b (rowOf 20 n)
+  leftOf n = t .b (rowOf nodeTag n)
 
   abbrev pub rightOf : ℕ → ℕ
-  rightOf n = t .c (rowOf 20 n)
+  rightOf n = t .c (rowOf nodeTag n)
 
   -- machine, class and refined event of an event
   abbrev pub machineNumber : ℕ → ℕ
-  machineNumber e = t .a (rowOf 40 e)
+  machineNumber e = t .a (rowOf eventTag e)
 
   abbrev pub classOf : ℕ → ℕ
-  classOf e = t .b (rowOf 40 e)
+  classOf e = t .b (rowOf eventTag e)
 
   abbrev pub refinedBy : ℕ → ℕ
-  refinedBy e = t .c (rowOf 40 e)
+  refinedBy e = t .c (rowOf eventTag e)
 
   -- 01: 51 and 52 are the actions
   abbrev pub isAction : ℕ → Bool
-  isAction i = tagged 51 i || tagged 52 i
+  isAction i = tagged becomesEqualTag i || tagged becomesSuchTag i
 
   -- 01: "tags never fall"
   abbrev pub Rising : Type 0

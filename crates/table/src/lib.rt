@@ -1,6 +1,7 @@
 // 01, Rows: a table's rows as words, four a row (tag, a, b, c), and where its identifiers, nodes and events stand.
 pub mod event;
 pub mod identifier;
+pub mod operator;
 pub mod tag;
 
 use row::Row;
@@ -174,12 +175,12 @@ impl Table {
         ensures { λ r. ⌜ r ≡ countedRow self tag ⌝ }
     {
         Self {
-            identifiers_start: self.identifiers_start + one_if(tag < 10),
-            identifiers: self.identifiers + one_if(tag == 10),
-            nodes_start: self.nodes_start + one_if(tag < 20),
-            nodes: self.nodes + one_if(tag == 20),
-            events_start: self.events_start + one_if(tag < 40),
-            events: self.events + one_if(tag == 40),
+            identifiers_start: self.identifiers_start + one_if(tag < tag::IDENTIFIER),
+            identifiers: self.identifiers + one_if(tag == tag::IDENTIFIER),
+            nodes_start: self.nodes_start + one_if(tag < tag::NODE),
+            nodes: self.nodes + one_if(tag == tag::NODE),
+            events_start: self.events_start + one_if(tag < tag::EVENT),
+            events: self.events + one_if(tag == tag::EVENT),
         }
     }
 
@@ -212,7 +213,7 @@ pub fn is_variable(words: &[u64], table: Table, x: u64) -> bool
     ensures { λ r. ⌜ r ≡ isVariableNumber (rowsOf (now (words .entry))) x ⌝ }
 {
     let kind = identifier_field(words, table, x, Table::KIND);
-    (kind == 2) | (kind == 3)
+    (kind == identifier::ABSTRACT_VARIABLE) | (kind == identifier::CONCRETE_VARIABLE)
 }
 
 // A column of a node: 1 operator, 2 and 3 operands.
