@@ -12,7 +12,7 @@ use Rattle.lists.specs.Choice.{pick}
 use Rattle.lists.specs.All.{All, all-nil, In, here, there}
 use Rattle.lists.specs.Pairwise.{Pairwise, pairwise-nil, pairwise-cons}
 use Rattle.lists.specs.Below.{numbers, keep}
-use Rattle.lists.proofs.All.{all-left, all-right, all-join, all-at, all-in, all-map, all-unmap, in-nil, in-cons, in-flat, in-unflat}
+use Rattle.lists.proofs.All.{all-left, all-right, all-join, all-at, all-in, all-map, all-unmap, in-nil, in-cons, in-unflat}
 
 -- no member stands twice
 abbrev pub Distinct : {A : Type 0} → List A → Type 0

@@ -4,7 +4,6 @@ use mathlib.Core.Path.{_≡_, refl, subst}
 use mathlib.Core.Bool.{Bool, true, false, _&&_, _||_}
 use native.Mathlib.Omega.{arith}
 use borrow.Author.Tests.{eqb-true, leb-false}
-use lib.Dec.{eqb}
 use Rattle.lists.specs.Below.{oneIf, countBelow}
 use Rattle.lists.proofs.Below.{count-less}
 use Rattle.table.specs.Names.{identifierTag, eventTag}

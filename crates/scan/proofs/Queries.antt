@@ -3,10 +3,10 @@ use Prim.Native.Nat.{ℕ, _≤_}
 use mathlib.Core.Path.{_≡_, refl, ap, sym, _∙_}
 use mathlib.Core.Bool.{Bool, true, false, _&&_, _||_}
 use native.Mathlib.Omega.{arith}
-use borrow.Author.Tests.{eqb-true, ltb-true, ltb-false}
+use borrow.Author.Tests.{eqb-true, ltb-false}
 use lib.Dec.{ltb, eqb}
 use Rattle.lists.specs.Choice.{pick}
-use Rattle.lists.specs.Below.{NoneBelow, someBelow}
+use Rattle.lists.specs.Below.{someBelow}
 use Rattle.lists.proofs.Below.{count-stays}
 use Rattle.table.specs.Names.{becomesEqualTag, becomesSuchTag, witnessTag}
 use Rattle.table.specs.Rows.{Rows, tagged, isAction}

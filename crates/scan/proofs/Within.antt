@@ -1,14 +1,14 @@
 -- The last number that passes by recursion on the bound; and that nothing passes beside the span from the first to the last.
 use Prim.Native.Nat.{ℕ, zero, suc, _+_, _≤_, _<_}
 use mathlib.Core.Path.{_≡_, refl, ap, sym, _∙_, subst}
-use mathlib.Core.Bool.{Bool, true, false, true≢false}
-use mathlib.Core.Logic.{_⊎_, inl, inr, ⊎-elim}
+use mathlib.Core.Bool.{Bool, true, false}
+use mathlib.Core.Logic.{_⊎_, ⊎-elim}
 use native.Mathlib.Omega.{arith}
 use native.Mathlib.Nat.{eq-or-lt-of-le}
 use native.Mathlib.Numerals.{add-one}
 use native.Mathlib.Decide.{decLt}
 use Rattle.lists.specs.Choice.{pick}
-use Rattle.lists.specs.Below.{NoneBelow, first, countBelow}
+use Rattle.lists.specs.Below.{NoneBelow, countBelow}
 use Rattle.lists.proofs.Choice.{chosen, not-chosen}
 use Rattle.lists.proofs.Below.{count-stays, count-none-below}
 use Rattle.lists.proofs.First.{first-least}

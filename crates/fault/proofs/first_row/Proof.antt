@@ -1,7 +1,6 @@
 -- The checks of sorts and uses are rule_sorts' own; for the others, the loop's invariant: the search from i on is the whole search.
 use Prim.Native.Nat.{_≤_, _-_}
 use mathlib.Core.Path.{_≡_, ap, sym, _∙_}
-use mathlib.Core.Bool.{true, false}
 use native.Mathlib.Omega.{arith}
 use native.Mathlib.Nat.{sub-zero}
 use Rattle.lists.specs.Below.{first}

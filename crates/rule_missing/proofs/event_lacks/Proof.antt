@@ -1,6 +1,6 @@
 -- The loop's invariant: of no row before j the event lacks something; and past the identifiers there is none.
 use Prim.Native.Nat.{_-_}
-use mathlib.Core.Path.{_≡_, sym, _∙_}
+use mathlib.Core.Path.{sym, _∙_}
 use native.Mathlib.Omega.{arith}
 use borrow.Author.Tests.{eq-eqb, ne-eqb}
 use Rattle.lists.specs.Below.{NoneBelow, someBelow}

@@ -1,8 +1,7 @@
 -- Where an action is wanted, the rows are searched for one.
 use mathlib.Core.Path.{_≡_, _∙_, sym, ap}
-use Prim.Native.Nat.{_+_}
-use mathlib.Core.Bool.{not, _&&_, _||_}
-use lib.Dec.{ltb, eqb}
+use mathlib.Core.Bool.{not, _&&_}
+use lib.Dec.{eqb}
 use Rattle.lists.specs.Below.{someBelow}
 use Rattle.table.specs.Rows.{rowsOf}
 use Rattle.rules.specs.Rules.{actionWanted, assigned}

@@ -1,6 +1,5 @@
 -- Where a witness is wanted, the rows are searched for one.
 use mathlib.Core.Path.{_≡_, _∙_, sym, ap}
-use Prim.Native.Nat.{_+_}
 use mathlib.Core.Bool.{not, _&&_, _||_}
 use lib.Dec.{ltb, eqb}
 use Rattle.lists.specs.Below.{someBelow}

@@ -1,6 +1,6 @@
 -- The loop's invariant: no row before i is an event that lacks something; and past the events there is none.
 use Prim.Native.Nat.{_-_}
-use mathlib.Core.Path.{_≡_, sym, _∙_}
+use mathlib.Core.Path.{sym, _∙_}
 use native.Mathlib.Omega.{arith}
 use Rattle.lists.specs.Below.{NoneBelow}
 use Rattle.lists.proofs.Below.{some-passes, some-fails}

@@ -1,8 +1,8 @@
 -- The loop's invariant: no row before i offends.
 use Prim.Native.Nat.{_≤_, _-_}
-use mathlib.Core.Path.{_≡_, ap, sym, _∙_}
+use mathlib.Core.Path.{_≡_, sym, _∙_}
 use native.Mathlib.Omega.{arith}
-use Rattle.lists.specs.Below.{NoneBelow, first}
+use Rattle.lists.specs.Below.{NoneBelow}
 use Rattle.lists.proofs.First.{none-next, first-at, first-none}
 use Rattle.table.specs.Rows.{rowsOf}
 use Rattle.rules.specs.Rules.{useOffends, offends}

@@ -1,5 +1,5 @@
 -- By the number of operands.
-use mathlib.Core.Path.{_≡_, ap, sym, _∙_}
+use mathlib.Core.Path.{ap, sym, _∙_}
 use Rattle.table.specs.Rows.{rowsOf}
 use Rattle.rules.specs.Sorts.{shapeOf, operandCount}
 use Rattle.rule_references.proofs.Found.{shape-found, operands-found}

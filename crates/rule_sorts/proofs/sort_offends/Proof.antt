@@ -1,5 +1,5 @@
 -- A node by its operands, a row that names a root by its root, and no other row (Sorts).
-use mathlib.Core.Path.{_≡_, ap, ap₂, sym, _∙_}
+use mathlib.Core.Path.{ap, ap₂, sym, _∙_}
 use mathlib.Core.Bool.{not}
 use borrow.Author.Tests.{not-true, not-false}
 use lib.Dec.{eqb}

@@ -1,5 +1,5 @@
 -- Where the test passes and the list has a place for n, it is counted; a number past the list changes nothing.
-use mathlib.Core.Path.{ap, sym, _∙_}
+use mathlib.Core.Path.{sym, _∙_}
 use native.Mathlib.Omega.{arith}
 use borrow.Author.Tests.{not-true, not-false}
 use lib.Seq.{set-out}

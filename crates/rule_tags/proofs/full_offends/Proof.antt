@@ -1,5 +1,5 @@
 -- The limit is that of the row's tag, and the count by where the rows of the tag begin (Full).
-use Prim.Native.Nat.{_-_, _≤_}
+use Prim.Native.Nat.{_≤_}
 use mathlib.Core.Path.{_≡_, ap, sym, subst, _∙_}
 use native.Mathlib.Omega.{arith}
 use Rattle.table.specs.Names.{variantTag}

@@ -3,7 +3,7 @@ use mathlib.Core.Path.{ap, sym, subst, _∙_}
 use native.Mathlib.Omega.{arith}
 use Prim.Native.Nat.{_+_}
 use lib.ListN.{length}
-use Rattle.table.specs.Names.{becomesEqualTag, becomesSuchTag}
+use Rattle.table.specs.Names.{becomesEqualTag}
 use Rattle.table.specs.Rows.{rowsOf}
 use Rattle.scan.specs.Spans.{SpannedTo, noted}
 use Rattle.scan.proofs.Spans.{noted-size, row-passed, row-noted, action-noted}

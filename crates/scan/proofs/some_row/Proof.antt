@@ -1,10 +1,10 @@
 -- No row that passes stands outside the span of the query's tag (Queries).
-use mathlib.Core.Path.{_≡_, ap, sym, subst, _∙_}
+use mathlib.Core.Path.{ap, sym, subst, _∙_}
 use lib.Dec.{ltb}
 use Rattle.lists.specs.Choice.{pick}
 use Rattle.lists.specs.Below.{NoneBelow, someBelow}
 use Rattle.table.specs.Rows.{rowsOf}
-use Rattle.scan.specs.Query.{queryTag, passesOf}
+use Rattle.scan.specs.Query.{passesOf}
 use Rattle.scan.specs.Spans.{tagSpan}
 use Rattle.scan.proofs.Queries.{query-spans, some-to}
 use borrow.Author.Needs.{needs}

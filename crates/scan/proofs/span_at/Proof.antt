@@ -1,6 +1,5 @@
 -- By what the list of the spans holds.
 use mathlib.Core.Path.{ap₂}
-use Rattle.scan.specs.declared.Span.{Span}
 use borrow.Author.Needs.{needs}
 use Rattle.scan.proofs.span_at.Statement.{statement}
 use Rattle.scan.proofs.span_at.Tie as tie

@@ -1,5 +1,5 @@
 -- By the first check that a row offends against, then by whether something is missing (Cases, of the rules).
-use mathlib.Core.Path.{_≡_, ap, ap₂, sym, subst, _∙_}
+use mathlib.Core.Path.{ap, ap₂, sym, subst, _∙_}
 use Prim.Native.Nat.{_+_}
 use native.Mathlib.Omega.{arith}
 use Rattle.table.specs.Rows.{rowsOf}
