@@ -11,7 +11,8 @@ use Rattle.lists.proofs.Below.{count-from}
 use Rattle.table.specs.Names.{becomesEqualTag, becomesSuchTag, variantTag}
 use Rattle.table.specs.Rows.{Rows, Rising}
 use Rattle.rules.specs.Rules.{countedWith}
-use Rattle.scan.specs.Spans.{spanTag, ofTag, tagSpan}
+use Rattle.scan.specs.Spans.{ofTag, tagSpan}
+use Rattle.scan.specs.Query.{spanTag}
 use Rattle.scan.proofs.Queries.{counted-tag}
 use Rattle.scan.proofs.Spans.{in-span, from-first, span-spans, between}
 

@@ -10,7 +10,7 @@ use Rattle.lists.proofs.Below.{count-never}
 use Rattle.table.specs.Names.{becomesEqualTag, becomesSuchTag, witnessTag, variantTag}
 use Rattle.table.specs.Rows.{Rows, tagged, isAction}
 use Rattle.rules.specs.Rules.{sameTarget, twiceOffends}
-use Rattle.scan.specs.Spans.{spanTag}
+use Rattle.scan.specs.Query.{spanTag}
 
 neither : (a w x y z : Bool) → not (a || w) ≡ true → (((a && x) || (w && y)) && z) ≡ false
 neither true w x y z e = absurd (true≢false (sym e))

@@ -1,3 +1,4 @@
+pub mod Actions
 pub mod Queries
 pub mod Spans
 pub mod Within

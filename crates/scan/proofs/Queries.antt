@@ -14,7 +14,8 @@ use Rattle.scan.specs.declared.Query.{Query}
 use Rattle.scan.specs.declared.Query.the-variants.{CountedWith, Event, SameTarget, Initialises, Assigns, Witnesses, Convergent, Tagged}
 use Rattle.scan.specs.Query.{actionTag, queryTag, passesOf}
 use Rattle.scan.specs.Span.{Spans}
-use Rattle.scan.specs.Spans.{spanTag, ofTag, tagSpan}
+use Rattle.scan.specs.Spans.{ofTag, tagSpan}
+use Rattle.scan.specs.Query.{spanTag}
 use Rattle.scan.proofs.Spans.{tag-stricter}
 
 or-again : (b c : Bool) → (b || (b || c)) ≡ (b || c)

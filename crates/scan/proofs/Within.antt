@@ -1,35 +1,19 @@
--- The last number that passes by recursion on the bound; and that nothing passes beside the span from the first to the last.
+-- The last number that passes by recursion on the bound; and what a span of a test says of searches and counts.
 use Prim.Native.Nat.{ℕ, zero, suc, _+_, _≤_, _<_}
-use mathlib.Core.Path.{_≡_, refl, ap, sym, _∙_, subst}
+use mathlib.Core.Path.{_≡_, refl, sym, subst}
 use mathlib.Core.Bool.{Bool, true, false}
 use mathlib.Core.Logic.{_⊎_, ⊎-elim}
 use native.Mathlib.Omega.{arith}
 use native.Mathlib.Nat.{eq-or-lt-of-le}
-use native.Mathlib.Numerals.{add-one}
 use native.Mathlib.Decide.{decLt}
 use Rattle.lists.specs.Choice.{pick}
 use Rattle.lists.specs.Below.{NoneBelow, countBelow}
-use Rattle.lists.proofs.Choice.{chosen, not-chosen}
 use Rattle.lists.proofs.Below.{count-stays, count-none-below}
-use Rattle.lists.proofs.First.{first-least}
 use Rattle.scan.specs.declared.Span.{Span}
-use Rattle.scan.specs.Span.{spanOf, Spans}
+use Rattle.scan.specs.Span.{Spans}
 use Rattle.scan.specs.Spans.{spanTo}
 
 module _ (P : ℕ → Bool) where
-  pub past-none : (i : ℕ) → i ≡ 0 → 0 ≡ spanTo P i
-  unfolding spanTo
-  past-none zero e = refl
-  past-none (suc i) e = absurd (omega arith)
-
-  pub past-here : (i k : ℕ) → i ≡ k + 1 → P k ≡ true → i ≡ spanTo P i
-  unfolding spanTo
-  past-here i k h e = (h ∙ add-one k) ∙ sym (chosen (P k) (suc k) (spanTo P k) e) ∙ ap (spanTo P) (sym (h ∙ add-one k))
-
-  pub past-next : (i k : ℕ) → i ≡ k + 1 → P k ≡ false → spanTo P k ≡ spanTo P i
-  unfolding spanTo
-  past-next i k h e = sym (not-chosen (P k) (suc k) (spanTo P k) e) ∙ ap (spanTo P) (sym (h ∙ add-one k))
-
   pub past-at-most : (n : ℕ) → spanTo P n ≤ n
   unfolding spanTo
   past-at-most zero = omega arith
@@ -47,13 +31,6 @@ module _ (P : ℕ → Bool) where
       go : (b : Bool) → P n ≡ b → pick b (suc n) (spanTo P n) ≤ j → (spanTo P n ≤ j → j < n → P j ≡ false) → P j ≡ false
       go true e g above = absurd (omega arith)
       go false e g above = ⊎-elim (λ (q : j ≡ n). subst (λ x. P x ≡ false) (sym q) e) (λ (q : j < n). above g q) (eq-or-lt-of-le (omega arith))
-
-  pub span-holds : (n : ℕ) → Spans P n (spanOf P n)
-  span-holds n = record {
-    within = past-at-most n;
-    below = λ j h. first-least P n 0 .before j (omega arith) h;
-    above = past-above n;
-  }
 
   -- past the span nothing passes that did not before
   pub spans-none : (n : ℕ) (s : Span) → Spans P n s → (i : ℕ) → NoneBelow P i → s .to ≤ i → NoneBelow P n

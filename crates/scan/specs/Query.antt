@@ -2,11 +2,15 @@
 use Prim.Native.Nat.{ℕ}
 use mathlib.Core.Bool.{Bool, _&&_, _||_}
 use lib.Dec.{eqb}
+use Rattle.lists.specs.Choice.{pick}
 use Rattle.table.specs.Names.{eventTag, becomesEqualTag, witnessTag, becomesSuchTag, convergentClass, initialisationClass}
 use Rattle.table.specs.Rows.{Rows}
-use Rattle.scan.specs.Spans.{spanTag}
 use Rattle.scan.specs.declared.Query.{Query}
 use Rattle.scan.specs.declared.Query.the-variants.{CountedWith, Event, SameTarget, Initialises, Assigns, Witnesses, Convergent, Tagged}
+
+-- the tag under which the rows of a tag stand
+abbrev pub spanTag : ℕ → ℕ
+spanTag tag = pick (eqb tag becomesSuchTag) becomesEqualTag tag
 
 -- 01: 51 and 52 are the actions
 abbrev pub actionTag : ℕ → Bool

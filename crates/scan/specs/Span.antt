@@ -2,13 +2,7 @@
 use Prim.Native.Nat.{ℕ, _≤_, _<_}
 use mathlib.Core.Path.{_≡_}
 use mathlib.Core.Bool.{Bool, false}
-use Rattle.lists.specs.Below.{first}
 use Rattle.scan.specs.declared.Span.{Span}
-use Rattle.scan.specs.Spans.{spanTo}
-
--- from the first to the last
-abbrev pub spanOf : (ℕ → Bool) → ℕ → Span
-spanOf P n = record { from = first P n 0; to = spanTo P n }
 
 -- no number below n passes but those of the span
 pub record Spans (P : ℕ → Bool) (n : ℕ) (s : Span) : Type 0 where

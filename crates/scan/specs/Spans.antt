@@ -6,9 +6,11 @@ use mathlib.Core.List.{List}
 use lib.Dec.{eqb}
 use lib.ListN.{length, getD, set}
 use Rattle.lists.specs.Choice.{pick}
-use Rattle.table.specs.Names.{becomesEqualTag, becomesSuchTag, variantTag}
+use Rattle.table.specs.Names.{becomesEqualTag, variantTag}
 use Rattle.table.specs.Rows.{Rows, tagged, isAction}
 use Rattle.scan.specs.declared.Span.{Span}
+use Rattle.scan.specs.declared.Query.the-variants.{Assigns}
+use Rattle.scan.specs.Query.{passesOf}
 
 -- one more than the last number below n that passes, or 0
 unfoldable pub spanTo : (ℕ → Bool) → ℕ → ℕ
@@ -24,17 +26,16 @@ spanFrom P (suc n) = pick (P n && eqb (spanTo P n) 0) n (spanFrom P n)
 abbrev pub ofTag : Rows → ℕ → ℕ → Bool
 ofTag t k i = pick (eqb k becomesEqualTag) (isAction t i) (tagged t k i)
 
--- the tag under which the rows of a tag stand
-abbrev pub spanTag : ℕ → ℕ
-spanTag tag = pick (eqb tag becomesSuchTag) becomesEqualTag tag
-
 -- the rows between which those of a tag stand
 abbrev pub tagSpan : Rows → ℕ → Span
 tagSpan t k = record { from = spanFrom (ofTag t k) (t .size); to = spanTo (ofTag t k) (t .size) }
 
--- two numbers for each tag up to the highest
+-- two numbers for each tag up to the highest; and behind them one for each event and identifier up to their limits, for the event's action
+abbrev pub actionAt : ℕ → ℕ → ℕ
+actionAt e x = 142 + (65 * e + x)
+
 abbrev pub spanWords : ℕ
-spanWords = 142
+spanWords = 2287
 
 -- a list holds the spans of all tags among the first n rows: from and to of the tag k at 2 × k and 2 × k + 1
 pub record SpannedTo (t : Rows) (n : ℕ) (spans : List ℕ) : Type 0 where
@@ -42,9 +43,23 @@ pub record SpannedTo (t : Rows) (n : ℕ) (spans : List ℕ) : Type 0 where
   pub starts : (k : ℕ) → k ≤ variantTag → getD spans (2 * k) 0 ≡ spanFrom (ofTag t k) n
   pub ends : (k : ℕ) → k ≤ variantTag → getD spans (2 * k + 1) 0 ≡ spanTo (ofTag t k) n
 
--- among all rows
-abbrev pub Spanned : Rows → List ℕ → Type 0
-Spanned t spans = SpannedTo t (t .size) spans
+-- one more than the first number below n that passes, or 0
+unfoldable pub firstNoted : (ℕ → Bool) → ℕ → ℕ
+firstNoted P zero = 0
+firstNoted P (suc n) = pick (P n && eqb (firstNoted P n) 0) (suc n) (firstNoted P n)
+
+-- a list holds the first of the first n rows that is an action of an event for an identifier, for all up to the limits
+abbrev pub ActionsTo : Rows → ℕ → List ℕ → Type 0
+ActionsTo t n spans = (e x : ℕ) → e ≤ 32 → x ≤ 64 → getD spans (actionAt e x) 0 ≡ firstNoted (passesOf t (Assigns e x)) n
+
+-- among all rows: what is looked for once
+pub record Spanned (t : Rows) (spans : List ℕ) : Type 0 where
+  pub tags : SpannedTo t (t .size) spans
+  pub actions : ActionsTo t (t .size) spans
+
+-- with the row i, an action of an event for an identifier
+abbrev pub actionNoted : List ℕ → ℕ → ℕ → ℕ → List ℕ
+actionNoted spans e x i = let k = getD spans (actionAt e x) 0 in set spans (actionAt e x) (pick (eqb k 0) (i + 1) k)
 
 -- with the row i of a tag: from where the tag's span starts at it, and to
 abbrev pub noted : List ℕ → ℕ → ℕ → List ℕ

@@ -1,4 +1,5 @@
 // Rows that pass a test: whether there is one before a row, the first, and between which rows they stand.
+use table::Table;
 use table::a_at;
 use table::b_at;
 use table::event;
@@ -6,16 +7,19 @@ use table::size;
 use table::tag;
 use table::tag_at;
 ghost use mathlib.Core.Path.{_≡_};
-ghost use Prim.Native.Nat.{ℕ, _+_, _^_, _≤_, _<_};
+ghost use Prim.Native.Nat.{ℕ, _+_, _-_, _^_, _≤_, _<_};
 ghost use lib.ListN.{length, getD};
 ghost use Rattle.table.specs.Names.{variantTag};
 ghost use Rattle.lists.specs.Below.{NoneBelow, someBelow, first};
-ghost use Rattle.table.specs.Rows.{rowsOf};
+ghost use Rattle.table.specs.Rows.{rowsOf, isAction};
 ghost use Rattle.lists.specs.Choice.{pick};
-ghost use lib.Dec.{eqb, ltb};
+ghost use mathlib.Core.Bool.{_&&_};
+ghost use lib.Dec.{eqb, ltb, leb};
 ghost use Rattle.scan.specs.Query.{holds, queryTag, passesOf};
-ghost use Rattle.scan.specs.Span.{spanOf, Spans};
-ghost use Rattle.scan.specs.Spans.{spanTo, spanTag, spanWords, tagSpan, Spanned, SpannedTo, noted};
+ghost use Rattle.scan.specs.Span.{Spans};
+ghost use Rattle.scan.specs.declared.Query.the-variants.{Assigns};
+ghost use Rattle.scan.specs.Spans.{spanWords, tagSpan, actionAt, Spanned, SpannedTo, ActionsTo, noted};
+ghost use Rattle.scan.specs.Query.{spanTag};
 
 // A test of a row, with the numbers that it compares the row's with.
 pub enum Query {
@@ -77,8 +81,13 @@ pub struct Span {
 }
 
 impl Span {
-    // How many numbers the spans of all tags take: those of the tag k, up to the highest, stand at 2 × k and 2 × k + 1.
-    pub const WORDS: usize = 142;
+    // How many numbers the spans of all tags take: those of the tag k, up to the highest, stand at 2 × k and 2 × k + 1. Behind them stand the rows of the actions, one more
+    // than each, for each event and identifier up to their limits.
+    const ACTIONS: usize = 142;
+
+    const ACTIONS_OF_EVENT: usize = Table::IDENTIFIERS as usize + 1;
+
+    pub const WORDS: usize = Span::ACTIONS + (Table::EVENTS as usize + 1) * Span::ACTIONS_OF_EVENT;
 }
 
 // One pass over the rows finds the spans of all tags, in every table, sorted or not.
@@ -114,8 +123,8 @@ fn note(spans: &mut [usize], tag: u64, i: usize)
 
 // Notes the tag of row i; a 52 is also one of the actions, under 51.
 fn note_row(words: &[u64], spans: &mut [usize], i: usize)
-    requires { ⌜ SpannedTo (rowsOf (now words)) i (now spans) × (i < 2 ^ 63) ⌝ }
-    ensures { λ _. ⌜ SpannedTo (rowsOf (now (words .entry))) (i + 1) (now (spans .exit)) ⌝ }
+    requires { ⌜ SpannedTo (rowsOf (now words)) i (now spans) × ActionsTo (rowsOf (now words)) 0 (now spans) × (i < 2 ^ 63) ⌝ }
+    ensures { λ _. ⌜ SpannedTo (rowsOf (now (words .entry))) (i + 1) (now (spans .exit)) × ActionsTo (rowsOf (now (words .entry))) 0 (now (spans .exit)) ⌝ }
 {
     let tag = tag_at(words, i);
     if tag::VARIANT < tag {
@@ -127,10 +136,63 @@ fn note_row(words: &[u64], spans: &mut [usize], i: usize)
     }
 }
 
-// Fills the spans of a table's rows.
-pub fn fill_spans(words: &[u64], spans: &mut [usize])
-    requires { ⌜ length (now spans) ≡ spanWords ⌝ }
+// Where the action of an event for an identifier is noted.
+fn action_at(event: u64, target: u64) -> usize
+    requires { ⌜ (event ≤ 32) × (target ≤ 64) ⌝ }
+    ensures { λ r. ⌜ r ≡ actionAt event target ⌝ }
+    ensures { λ r. ⌜ r < spanWords ⌝ }
+{
+    Span::ACTIONS + (Span::ACTIONS_OF_EVENT * event as usize + target as usize)
+}
+
+// What is noted when row i passes: it, where none was noted before.
+fn first_noted(noted: usize, i: usize) -> usize
+    requires { ⌜ i < 2 ^ 63 ⌝ }
+    ensures { λ r. ⌜ r ≡ pick (eqb noted 0) (i + 1) noted ⌝ }
+{
+    if noted == 0 { i + 1 } else { noted }
+}
+
+// Whether row i is an action of an event for an identifier up to their limits.
+fn is_noted(words: &[u64], i: usize) -> bool
+    ensures { λ r. ⌜ r ≡ (isAction (rowsOf (now (words .entry))) i && (leb (rowsOf (now (words .entry)) .a i) 32 && leb (rowsOf (now (words .entry)) .b i) 64)) ⌝ }
+{
+    let tag = tag_at(words, i);
+    let event = a_at(words, i);
+    let target = b_at(words, i);
+    ((tag == tag::BECOMES_EQUAL) | (tag == tag::BECOMES_SUCH))
+        & ((event <= Table::EVENTS) & (target <= Table::IDENTIFIERS))
+}
+
+// Notes row i where it is an action, the first of its event for its variable.
+fn note_action(words: &[u64], spans: &mut [usize], i: usize)
+    requires { ⌜ SpannedTo (rowsOf (now words)) (rowsOf (now words) .size) (now spans) × ActionsTo (rowsOf (now words)) i (now spans) × (i < 2 ^ 63) ⌝ }
+    ensures { λ _. ⌜ SpannedTo (rowsOf (now (words .entry))) (rowsOf (now (words .entry)) .size) (now (spans .exit)) × ActionsTo (rowsOf (now (words .entry))) (i + 1) (now (spans .exit)) ⌝ }
+{
+    if !is_noted(words, i) {
+        return;
+    }
+    let at = action_at(a_at(words, i), b_at(words, i));
+    spans[at] = first_noted(spans[at], i);
+}
+
+// Notes the actions of a table's rows.
+fn fill_actions(words: &[u64], spans: &mut [usize])
+    requires { ⌜ SpannedTo (rowsOf (now words)) (rowsOf (now words) .size) (now spans) × ActionsTo (rowsOf (now words)) 0 (now spans) ⌝ }
     ensures { λ _. ⌜ Spanned (rowsOf (now (words .entry))) (now (spans .exit)) ⌝ }
+{
+    let rows = size(words);
+    let mut i = 0;
+    while i < rows {
+        note_action(words, spans, i);
+        i += 1;
+    }
+}
+
+// Finds the spans of all tags.
+fn fill_tags(words: &[u64], spans: &mut [usize])
+    requires { ⌜ length (now spans) ≡ spanWords ⌝ }
+    ensures { λ _. ⌜ SpannedTo (rowsOf (now (words .entry))) (rowsOf (now (words .entry)) .size) (now (spans .exit)) × ActionsTo (rowsOf (now (words .entry))) 0 (now (spans .exit)) ⌝ }
 {
     clear(spans);
     let rows = size(words);
@@ -139,6 +201,15 @@ pub fn fill_spans(words: &[u64], spans: &mut [usize])
         note_row(words, spans, i);
         i += 1;
     }
+}
+
+// Fills the spans of a table's rows, and the rows of its actions.
+pub fn fill_spans(words: &[u64], spans: &mut [usize])
+    requires { ⌜ length (now spans) ≡ spanWords ⌝ }
+    ensures { λ _. ⌜ Spanned (rowsOf (now (words .entry))) (now (spans .exit)) ⌝ }
+{
+    fill_tags(words, spans);
+    fill_actions(words, spans);
 }
 
 // The tag under which the rows of a tag stand: 51 of 52.
@@ -163,36 +234,6 @@ pub fn span_at(words: &[u64], spans: &[usize], tag: u64) -> Span
     }
 }
 
-// One more than the last row that passes, or 0.
-fn past_last(words: &[u64], query: Query) -> usize
-    ensures { λ r. ⌜ r ≡ spanTo (passesOf (rowsOf (now (words .entry))) query) (rowsOf (now (words .entry)) .size) ⌝ }
-{
-    let mut i = size(words);
-    while 0 < i {
-        let last = i - 1;
-        if passes(
-            query,
-            tag_at(words, last),
-            a_at(words, last),
-            b_at(words, last),
-        ) {
-            return i;
-        }
-        i = last;
-    }
-    0
-}
-
-// From the first row that passes to the last.
-pub fn span_of(words: &[u64], query: Query) -> Span
-    ensures { λ r. ⌜ r ≡ spanOf (passesOf (rowsOf (now (words .entry))) query) (rowsOf (now (words .entry)) .size) ⌝ }
-{
-    Span {
-        from: find_row(words, query),
-        to: past_last(words, query),
-    }
-}
-
 // The first row that passes, or the number of rows, where all that pass are known to stand in a span.
 pub fn find_within(words: &[u64], query: Query, span: Span) -> usize
     requires { ⌜ Spans (passesOf (rowsOf (now words)) query) (rowsOf (now words) .size) span ⌝ }
@@ -206,6 +247,29 @@ pub fn find_within(words: &[u64], query: Query, span: Span) -> usize
         i += 1;
     }
     size(words)
+}
+
+// The row that is noted, or the number of rows.
+fn noted_row(noted: usize, rows: usize) -> usize
+    ensures { λ r. ⌜ r ≡ pick (eqb noted 0) rows (noted - 1) ⌝ }
+{
+    if noted == 0 {
+        return rows;
+    }
+    noted - 1
+}
+
+// The row of an event's action for an identifier, or the number of rows. Beyond the limits, which no accepted table is, it is looked for.
+pub fn action_row(words: &[u64], spans: &[usize], event: u64, target: u64) -> usize
+    requires { ⌜ Spanned (rowsOf (now words)) (now spans) ⌝ }
+    ensures { λ r. ⌜ r ≡ first (passesOf (rowsOf (now (words .entry))) (Assigns event target)) (rowsOf (now (words .entry)) .size) 0 ⌝ }
+{
+    if (event <= Table::EVENTS) & (target <= Table::IDENTIFIERS) {
+        let at = action_at(event, target);
+        return noted_row(spans[at], size(words));
+    }
+    let actions = span_at(words, spans, tag::BECOMES_EQUAL);
+    find_within(words, Query::Assigns { event, target }, actions)
 }
 
 // Whether one of the rows before the end of a span passes, where none before it does.

@@ -10,8 +10,6 @@ use Rattle.lists.proofs.Below.{count-at-most}
 use Rattle.table.specs.Names.{becomesEqualTag, witnessTag, variantTag}
 use Rattle.table.specs.Rows.{Rows, tagged, count, isAction}
 use Rattle.table.specs.Lookups.{isVariableNumber}
-use Rattle.scan.specs.declared.Query.the-variants.{Assigns}
-use Rattle.scan.specs.Query.{passesOf}
 use Rattle.scan.specs.Span.{Spans}
 use Rattle.scan.specs.Spans.{ofTag, tagSpan}
 use Rattle.scan.proofs.Spans.{tag-stricter}
@@ -74,7 +72,3 @@ module _ (t : Rows) where
   selected-spans (Identifiers kind) = identifier-spans _ (kind-none kind)
   selected-spans (Assigned kind e) = identifier-spans _ (λ j p. left-false (identifierAt t kind j) _ (kind-none kind j p))
   selected-spans (SuchThat kind e) = identifier-spans _ (λ j p. left-false (identifierAt t kind j) _ (kind-none kind j p))
-
-  -- the actions of an event for a variable stand in the span of all actions
-  pub assigns-spans : (e x : ℕ) → Spans (passesOf t (Assigns e x)) (t .size) (tagSpan t becomesEqualTag)
-  assigns-spans e x = tag-stricter t becomesEqualTag (passesOf t (Assigns e x)) (λ j p. left-false (isAction t j) (eqb (t .a j) e && eqb (t .b j) x) p)

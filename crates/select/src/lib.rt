@@ -1,7 +1,5 @@
 // The rows that a group of sequents, or a part of the hypotheses, is made from: which rows they are, and a walk from one to the next.
-use scan::Query;
 use scan::Span;
-use scan::find_within;
 use scan::span_at;
 use table::Table;
 use table::a_at;
@@ -72,8 +70,7 @@ pub fn action_row(words: &[u64], spans: &[usize], event: u64, x: u64) -> usize
     requires { ⌜ Spanned (rowsOf (now words)) (now spans) ⌝ }
     ensures { λ r. ⌜ r ≡ actionRow (rowsOf (now (words .entry))) event x ⌝ }
 {
-    let actions = span_at(words, spans, tag::BECOMES_EQUAL);
-    find_within(words, Query::Assigns { event, target: x }, actions)
+    scan::action_row(words, spans, event, x)
 }
 
 // Whether it is assigned.

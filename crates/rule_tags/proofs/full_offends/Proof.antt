@@ -5,7 +5,8 @@ use native.Mathlib.Omega.{arith}
 use Rattle.table.specs.Names.{variantTag}
 use Rattle.table.specs.Rows.{rowsOf}
 use Rattle.rules.specs.Rules.{fullOffends}
-use Rattle.scan.specs.Spans.{spanTag, tagSpan}
+use Rattle.scan.specs.Spans.{tagSpan}
+use Rattle.scan.specs.Query.{spanTag}
 use Rattle.rule_tags.proofs.Full.{from-before, rows-counted, span-tag-known}
 use borrow.Author.Needs.{needs}
 use Rattle.rule_tags.proofs.full_offends.Statement.{statement}
