@@ -23,7 +23,7 @@ ghost use Rattle.scan.specs.Query.{spanTag};
 
 // A test of a row, with the numbers that it compares the row's with.
 pub enum Query {
-    // counted together with the rows of a tag (check 4)
+    // counted together with the rows of a tag
     CountedWith(u64),
     // an event of a machine (check 5)
     Event(u64),
@@ -89,8 +89,6 @@ impl Span {
 
     pub const WORDS: usize = Span::ACTIONS + (Table::EVENTS as usize + 1) * Span::ACTIONS_OF_EVENT;
 }
-
-// One pass over the rows finds the spans of all tags, in every table, sorted or not.
 
 // Sets all numbers to 0.
 pub fn clear(numbers: &mut [usize])
@@ -189,7 +187,7 @@ fn fill_actions(words: &[u64], spans: &mut [usize])
     }
 }
 
-// Finds the spans of all tags.
+// Finds the spans of all tags by one pass over the rows, in every table, sorted or not.
 fn fill_tags(words: &[u64], spans: &mut [usize])
     requires { ⌜ length (now spans) ≡ spanWords ⌝ }
     ensures { λ _. ⌜ SpannedTo (rowsOf (now (words .entry))) (rowsOf (now (words .entry)) .size) (now (spans .exit)) × ActionsTo (rowsOf (now (words .entry))) 0 (now (spans .exit)) ⌝ }
@@ -303,6 +301,7 @@ fn query_tag(query: Query) -> u64
     }
 }
 
+// The lesser of two numbers.
 fn lesser(m: usize, n: usize) -> usize
     ensures { λ r. ⌜ r ≡ pick (ltb m n) m n ⌝ }
 {

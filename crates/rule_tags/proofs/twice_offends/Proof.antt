@@ -1,6 +1,7 @@
 -- A row that is neither an action nor a witness has no target (Twice); of the others, the rows before are searched for one with its tag, event and target.
 use mathlib.Core.Path.{ap, sym, _∙_}
 use mathlib.Core.Bool.{not, _||_}
+use native.Mathlib.Omega.{arith}
 use borrow.Author.Tests.{not-false}
 use lib.Dec.{eqb}
 use Rattle.table.specs.Rows.{rowsOf}
@@ -20,6 +21,6 @@ twice-offends-spec = tie.close (tie.spec
     (λ c κs. search needs)
     (λ c κs. let test = c .before .before in
     let s = test .before .before .before .before in
-    (s .pre .0, s .pre .1, target-known (test .before .tag-at .result) (not-false _ (test .if1 .left))))
+    (s .pre .0, omega (arith, s .pre .1), target-known (test .before .tag-at .result) (not-false _ (test .if1 .left))))
     (λ c. let d = c .before in
     simp (c .some-row .ensures, d .b-at .ensures, d .before .a-at .ensures, d .before .before .before .tag-at .ensures)))
