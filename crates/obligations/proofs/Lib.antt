@@ -1,3 +1,4 @@
+pub mod Held
 pub mod Length
 pub mod Stands
 pub mod Walk

@@ -1,10 +1,10 @@
 -- Parts of the output: the row 89 of a refused table is all of it, and the rows of a sequent stand behind those of the sequents before it (reply's Output).
-use Prim.Native.Nat.{ℕ, _+_, _-_, _<_}
-use mathlib.Core.Path.{_≡_, refl, sym, ap, _∙_}
+use Prim.Native.Nat.{ℕ, _+_, _-_, _≤_, _<_}
+use mathlib.Core.Path.{_≡_, refl, sym, ap, ap₂, _∙_}
 use mathlib.Core.List.{List, [], _∷_, _++_, flatMap, append-nil}
 use native.Mathlib.Omega.{arith}
 use lib.ListN.{length, take, drop, length-append, drop-of-length-le}
-use lib.Seq.{take-append-seam, drop-append-seam}
+use lib.Seq.{take-append-seam, drop-append-seam, drop-drop, take-add}
 use Rattle.lists.specs.Below.{numbers}
 use Rattle.lists.specs.Over.{over}
 use Rattle.lists.proofs.Flat.{flat-join, numbers-join}
@@ -30,6 +30,18 @@ module _ (bytes : List ℕ) where
   stands-behind front part rest e = record {
     within = omega (arith, ap length e, length-append front (part ++ rest), length-append part rest);
     same = sym (ap (λ o. take (length part) (drop (length front) o)) e ∙ ap (take (length part)) (drop-append-seam front (part ++ rest)) ∙ take-append-seam part rest);
+  }
+
+  -- nothing stands everywhere, and a part and the part that stands behind it are one part
+  pub stands-none : (at : ℕ) → at ≤ length (output bytes) → StandsAt bytes at []
+  stands-none at h = record { within = omega arith; same = refl }
+
+  pub stands-join : {at : ℕ} {front back : List ℕ} → StandsAt bytes at front → StandsAt bytes (at + length front) back → StandsAt bytes at (front ++ back)
+  stands-join {at} {front} {back} f b = record {
+    within = omega (arith, f .within, b .within, length-append front back);
+    same =
+        ap₂ (λ (xs : List ℕ) (ys : List ℕ). xs ++ ys) (f .same) (b .same ∙ ap (take (length back)) (sym (drop-drop (length front) at (output bytes))))
+        ∙ sym (ap (λ n. take n (drop at (output bytes))) (length-append front back) ∙ take-add (length front) (length back) (drop at (output bytes)));
   }
 
   pub refusal-stands : (number at : ℕ) → verdict bytes ≡ Refused number at → StandsAt bytes 0 (rowBytes width (row 89 number at 0))

@@ -7,7 +7,7 @@ use Rattle.table.specs.Rows.{Rows}
 use Rattle.walk.specs.declared.Slot.{Slot}
 use Rattle.reply.specs.Printed.{sequentRows, rowsBytes}
 use Rattle.reply.specs.Replies.{output}
-use Rattle.services.specs.Found.{slotSequentOf}
+use Rattle.entries.specs.Segments.{slotSequent}
 
 -- the part stands in the output for these bytes, from this place on
 pub record StandsAt (bytes : List ℕ) (at : ℕ) (part : List ℕ) : Type 0 where
@@ -16,4 +16,4 @@ pub record StandsAt (bytes : List ℕ) (at : ℕ) (part : List ℕ) : Type 0 whe
 
 -- the rows of a slot's sequent
 abbrev pub slotBytes : Rows → Slot → List ℕ
-slotBytes t s = rowsBytes (sequentRows (slotSequentOf t s))
+slotBytes t s = rowsBytes (sequentRows (slotSequent t s))
