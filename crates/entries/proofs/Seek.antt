@@ -3,7 +3,6 @@
 use Prim.Native.Nat.{ℕ, _+_, _-_, _*_, _≤_, _<_}
 use mathlib.Core.Path.{_≡_, refl, sym, ap, ap₂, subst, _∙_}
 use mathlib.Core.Bool.{Bool, true, false}
-use mathlib.Core.List.{List, map}
 use native.Mathlib.Omega.{arith}
 use native.Mathlib.Numerals.{add-one}
 use lib.Dec.{ltb, eqb}
@@ -24,7 +23,6 @@ use Rattle.select.specs.Sought.{Passed}
 use Rattle.walk.specs.declared.Slot.{Slot}
 use Rattle.walk.specs.declared.Item.the-variants.{A}
 use Rattle.entries.specs.declared.Cursor.{Cursor}
-use Rattle.entries.specs.declared.Segment.{Segment}
 use Rattle.entries.specs.Segments.{segments, segmentOf, segmentTable, segmentAt, inSegment, segmentEntry, segment, hypothesisWalk, goalAt, segmentCount, hypothesesTo, hypothesisCount}
 use Rattle.entries.specs.Seek.{cursorAt, Stands, hypothesesBefore, OnEntry, SoughtEntry, entryAt}
 

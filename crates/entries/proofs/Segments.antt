@@ -3,7 +3,7 @@
 use Prim.Native.Nat.{ℕ, zero, suc, _+_, _<_}
 use mathlib.Core.Path.{_≡_, refl, sym, ap, ap₂, _∙_, subst, fun-ext}
 use mathlib.Core.Bool.{Bool, true, false, not, _&&_, _||_, and-comm}
-use mathlib.Core.List.{List, [], _∷_, _++_, map, flatMap, map-map, map-append, append-assoc, append-nil}
+use mathlib.Core.List.{List, [], _++_, map, flatMap, map-map, map-append, append-assoc, append-nil}
 use native.Mathlib.Omega.{arith}
 use lib.Dec.{eqb}
 use lib.ListN.{getD}
@@ -24,13 +24,13 @@ use Rattle.sequent.specs.Sequent.{Sequent, sequent}
 use Rattle.sequent.specs.Listed.{formulas, base, guarded, moved, allWritten, witnessEntries, parameterWitnesses, invHypotheses}
 use Rattle.sequent.specs.Required.{ownVariables}
 use Rattle.select.specs.declared.Selection.{Selection}
-use Rattle.select.specs.declared.Selection.the-variants.{None, Tagged, OfEvent, ForParameters, Identifiers}
+use Rattle.select.specs.declared.Selection.the-variants.{Tagged, OfEvent, ForParameters, Identifiers}
 use Rattle.select.specs.Selection.{rowOfEvent, parameterWitness, identifierAt, selects}
 use Rattle.walk.specs.declared.Slot.{Slot}
 use Rattle.walk.specs.Events.{isAbstract, isInitial, isConvergent, ownKind}
-use Rattle.walk.specs.Groups.{groups, groupAt, groupRows, each, when, headerKind, headerItem, axiomGroup, abstractInvariantGroup, concreteInvariantGroup, guardGroup, witnessGroup, grdGroup}
+use Rattle.walk.specs.Groups.{groups, groupAt, groupRows, when, headerKind, headerItem, axiomGroup, abstractInvariantGroup, concreteInvariantGroup, guardGroup, witnessGroup, grdGroup}
 use Rattle.walk.specs.Slots.{slotAt, slotCount}
-use Rattle.walk.proofs.Groups.{before, roleOf, writtenOf, baseAt, guardedAt, movedAt, witnessOf, made, by-role, variables-own, guards-rows, witnesses-rows, map-identifiers}
+use Rattle.walk.proofs.Groups.{roleOf, writtenOf, baseAt, guardedAt, movedAt, witnessOf, made, by-role, variables-own, guards-rows, witnesses-rows, map-identifiers}
 use Rattle.entries.specs.Segments.{upTo, ofNone, hasAbstract, hasConcrete, hasMoves, hasWitnesses, hasAbstractMoves}
 use Rattle.entries.specs.Segments.{segmentAt, segmentEntry, segment, hypothesisWalk, goalOf, goalAt, slotSequent}
 

@@ -13,7 +13,6 @@ use Rattle.lists.proofs.Over.{over-none, over-length, over-tail}
 use Rattle.row.specs.declared.Row.{Row}
 use Rattle.row.specs.Row.{rowBytes, width}
 use Rattle.table.specs.Rows.{Rows}
-use Rattle.sequent.specs.Entry.{Entry}
 use Rattle.reply.proofs.Printed.{rows-length, rows-join}
 use Rattle.reply.specs.Printed.{entryRow, rowsBytes}
 use Rattle.walk.specs.declared.Slot.{Slot}

@@ -167,8 +167,8 @@ impl Segment {
     }
 }
 
-// The invariants of a tag, where a slot has them, up to a group's own row.
-fn invariants(words: &[u64], slot: Slot, has: bool, tag: u64, group: u64) -> Segment
+// The axioms or invariants of a tag, where a slot has them, up to the row of a slot of their own group.
+fn formulas(words: &[u64], slot: Slot, has: bool, tag: u64, group: u64) -> Segment
     ensures { λ r. ⌜ r ≡ segmentOf (when has (Tagged tag)) (upTo (rowsOf (now (words .entry))) slot group) writtenForm columnA ⌝ }
 {
     let rows = when(has, Selection::Tagged(tag));
@@ -207,15 +207,15 @@ fn segment_at(words: &[u64], table: Table, slot: Slot, segment: u64) -> Segment
     ensures { λ r. ⌜ r ≡ segmentAt (rowsOf (now (words .entry))) slot segment ⌝ }
 {
     match segment {
-        Segment::AXIOMS => invariants(words, slot, true, tag::AXIOM, Group::AXIOM),
-        Segment::ABSTRACT_INVARIANTS => invariants(
+        Segment::AXIOMS => formulas(words, slot, true, tag::AXIOM, Group::AXIOM),
+        Segment::ABSTRACT_INVARIANTS => formulas(
             words,
             slot,
             has_abstract(words, table, slot),
             tag::ABSTRACT_INVARIANT,
             Group::ABSTRACT_INVARIANT,
         ),
-        Segment::CONCRETE_INVARIANTS => invariants(
+        Segment::CONCRETE_INVARIANTS => formulas(
             words,
             slot,
             has_concrete(words, table, slot),

@@ -40,11 +40,7 @@ module _ (P : ℕ → Bool) where
   count-at-most zero = omega arith
   count-at-most (suc n) = omega (arith, count-at-most n, one-at-most (P n))
 
-  -- none below 0, and one more row
-  pub count-none : countBelow P 0 ≡ 0
-  unfolding countBelow
-  count-none = refl
-
+  -- one more row
   pub count-next : (n : ℕ) → countBelow P (n + 1) ≡ countBelow P n + oneIf (P n)
   unfolding countBelow
   count-next n = rw add-one

@@ -2,15 +2,15 @@
 -- recursion on the list or on the bound.
 use Prim.Native.Nat.{ℕ, zero, suc, _+_, _-_, _*_, _≤_, _<_}
 use mathlib.Core.Path.{_≡_, refl, sym, ap, ap₂, _∙_, subst, fun-ext}
-use mathlib.Core.Bool.{Bool, true, false, _&&_, _||_}
+use mathlib.Core.Bool.{Bool, true, false, _&&_}
 use mathlib.Core.List.{List, [], _∷_, _++_, map, flatMap, map-id, map-append, append-assoc, append-nil}
 use mathlib.Core.Logic.{⊎-elim}
 use native.Mathlib.Nat.{eq-or-lt-of-le, suc-mul}
 use native.Mathlib.Omega.{arith}
-use lib.Dec.{T, ltb, eqb}
+use lib.Dec.{ltb}
 use lib.ListN.{length, getD, length-append, length-map, List·getD-append}
 use lib.Seq.{getD-append-add}
-use borrow.Author.Tests.{lt-ltb, le-ltb, eq-eqb, ne-eqb}
+use borrow.Author.Tests.{lt-ltb, le-ltb}
 use Rattle.lists.specs.Choice.{pick}
 use Rattle.lists.specs.All.{In, here, there}
 use Rattle.lists.specs.Below.{oneIf, countBelow, numbers, keep}
@@ -197,59 +197,6 @@ flat-below {B} f n m h =
     high : flatMap g (numbers (m - n) (0 + n)) ≡ []
     high = flat-same g (λ i. []) (numbers (m - n) (0 + n)) (λ i k. rw (le-ltb i n (omega (arith, in-numbers (m - n) (0 + n) i k .0))))
         ∙ flat-none (numbers (m - n) (0 + n))
-
-pub keep-below : (P : ℕ → Bool) (n m : ℕ) → n ≤ m → keep P (numbers n 0) ≡ keep (λ i. ltb i n && P i) (numbers m 0)
-keep-below P n m h =
-    keep-flat P (numbers n 0)
-    ∙ flat-below (λ i. pick (P i) (i ∷ []) []) n m h
-    ∙ flat-ext _ _ (numbers m 0) (λ i. sym (pick-and (ltb i n) (P i) (i ∷ [])))
-    ∙ sym (keep-flat (λ i. ltb i n && P i) (numbers m 0))
-
--- the numbers that are one number
-pub keep-only : (n i : ℕ) → i < n → keep (λ j. eqb j i) (numbers n 0) ≡ i ∷ []
-unfolding keep
-keep-only n i h =
-    ap (keep P) (numbers-split n i h)
-    ∙ keep-join P (numbers i 0) (i ∷ later)
-    ∙ ap₂ (λ (xs : List ℕ) (ys : List ℕ). xs ++ ys) (keep-none P (numbers i 0) (λ j k. ne-eqb j i (omega (arith, in-numbers i 0 j k .1))))
-    (ap (λ b. pick b (i ∷ keep P later) (keep P later)) (eq-eqb i i refl)
-    ∙ ap (λ xs. i ∷ xs) (keep-none P later (λ j k. ne-eqb j i (omega (arith, in-numbers (n - suc i) (suc i) j k .0)))))
-  where
-    P : ℕ → Bool
-    P j = eqb j i
-
-    later : List ℕ
-    later = numbers (n - suc i) (suc i)
-
--- where no number that passes Q is followed by one that passes P, those that pass P and then those that pass Q are those that pass either, in order
-pub keep-either : (P Q : ℕ → Bool) (n i : ℕ) → ((j k : ℕ) → j ≤ k → k < i + n → T (Q j) → T (P k) → ⊥)
-    → keep P (numbers n i) ++ keep Q (numbers n i) ≡ keep (λ j. P j || Q j) (numbers n i)
-unfolding numbers keep
-keep-either P Q zero i h = refl
-keep-either P Q (suc n) i h = by-tests (P i) (Q i) refl refl (keep-either P Q n (suc i) (λ j k l m. h j k l (omega arith)))
-  where
-    ps : List ℕ
-    ps = keep P (numbers n (suc i))
-
-    qs : List ℕ
-    qs = keep Q (numbers n (suc i))
-
-    both : List ℕ
-    both = keep (λ j. P j || Q j) (numbers n (suc i))
-
-    fails : (b : Bool) → (T b → ⊥) → b ≡ false
-    fails true f = absurd (f tt)
-    fails false f = refl
-
-    by-tests : (p q : Bool) → P i ≡ p → Q i ≡ q → ps ++ qs ≡ both
-        → pick p (i ∷ ps) ps ++ pick q (i ∷ qs) qs ≡ pick (p || q) (i ∷ both) both
-    by-tests true true d e r = absurd (h i i (omega arith) (omega arith) (subst T (sym e) tt) (subst T (sym d) tt))
-    by-tests true false d e r = ap (λ xs. i ∷ xs) r
-    by-tests false true d e r =
-        let none : ps ≡ [] = keep-none P (numbers n (suc i))
-        (λ k j. let b = in-numbers n (suc i) k j in fails (P k) (h i k (omega (arith, b .0)) (omega (arith, b .1)) (subst T (sym e) tt))) in
-        rw none (ap (λ xs. i ∷ xs) (rw none at r))
-    by-tests false false d e r = r
 
 -- lengths as sums
 pub keep-length : (P : ℕ → Bool) (n : ℕ) → length (keep P (numbers n 0)) ≡ countBelow P n

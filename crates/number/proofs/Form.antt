@@ -7,15 +7,13 @@ use Prim.Native.Nat.{ℕ, zero, suc, _≤_, _<_, _+_, _-_, _*_, _/_, _%_, _^_}
 use native.Mathlib.Numerals.{add-one}
 use native.Mathlib.Nat.{pow-suc}
 use native.Mathlib.Omega.{arith}
-use borrow.Author.Tests.{lt-ltb, le-ltb, le-leb, lt-leb, eq-eqb, ne-eqb, ltb-false, leb-true, leb-false, eqb-true, eqb-false}
+use borrow.Author.Tests.{lt-ltb, le-ltb, le-leb, lt-leb, ne-eqb, ltb-false, leb-true, leb-false, eqb-true, eqb-false}
 use lib.Dec.{ltb, leb, eqb}
 use lib.ListN.{length, length-append}
 use Rattle.lists.specs.Choice.{pick}
-use Rattle.number.specs.declared.Number.{Number}
 use Rattle.number.specs.declared.Number.the-variants.{Value, Malformed}
 use Rattle.number.specs.Number.{space, minus, digitZero, Text, Spaces, Minus, Digits, mostOf, lastOf, beforeDigits, beforeOf, textOf, columnsOf, restOf, Fits, inRange, InRange, InForm}
 use Rattle.number.specs.Reading.{digitNine, Scan, Prefix, Wrong, digitOf, afterSpaces, afterMinus, afterDigits, afterText, wordOf, textValue, stepOf, scanFrom, valueOf, numberOf}
-use Rattle.number.proofs.Columns.{written-length}
 use Rattle.number.proofs.Scan.{scan-wrong}
 
 wrong-never : (u : Text) → Wrong ≡ Prefix u → ⊥

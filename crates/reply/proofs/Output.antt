@@ -3,15 +3,16 @@
 use Prim.Native.Nat.{ℕ, suc, _+_, _-_, _≤_, _<_}
 use mathlib.Core.Path.{_≡_, refl, sym, ap, _∙_}
 use mathlib.Core.Bool.{_&&_}
-use mathlib.Core.List.{List, [], _∷_, _++_, flatMap}
+use mathlib.Core.List.{List, [], _∷_, _++_, flatMap, append-nil}
 use native.Mathlib.Omega.{arith}
 use lib.Dec.{leb, ltb}
-use lib.ListN.{length, getD}
+use lib.ListN.{length, getD, drop-of-length-le}
 use borrow.Author.Tests.{le-leb, le-ltb}
 use Rattle.lists.specs.Below.{numbers}
 use Rattle.lists.specs.Over.{over}
+use Rattle.lists.proofs.Below.{in-numbers}
 use Rattle.lists.proofs.Choice.{chosen, not-chosen}
-use Rattle.lists.proofs.Flat.{flat-join, flat-map, flat-ext, numbers-suc, numbers-join}
+use Rattle.lists.proofs.Flat.{flat-join, flat-same, flat-map, flat-ext, numbers-suc, numbers-join}
 use Rattle.row.specs.Row.{rowBytes, width}
 use Rattle.sequent.specs.Sequent.{Sequent}
 use Rattle.sequent.specs.Listed.{sequents}
@@ -68,6 +69,17 @@ module _ (bytes : List ℕ) where
         ap (λ v. writeBy (machine bytes) v k out) accepted
         ∙ chosen (among k n) _ _ (ap (λ b. b && leb k n) (le-leb 1 k low) ∙ le-leb k n high)
         ∙ not-chosen (ltb (length out) (length (sequentBytes (machine bytes) k))) _ _ (le-ltb (length out) (length (sequentBytes (machine bytes) k)) room)
+
+    -- "The printed bytes must equal those made sequent by sequent": whatever the buffers hold, each of exactly the room that its sequent takes
+    pub output-by-sequent : (outs : ℕ → List ℕ) → ((k : ℕ) → length (outs k) ≡ length (sequentBytes (machine bytes) k))
+        → output bytes ≡ flatMap (λ k. writeSequent bytes k (outs k) .buffer) (numbers n 1)
+    unfolding over
+    output-by-sequent outs room =
+        output-accepted
+        ∙ flat-same _ _ (numbers n 1) (λ k i. let (low, high) = in-numbers n 1 k i in
+        sym (ap (λ o. o .buffer) (sequent-written k (outs k) low (omega arith) (omega (arith, room k)))
+        ∙ ap (λ rest. sequentBytes (machine bytes) k ++ rest) (drop-of-length-le (outs k) {i = length (sequentBytes (machine bytes) k)} (omega (arith, room k)))
+        ∙ append-nil (sequentBytes (machine bytes) k)))
 
     -- the rows of a sequent stand behind those of the sequents before it
     pub output-split : (k : ℕ) → k < n → output bytes

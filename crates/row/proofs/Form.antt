@@ -10,16 +10,15 @@ use borrow.Author.Tests.{eqb-true}
 use lib.Dec.{eqb}
 use lib.ListN.{length, take, drop, getD, length-append, length-take, length-drop}
 use lib.Seq.{take-at, drop-at, getD-at, take-add, take-suc, take-all}
-use Rattle.number.specs.Number.{columnsOf, textOf, InRange, Fits, InForm}
+use Rattle.number.specs.Number.{columnsOf, textOf, InRange, Fits}
 use Rattle.number.specs.Reading.{numberOf}
 use Rattle.number.specs.declared.Number.{Number}
 use Rattle.number.specs.declared.Number.the-variants.{Value, Malformed}
 use Rattle.number.proofs.Columns.{written-length}
 use Rattle.number.proofs.Form.{number-form, written-reads}
 use Rattle.row.specs.declared.Row.{Row}
-use Rattle.row.specs.declared.Line.{Line}
 use Rattle.row.specs.declared.Line.the-variants as line
-use Rattle.row.specs.Row.{newline, rowBytes, rowLength, Writable, part}
+use Rattle.row.specs.Row.{newline, rowBytes, rowLength, Writable}
 use Rattle.row.specs.Reading.{joined, lineAt}
 
 pub row-length : (w : ℕ) (r : Row) → length (rowBytes w r) ≡ rowLength w

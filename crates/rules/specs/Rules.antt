@@ -8,7 +8,7 @@ use Rattle.table.specs.Names.{abstractInvariantTag, abstractMachine, abstractPa
 use Rattle.table.specs.Names.{booleanType, concreteInvariantTag, concreteMachine, concreteParameterKind, concreteVariableKind, constantKind}
 use Rattle.table.specs.Names.{convergentClass, eventTag, guardTag, identifierTag, initialisationClass, integerType}
 use Rattle.table.specs.Names.{nodeTag, ordinaryClass, predicateSort, variantTag, witnessTag}
-use Rattle.table.specs.Rows.{Rows, tagged, count, named, rowOf, numberIn, isAction, kindOf, typeOf, ownerOf, machineNumber, classOf, refinedBy}
+use Rattle.table.specs.Rows.{Rows, tagged, named, numberIn, isAction, typeOf, ownerOf, machineNumber, classOf, refinedBy}
 use Rattle.machine.specs.Operator.{equalNumber, operandSort}
 use Rattle.rules.specs.Tags.{columnsUsed, rowLimit}
 use Rattle.rules.specs.Sorts.{Shape, value, anIdentifier, aVariable, none, one, two, unknown, shapeOf, operandCount, sortOf, fitting}

@@ -1,12 +1,12 @@
 -- 01, Rows: "A formula may mention": what the formula whose root a row names may mention, of identifiers and of after values.
 use Prim.Native.Nat.{ℕ, _+_}
-use mathlib.Core.Bool.{Bool, true, false, not, _&&_, _||_}
+use mathlib.Core.Bool.{Bool, false, not, _&&_, _||_}
 use lib.Dec.{eqb}
 use Rattle.lists.specs.Choice.{pick}
 use Rattle.formula.specs.Mentions.{mentions}
 use Rattle.table.specs.Names.{abstractInvariantTag, abstractParameterKind, abstractVariableKind, axiomTag, becomesSuchTag, concreteInvariantTag}
 use Rattle.table.specs.Names.{concreteParameterKind, concreteVariableKind, constantKind, initialisationClass, variantTag, witnessTag}
-use Rattle.table.specs.Rows.{Rows, tagged, isAction, kindOf, ownerOf, machineNumber, classOf}
+use Rattle.table.specs.Rows.{Rows, tagged, kindOf, ownerOf, machineNumber, classOf}
 use Rattle.machine.specs.Described.{treeOf}
 
 module _ (t : Rows) where

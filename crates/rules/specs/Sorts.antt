@@ -1,7 +1,7 @@
 -- 01, Rows: what the columns of a node hold, by its operator, and the sort of a node.
 use Prim.Native.Nat.{ℕ}
-use mathlib.Core.Bool.{Bool, true, false, _&&_, _||_}
-use lib.Dec.{eqb, leb}
+use mathlib.Core.Bool.{Bool, true, false, _||_}
+use lib.Dec.{eqb}
 use Rattle.lists.specs.Choice.{pick}
 use Rattle.table.specs.Names.{booleanType, integerType}
 use Rattle.table.specs.Rows.{Rows, operatorOf, leftOf, typeOf}

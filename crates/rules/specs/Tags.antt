@@ -1,6 +1,5 @@
 -- 01, Rows: the table of tags: which of the columns a, b, c a tag uses, and how many rows it may have.
 use Prim.Native.Nat.{ℕ}
-use mathlib.Core.Bool.{Bool, true, false}
 use mathlib.Core.List.{List, [], _∷_}
 use lib.Dec.{eqb}
 use Rattle.lists.specs.Choice.{pick}

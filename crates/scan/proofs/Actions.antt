@@ -13,7 +13,6 @@ use lib.ListN.{length, getD, set, length-set}
 use lib.Seq.{getD-set-same, getD-set-other}
 use Rattle.lists.specs.Choice.{pick}
 use Rattle.lists.specs.Below.{NoneBelow, first}
-use Rattle.lists.proofs.Choice.{chosen, not-chosen}
 use Rattle.lists.proofs.First.{first-at, first-none, none-next}
 use Rattle.table.specs.Names.{becomesEqualTag, variantTag}
 use Rattle.table.specs.Rows.{Rows, isAction}

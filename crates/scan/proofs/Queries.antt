@@ -11,7 +11,7 @@ use Rattle.lists.proofs.Below.{count-stays}
 use Rattle.table.specs.Names.{becomesEqualTag, becomesSuchTag, witnessTag}
 use Rattle.table.specs.Rows.{Rows, tagged, isAction}
 use Rattle.scan.specs.declared.Query.{Query}
-use Rattle.scan.specs.declared.Query.the-variants.{CountedWith, Event, SameTarget, Initialises, Assigns, Witnesses, Convergent, Tagged}
+use Rattle.scan.specs.declared.Query.the-variants.{Event, SameTarget, Initialises, Assigns, Witnesses, Convergent, Tagged}
 use Rattle.scan.specs.Query.{actionTag, queryTag, passesOf}
 use Rattle.scan.specs.Span.{Spans}
 use Rattle.scan.specs.Spans.{ofTag, tagSpan}
@@ -71,7 +71,6 @@ module _ (t : Rows) where
       by-action false e o = o
 
   outside : (q : Query) (j : ℕ) → ofTag t (queryTag q) j ≡ false → passesOf t q j ≡ false
-  outside (CountedWith other) j o = counted-tag other (t .tag j) ∙ o
   outside (Event machine) j o = rw o
   outside (SameTarget other event target) j o = rw (same-outside other (t .tag j) o)
   outside (Initialises machine) j o = rw o

@@ -123,10 +123,6 @@ module _ (P : ℕ → Bool) where
       fails j true e h = absurd (omega (arith, not-before-from n j e (omega (arith, from-at-most n))))
       fails j false e h = e
 
--- nor a stricter test
-pub in-span-stricter : (P Q : ℕ → Bool) → ((i : ℕ) → Q i ≡ true → P i ≡ true) → (n i : ℕ) → Q i ≡ true → i < n → (spanFrom P n ≤ i) × (i < spanTo P n)
-in-span-stricter P Q f n i e = in-span P n i (f i e)
-
 -- The span of a tag, as one of every test that only rows of the tag pass.
 module _ (t : Rows) where
   pub tag-spans : (k : ℕ) → Spans (ofTag t k) (t .size) (tagSpan t k)

@@ -1,5 +1,5 @@
 -- The last number that passes by recursion on the bound; and what a span of a test says of searches and counts.
-use Prim.Native.Nat.{ℕ, zero, suc, _+_, _≤_, _<_}
+use Prim.Native.Nat.{ℕ, zero, suc, _≤_, _<_}
 use mathlib.Core.Path.{_≡_, refl, sym, subst}
 use mathlib.Core.Bool.{Bool, true, false}
 use mathlib.Core.Logic.{_⊎_, ⊎-elim}
@@ -7,8 +7,7 @@ use native.Mathlib.Omega.{arith}
 use native.Mathlib.Nat.{eq-or-lt-of-le}
 use native.Mathlib.Decide.{decLt}
 use Rattle.lists.specs.Choice.{pick}
-use Rattle.lists.specs.Below.{NoneBelow, countBelow}
-use Rattle.lists.proofs.Below.{count-stays, count-none-below}
+use Rattle.lists.specs.Below.{NoneBelow}
 use Rattle.scan.specs.declared.Span.{Span}
 use Rattle.scan.specs.Span.{Spans}
 use Rattle.scan.specs.Spans.{spanTo}
@@ -43,10 +42,3 @@ module _ (P : ℕ → Bool) where
   -- the span of a test is one of every stricter test
   pub spans-stricter : (Q : ℕ → Bool) → ((j : ℕ) → P j ≡ false → Q j ≡ false) → {n : ℕ} {s : Span} → Spans P n s → Spans Q n s
   spans-stricter Q f h = record { within = h .within; below = λ j l. f j (h .below j l); above = λ j g l. f j (h .above j g l) }
-
-  -- none is counted before the span, and behind it the count stays
-  pub spans-count-from : {n : ℕ} {s : Span} → Spans P n s → countBelow P (s .from) ≡ 0
-  spans-count-from {s = s} h = count-none-below P (s .from) (h .below)
-
-  pub spans-count-to : {n : ℕ} {s : Span} → Spans P n s → countBelow P (s .to) ≡ countBelow P n
-  spans-count-to {n} {s} h = count-stays P (s .to) n (h .within) (h .above)

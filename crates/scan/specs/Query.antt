@@ -6,7 +6,7 @@ use Rattle.lists.specs.Choice.{pick}
 use Rattle.table.specs.Names.{eventTag, becomesEqualTag, witnessTag, becomesSuchTag, convergentClass, initialisationClass}
 use Rattle.table.specs.Rows.{Rows}
 use Rattle.scan.specs.declared.Query.{Query}
-use Rattle.scan.specs.declared.Query.the-variants.{CountedWith, Event, SameTarget, Initialises, Assigns, Witnesses, Convergent, Tagged}
+use Rattle.scan.specs.declared.Query.the-variants.{Event, SameTarget, Initialises, Assigns, Witnesses, Convergent, Tagged}
 
 -- the tag under which the rows of a tag stand
 abbrev pub spanTag : ℕ → ℕ
@@ -17,7 +17,6 @@ abbrev pub actionTag : ℕ → Bool
 actionTag tag = eqb tag becomesEqualTag || eqb tag becomesSuchTag
 
 abbrev pub holds : Query → ℕ → ℕ → ℕ → Bool
-holds (CountedWith other) tag a b = eqb tag other || (actionTag other && actionTag tag)
 holds (Event machine) tag a b = eqb tag eventTag && eqb a machine
 holds (SameTarget other event target) tag a b = ((actionTag other && actionTag tag) || (eqb other witnessTag && eqb tag witnessTag)) && (eqb a event && eqb b target)
 holds (Initialises machine) tag a b = (eqb tag eventTag && eqb a machine) && eqb b initialisationClass
@@ -28,7 +27,6 @@ holds (Tagged k) tag a b = eqb tag k
 
 -- the tag under which the rows that pass stand
 abbrev pub queryTag : Query → ℕ
-queryTag (CountedWith other) = spanTag other
 queryTag (Event machine) = eventTag
 queryTag (SameTarget other event target) = spanTag other
 queryTag (Initialises machine) = eventTag

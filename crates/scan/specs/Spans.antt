@@ -30,6 +30,13 @@ ofTag t k i = pick (eqb k becomesEqualTag) (isAction t i) (tagged t k i)
 abbrev pub tagSpan : Rows → ℕ → Span
 tagSpan t k = record { from = spanFrom (ofTag t k) (t .size); to = spanTo (ofTag t k) (t .size) }
 
+-- 01, the table of rows: "most rows"
+abbrev pub eventLimit : ℕ
+eventLimit = 32
+
+abbrev pub identifierLimit : ℕ
+identifierLimit = 64
+
 -- two numbers for each tag up to the highest; and behind them one for each event and identifier up to their limits, for the event's action
 abbrev pub actionAt : ℕ → ℕ → ℕ
 actionAt e x = 142 + (65 * e + x)
@@ -50,7 +57,7 @@ firstNoted P (suc n) = pick (P n && eqb (firstNoted P n) 0) (suc n) (firstNoted 
 
 -- a list holds the first of the first n rows that is an action of an event for an identifier, for all up to the limits
 abbrev pub ActionsTo : Rows → ℕ → List ℕ → Type 0
-ActionsTo t n spans = (e x : ℕ) → e ≤ 32 → x ≤ 64 → getD spans (actionAt e x) 0 ≡ firstNoted (passesOf t (Assigns e x)) n
+ActionsTo t n spans = (e x : ℕ) → e ≤ eventLimit → x ≤ identifierLimit → getD spans (actionAt e x) 0 ≡ firstNoted (passesOf t (Assigns e x)) n
 
 -- among all rows: what is looked for once
 pub record Spanned (t : Rows) (spans : List ℕ) : Type 0 where

@@ -18,13 +18,11 @@ ghost use lib.Dec.{eqb, ltb, leb};
 ghost use Rattle.scan.specs.Query.{holds, queryTag, passesOf};
 ghost use Rattle.scan.specs.Span.{Spans};
 ghost use Rattle.scan.specs.declared.Query.the-variants.{Assigns};
-ghost use Rattle.scan.specs.Spans.{spanWords, tagSpan, actionAt, Spanned, SpannedTo, ActionsTo, noted};
+ghost use Rattle.scan.specs.Spans.{eventLimit, identifierLimit, spanWords, tagSpan, actionAt, Spanned, SpannedTo, ActionsTo, noted};
 ghost use Rattle.scan.specs.Query.{spanTag};
 
 // A test of a row, with the numbers that it compares the row's with.
 pub enum Query {
-    // counted together with the rows of a tag
-    CountedWith(u64),
     // an event of a machine (check 5)
     Event(u64),
     // an action, or a witness, of the same event for the same target as another row's (check 11)
@@ -46,11 +44,6 @@ fn passes(query: Query, tag: u64, a: u64, b: u64) -> bool
     ensures { λ r. ⌜ r ≡ holds query tag a b ⌝ }
 {
     match query {
-        Query::CountedWith(other) => {
-            (tag == other)
-                | (((other == tag::BECOMES_EQUAL) | (other == tag::BECOMES_SUCH))
-                    & ((tag == tag::BECOMES_EQUAL) | (tag == tag::BECOMES_SUCH)))
-        }
         Query::Event(machine) => (tag == tag::EVENT) & (a == machine),
         Query::SameTarget {
             tag: other,
@@ -136,7 +129,7 @@ fn note_row(words: &[u64], spans: &mut [usize], i: usize)
 
 // Where the action of an event for an identifier is noted.
 fn action_at(event: u64, target: u64) -> usize
-    requires { ⌜ (event ≤ 32) × (target ≤ 64) ⌝ }
+    requires { ⌜ (event ≤ eventLimit) × (target ≤ identifierLimit) ⌝ }
     ensures { λ r. ⌜ r ≡ actionAt event target ⌝ }
     ensures { λ r. ⌜ r < spanWords ⌝ }
 {
@@ -153,7 +146,7 @@ fn first_noted(noted: usize, i: usize) -> usize
 
 // Whether row i is an action of an event for an identifier up to their limits.
 fn is_noted(words: &[u64], i: usize) -> bool
-    ensures { λ r. ⌜ r ≡ (isAction (rowsOf (now (words .entry))) i && (leb (rowsOf (now (words .entry)) .a i) 32 && leb (rowsOf (now (words .entry)) .b i) 64)) ⌝ }
+    ensures { λ r. ⌜ r ≡ (isAction (rowsOf (now (words .entry))) i && (leb (rowsOf (now (words .entry)) .a i) eventLimit && leb (rowsOf (now (words .entry)) .b i) identifierLimit)) ⌝ }
 {
     let tag = tag_at(words, i);
     let event = a_at(words, i);
@@ -290,7 +283,6 @@ fn query_tag(query: Query) -> u64
     ensures { λ r. ⌜ r ≡ queryTag query ⌝ }
 {
     match query {
-        Query::CountedWith(tag) => span_tag(tag),
         Query::Event(machine) => tag::EVENT,
         Query::SameTarget { tag, event, target } => span_tag(tag),
         Query::Initialises(machine) => tag::EVENT,

@@ -13,7 +13,7 @@ use Rattle.lists.proofs.Below.{count-next, count-stays}
 use Rattle.scan.specs.declared.Span.{Span}
 use Rattle.scan.specs.Span.{Spans}
 use Rattle.select.specs.declared.Sought.{Sought}
-use Rattle.select.specs.Sought.{placeOf, Passed}
+use Rattle.select.specs.Sought.{placeOf}
 
 abbrev pub sought : ℕ → ℕ → Sought
 sought row left = record { row = row; left = left }

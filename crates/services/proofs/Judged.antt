@@ -1,19 +1,17 @@
 -- A table that is judged accepted is accepted with the count of its sequents.
-use Prim.Native.Nat.{ℕ, _+_, _≤_, _<_}
-use mathlib.Core.Path.{_≡_, refl, sym, ap, _∙_}
+use Prim.Native.Nat.{ℕ, _≤_}
+use mathlib.Core.Path.{_≡_, refl, sym, _∙_}
 use mathlib.Core.Bool.{Bool, true, false}
 use native.Mathlib.Omega.{arith}
 use lib.Dec.{ltb}
 use lib.ListN.{length}
 use borrow.Author.Tests.{ltb-true, ltb-false}
-use Rattle.lists.proofs.First.{first-least}
-use Rattle.table.specs.Rows.{Rows, Rising}
+use Rattle.table.specs.Rows.{Rows}
 use Rattle.machine.specs.Described.{machineOf}
 use Rattle.sequent.specs.Listed.{sequents}
 use Rattle.rules.specs.declared.Verdict.the-variants.{Accepted, Refused}
-use Rattle.rules.specs.Rules.{offends, missing}
-use Rattle.rules.specs.Verdict.{firstRow, firstCheck, judge}
-use Rattle.rules.proofs.Tags.{rows-rising}
+use Rattle.rules.specs.Rules.{missing}
+use Rattle.rules.specs.Verdict.{firstCheck, judge}
 use Rattle.rules.proofs.Cases.{judge-row, judge-missing, judge-accepted}
 
 module _ (t : Rows) (n : ℕ) (accepted : judge t ≡ Accepted n) where

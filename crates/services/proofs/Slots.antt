@@ -1,6 +1,6 @@
 -- A slot's sequent as rows: its header, then its entries; how many they are; and which entry is spelled.
-use Prim.Native.Nat.{ℕ, zero, suc, _+_, _-_, _*_, _/_, _≤_, _<_}
-use mathlib.Core.Path.{_≡_, refl, sym, ap, ap₂, _∙_}
+use Prim.Native.Nat.{ℕ, zero, suc, _+_, _-_, _/_, _≤_, _<_}
+use mathlib.Core.Path.{_≡_, refl, sym, ap, _∙_}
 use mathlib.Core.Bool.{Bool, true, false, not, _&&_, true≢false}
 use mathlib.Core.List.{List, [], _∷_, _++_, map, flatMap}
 use native.Mathlib.Omega.{arith}
@@ -21,7 +21,7 @@ use Rattle.sequent.proofs.Numbers.{entry-of-numbers}
 use Rattle.reply.specs.declared.Reply.the-variants as reply
 use Rattle.reply.specs.Printed.{entryRow, sequentRows, rowsBytes}
 use Rattle.reply.specs.Spelled.{spell}
-use Rattle.reply.specs.Replies.{Outcome, refused, writeRows, among, entries, spellAt}
+use Rattle.reply.specs.Replies.{refused, writeRows, among, entries, spellAt}
 use Rattle.entries.specs.Segments.{hypothesisWalk, goalAt, slotSequent, hypothesisCount}
 use Rattle.entries.specs.Seek.{entryAt}
 use Rattle.entries.specs.Written.{hypothesisRows, entryRows}

@@ -1,10 +1,10 @@
 -- Where the identifiers, the nodes and the events of a table stand, as the code holds it: counted row by row.
-use Prim.Native.Nat.{ℕ, zero, suc, _+_, _<_, _^_}
+use Prim.Native.Nat.{ℕ, _+_, _<_, _^_}
 use lib.Dec.{ltb, eqb}
 use Rattle.lists.specs.Below.{oneIf, countBelow}
 use Rattle.table.specs.Names.{eventTag, identifierTag, nodeTag}
 use Rattle.table.specs.declared.Table.{Table as Counts}
-use Rattle.table.specs.Rows.{Rows, count, start}
+use Rattle.table.specs.Rows.{Rows}
 
 abbrev pub emptyCounts : Counts
 emptyCounts = record { «identifiers_start» = 0; identifiers = 0; «nodes_start» = 0; nodes = 0; «events_start» = 0; events = 0 }

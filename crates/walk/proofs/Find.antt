@@ -22,14 +22,10 @@ use Rattle.walk.proofs.Groups.{made, slot, groupSlots}
 use Rattle.walk.proofs.Walk.{slot-count, eventSlots, walk, group-length, event-length, walked}
 
 module _ (t : Rows) where
-  -- the steps of the walk: from the start, to the next row, past the last row to the next group, past the last group to the next event, to the end
+  -- the steps of the walk: from the start, past the last row to the next group, past the last group to the next event, to the end
   pub walk-start : walkTo t 0 0 0 ≡ 0
   unfolding walkTo sumBelow
   walk-start = refl
-
-  pub walk-row : (e g i : ℕ) → walkTo t e g (i + 1) ≡ walkTo t e g i + slotCount t e g i
-  unfolding walkTo sumBelow
-  walk-row e g i = rw (add-one i) (omega arith)
 
   pub walk-group : (e g : ℕ) → walkTo t e (g + 1) 0 ≡ walkTo t e g (t .size)
   unfolding walkTo sumBelow

@@ -1,15 +1,15 @@
 -- The list of sequents is what the slots hold, in their order, and there are as many as the slots count, for any table. Group by group (Groups).
-use Prim.Native.Nat.{ℕ, suc, _+_, _≤_, _<_}
+use Prim.Native.Nat.{ℕ, _+_, _≤_}
 use mathlib.Core.Path.{_≡_, refl, sym, ap, ap₂, _∙_}
 use mathlib.Core.Bool.{Bool, true, false}
-use mathlib.Core.List.{List, [], _∷_, _++_, flatMap, append-assoc, append-nil}
+use mathlib.Core.List.{List, [], _++_, flatMap, append-assoc, append-nil}
 use native.Mathlib.Omega.{arith}
 use native.Mathlib.Numerals.{add-one}
 use lib.Dec.{ltb, eqb}
 use lib.ListN.{length, List·getD-eq-default}
 use borrow.Author.Tests.{ltb-true, ltb-false, ne-eqb}
 use Rattle.lists.specs.Choice.{pick}
-use Rattle.lists.specs.All.{All, all-nil, all-cons, In}
+use Rattle.lists.specs.All.{All, all-nil, all-cons}
 use Rattle.lists.specs.Below.{numbers}
 use Rattle.lists.proofs.All.{all-at}
 use Rattle.lists.proofs.Below.{numbers-in, in-numbers}

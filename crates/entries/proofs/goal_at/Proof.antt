@@ -1,5 +1,5 @@
 -- Kind and item are the header's.
-use mathlib.Core.Path.{ap, ap₂, _∙_}
+use mathlib.Core.Path.{ap₂, _∙_}
 use Rattle.table.specs.Rows.{rowsOf}
 use Rattle.sequent.specs.Numbers.{numbersOf}
 use Rattle.entries.specs.Segments.{goalOf}

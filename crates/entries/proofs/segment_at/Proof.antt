@@ -34,13 +34,13 @@ segment-at-spec = tie.close (tie.spec
     (λ c κs. search needs)
     (λ c. let a = c .before .before .before .args in
     let t = rowsOf (a .words .now) in
-    let g : a .segment ≡ 0 = omega arith in at-number t (a .slot) 0 g (c .invariants .ensures))
+    let g : a .segment ≡ 0 = omega arith in at-number t (a .slot) 0 g (c .formulas .ensures))
     (λ c. let a = c .before .before .before .before .args in
     let t = rowsOf (a .words .now) in
-    let g : a .segment ≡ 1 = omega arith in at-number t (a .slot) 1 g (c .invariants2 .ensures ∙ ap (λ b. segmentOf (when b (Tagged 31)) (upTo t (a .slot) 1) 1 A) (c .before .has-abstract .ensures)))
+    let g : a .segment ≡ 1 = omega arith in at-number t (a .slot) 1 g (c .formulas2 .ensures ∙ ap (λ b. segmentOf (when b (Tagged 31)) (upTo t (a .slot) 1) 1 A) (c .before .has-abstract .ensures)))
     (λ c. let a = c .before .before .before .before .args in
     let t = rowsOf (a .words .now) in
-    let g : a .segment ≡ 2 = omega arith in at-number t (a .slot) 2 g (c .invariants3 .ensures ∙ ap (λ b. segmentOf (when b (Tagged 32)) (upTo t (a .slot) 2) 1 A) (c .before .has-concrete .ensures)))
+    let g : a .segment ≡ 2 = omega arith in at-number t (a .slot) 2 g (c .formulas3 .ensures ∙ ap (λ b. segmentOf (when b (Tagged 32)) (upTo t (a .slot) 2) 1 A) (c .before .has-concrete .ensures)))
     (λ c. let a = c .before .before .before .args in
     let t = rowsOf (a .words .now) in
     let g : a .segment ≡ 3 = omega arith in at-number t (a .slot) 3 g (c .guards .ensures))

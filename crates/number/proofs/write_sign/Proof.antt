@@ -1,5 +1,4 @@
 -- The minus of a negative number is stored if there is a column for it; otherwise the columns stay as they are.
-use native.Mathlib.Omega.{arith}
 use Rattle.number.specs.Number.{Minus}
 use Rattle.number.proofs.Columns.{sign-stored, no-columns, all-blank}
 use borrow.Author.Needs.{needs}

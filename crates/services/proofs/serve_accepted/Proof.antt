@@ -3,7 +3,6 @@ use mathlib.Core.Path.{ap, sym, _∙_}
 use native.Mathlib.Omega.{arith}
 use Rattle.table.specs.Rows.{rowsOf}
 use Rattle.machine.specs.Described.{machineOf}
-use Rattle.sequent.specs.Listed.{sequents}
 use Rattle.reply.specs.Replies.{among}
 use Rattle.lists.proofs.Choice.{chosen, not-chosen}
 use Rattle.services.specs.Found.{serveAt}

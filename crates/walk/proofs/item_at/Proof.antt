@@ -1,8 +1,5 @@
 -- By cases on the item.
-use mathlib.Core.Path.{sym, ap, _∙_}
 use native.Mathlib.Omega.{arith}
-use Rattle.table.specs.Rows.{rowsOf}
-use Rattle.walk.specs.Groups.{itemAt}
 use borrow.Author.Needs.{needs}
 use Rattle.walk.proofs.item_at.Statement.{statement}
 use Rattle.walk.proofs.item_at.Tie as tie

@@ -1,5 +1,4 @@
 -- By whether the group is the last.
-use Prim.Native.Nat.{_+_}
 use borrow.Author.Tests.{lt-ltb, le-ltb}
 use Rattle.walk.specs.Groups.{groups}
 use borrow.Author.Needs.{needs}

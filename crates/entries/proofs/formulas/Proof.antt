@@ -3,11 +3,11 @@ use mathlib.Core.Path.{ap₂, _∙_}
 use Rattle.walk.specs.declared.Item.the-variants.{A}
 use Rattle.entries.specs.Segments.{segmentOf}
 use borrow.Author.Needs.{needs}
-use Rattle.entries.proofs.invariants.Statement.{statement}
-use Rattle.entries.proofs.invariants.Tie as tie
+use Rattle.entries.proofs.formulas.Statement.{statement}
+use Rattle.entries.proofs.formulas.Tie as tie
 
-pub invariants-spec : {M : Type 1} → statement M
-invariants-spec = tie.close (tie.spec
+pub formulas-spec : {M : Type 1} → statement M
+formulas-spec = tie.close (tie.spec
     (λ c κs. search needs)
     (λ c κs. search needs)
     (λ c κs. search needs)
