@@ -55,7 +55,7 @@ extern "C" {
 #define SIFTHORMA_ROW 38
 
 /* The bytes of stack of a thread that calls: see Stack above. */
-#define SIFTHORMA_STACK 327680
+#define SIFTHORMA_STACK 393216
 
 /* The refusals, by the numbers that the functions return. */
 enum {

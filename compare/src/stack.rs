@@ -10,7 +10,7 @@ use std::thread::{scope, Builder};
 
 /// Bytes of stack for a thread that calls the library, as include/sifthorma.h states them: the largest use measured
 /// (`compare stack`) and a third more, up to a multiple of 64 KB, which is whole pages on every system.
-pub const STACK: usize = 5 * 64 * 1024;
+pub const STACK: usize = 6 * 64 * 1024;
 
 /// Makes the call on a thread with so many bytes of stack. The C library may reuse the stack of an ended thread that is up to
 /// four times as large; all other threads here have more than that.
