@@ -1,5 +1,4 @@
 -- 01, Rows: the operators by their numbers, what a node of each is, the sort of its operands and its own.
-use mathlib.Core.Bool.{Bool, true, false}
 use mathlib.Core.List.{List, [], _∷_}
 use Prim.Native.Nat.{ℕ}
 use lib.Dec.{eqb}
