@@ -95,7 +95,7 @@ fn with_sequents(random: &mut Random) -> Vec<u8> {
 
 /// A table with this refusal: damage is tried until it has it.
 fn refused(number: i32, random: &mut Random) -> Vec<u8> {
-    for _ in 0..200 {
+    for _ in 0..20_000 {
         let table = aimed(number, &accepted_draft(random), random);
         if accept(&table).is_err_and(|refusal| refusal.number == number) {
             return table;
