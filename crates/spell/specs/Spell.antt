@@ -23,6 +23,8 @@ use Rattle.rules.specs.Sorts.{Shape, value, anIdentifier, aVariable, none, one,
 use Rattle.reply.specs.Printed.{rowsBytes}
 use Rattle.reply.specs.Spelled.{spelled, spellTree, spell}
 use Rattle.spell.specs.declared.Node.{Node}
+use Rattle.spell.specs.Operators.{literalNumber, identifierNumber, afterNumber, quotientNumber, remainderNumber, equalsNumber, bottomNumber}
+use Rattle.spell.specs.Operators.{notNumber, andNumber, orNumber, impliesNumber}
 
 -- refusal 15, room: a count above every buffer's room is as good as the cap, since a buffer has fewer than 2^64 bytes
 abbrev pub cap : ℕ
@@ -51,12 +53,12 @@ leaf operator b = record { operator = operator; b = b; operands = 0; left = 0; r
 -- a node by its operator's shape: an identifier's row is operator 3 where it is a variable at its after value
 abbrev pub nodeBy : Shape → ℕ → Bool → ℕ → ℕ → ℕ → Node
 nodeBy value o primed b l r = leaf o b
-nodeBy anIdentifier o primed b l r = leaf (pick primed 3 2) b
+nodeBy anIdentifier o primed b l r = leaf (pick primed afterNumber identifierNumber) b
 nodeBy aVariable o primed b l r = leaf o b
 nodeBy none o primed b l r = leaf o 0
 nodeBy one o primed b l r = record { operator = o; b = 0; operands = 1; left = l; right = 0 }
 nodeBy two o primed b l r = record { operator = o; b = 0; operands = 2; left = l; right = r }
-nodeBy unknown o primed b l r = leaf 31 0
+nodeBy unknown o primed b l r = leaf bottomNumber 0
 
 -- "in prefix order": after a node's row those of its operands, as many as it has, from those of the left one and the right one
 abbrev pub operandRows : ℕ → List Row → List Row → List Row
@@ -67,25 +69,25 @@ operandRows (suc (suc k)) l r = l ++ r
 -- 01, Well-definedness, of a pair in prefix order: the rows before WD(a), those between it and WD(b), given a's, and those after it, given b's
 -- "÷ and mod"
 abbrev pub divides : ℕ → Bool
-divides operator = eqb operator 13 || eqb operator 14
+divides operator = eqb operator quotientNumber || eqb operator remainderNumber
 
 -- "Other pairs: WD(a) ∧ WD(b), but ÷ and mod: (WD(a) ∧ WD(b)) ∧ ¬(b = 0)": one ∧, or two
 unfoldable pub openingRows : ℕ → List Row
-openingRows operator = pick (divides operator) (spelled 33 0 ∷ spelled 33 0 ∷ []) (spelled 33 0 ∷ [])
+openingRows operator = pick (divides operator) (spelled andNumber 0 ∷ spelled andNumber 0 ∷ []) (spelled andNumber 0 ∷ [])
 
 -- "P ∧ Q and P ⇒ Q: WD(P) ∧ (P ⇒ WD(Q)); P ∨ Q: WD(P) ∧ (P ∨ WD(Q))"
 unfoldable pub guardRows : ℕ → List Row → List Row
-guardRows operator left = pick (eqb operator 33 || eqb operator 35) (spelled 35 0 ∷ left) (pick (eqb operator 34) (spelled 34 0 ∷ left) [])
+guardRows operator left = pick (eqb operator andNumber || eqb operator impliesNumber) (spelled impliesNumber 0 ∷ left) (pick (eqb operator orNumber) (spelled orNumber 0 ∷ left) [])
 
 -- "¬(b = 0)" of ÷ and mod
 unfoldable pub closingRows : ℕ → List Row → List Row
-closingRows operator right = pick (divides operator) (spelled 32 0 ∷ ((spelled 20 0 ∷ right) ++ (spelled 1 0 ∷ []))) []
+closingRows operator right = pick (divides operator) (spelled notNumber 0 ∷ ((spelled equalsNumber 0 ∷ right) ++ (spelled literalNumber 0 ∷ []))) []
 
 module _ (t : Rows) where
   -- what node n is spelled by: the operator and b of its row, how many operands follow it, and their nodes; primed is form 2
   unfoldable pub nodeOf : Bool → ℕ → Node
   nodeOf primed n =
-      pick (eqb n 0) (leaf 31 0)
+      pick (eqb n 0) (leaf bottomNumber 0)
       (nodeBy (shapeOf (operatorOf t n)) (operatorOf t n) (primed && isVariableNumber t (leftOf t n)) (leftOf t n) (operandNode n (leftOf t n)) (operandNode n (rightOf t n)))
 
   -- "1 node as written; 2 node with every variable at its after value", the latter where primed

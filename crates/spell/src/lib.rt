@@ -26,7 +26,8 @@ ghost use Rattle.table.specs.Rows.{rowsOf};
 ghost use Rattle.table.specs.Lookups.{isVariableNumber};
 ghost use Rattle.table.specs.Counts.{countsOf};
 ghost use Rattle.rule_references.specs.Operator.{meantShape};
-ghost use Rattle.reply.specs.Spelled.{spelled};
+ghost use Rattle.reply.specs.Spelled.{spelled, someValueNumber, someAfterValueNumber};
+ghost use Rattle.spell.specs.Operators.{literalNumber, identifierNumber, afterNumber, equalsNumber, lessNumber};
 ghost use Rattle.spell.specs.Spell.{capped, restStart, Spelled, leaf, nodeBy, operandRows, nodeOf, shownRows, definedRows, openingRows, guardRows, closingRows, movesRows, witnessNode, entryRows};
 
 // More rows than any buffer has room for.
@@ -96,9 +97,13 @@ fn leaf(operator: u64, b: u64) -> Node
 
 // The operator of an identifier's row, its after value where primed.
 fn identifier_operator(primed: bool) -> u64
-    ensures { λ r. ⌜ r ≡ pick primed 3 2 ⌝ }
+    ensures { λ r. ⌜ r ≡ pick primed afterNumber identifierNumber ⌝ }
 {
-    if primed { 3 } else { 2 }
+    if primed {
+        operator::AFTER
+    } else {
+        operator::IDENTIFIER
+    }
 }
 
 // A node by its operator's shape.
@@ -240,7 +245,7 @@ fn spell_guard(words: &[u64], table: Table, operator: u64, left: u64, out: &mut 
 // The equation of node n and the literal 0.
 fn spell_equals_zero(words: &[u64], table: Table, n: u64, out: &mut [u8]) -> u64
     requires { ⌜ table ≡ countsOf (rowsOf (now words)) ⌝ }
-    ensures { λ r. ⌜ Spelled ((spelled 20 0 ∷ shownRows (rowsOf (now (words .entry))) false n) ++ (spelled 1 0 ∷ [])) r (now (out .entry)) (now (out .exit)) ⌝ }
+    ensures { λ r. ⌜ Spelled ((spelled equalsNumber 0 ∷ shownRows (rowsOf (now (words .entry))) false n) ++ (spelled literalNumber 0 ∷ [])) r (now (out .entry)) (now (out .exit)) ⌝ }
 {
     let equal = spell_under(words, table, operator::EQUAL, 0, n, false, out);
     let at = rest_start(out.len(), equal);
@@ -297,9 +302,9 @@ pub fn spell_defined(words: &[u64], table: Table, n: u64, out: &mut [u8]) -> u64
 
 // An equation of two values of x, each by its row's operator: 2 the value, 3 the after value.
 fn spell_equation(x: u64, left: u64, right: u64, out: &mut [u8]) -> u64
-    ensures { λ r. ⌜ Spelled ((spelled 20 0 ∷ spelled left x ∷ []) ++ (spelled right x ∷ [])) r (now (out .entry)) (now (out .exit)) ⌝ }
+    ensures { λ r. ⌜ Spelled ((spelled equalsNumber 0 ∷ spelled left x ∷ []) ++ (spelled right x ∷ [])) r (now (out .entry)) (now (out .exit)) ⌝ }
 {
-    let head = row_83(out, 20, 0);
+    let head = row_83(out, operator::EQUAL, 0);
     let left_at = rest_start(out.len(), head);
     let first = row_83(&mut out[left_at..], left, x);
     let to_left = add_rows(head, first);
@@ -350,7 +355,7 @@ fn spell_moves(words: &[u64], table: Table, e: u64, x: u64, out: &mut [u8]) -> u
 // Form 5: some after value of x meets the action.
 fn spell_feasible(words: &[u64], table: Table, e: u64, x: u64, out: &mut [u8]) -> u64
     requires { ⌜ table ≡ countsOf (rowsOf (now words)) ⌝ }
-    ensures { λ r. ⌜ Spelled (spelled 41 x ∷ movesRows (rowsOf (now (words .entry))) e x) r (now (out .entry)) (now (out .exit)) ⌝ }
+    ensures { λ r. ⌜ Spelled (spelled someAfterValueNumber x ∷ movesRows (rowsOf (now (words .entry))) e x) r (now (out .entry)) (now (out .exit)) ⌝ }
 {
     let head = row_83(out, operator::SOME_AFTER_VALUE, x);
     let at = rest_start(out.len(), head);
@@ -371,7 +376,7 @@ fn witness_root(words: &[u64], e: u64, x: u64) -> u64
 
 // "some value of", or "some after value of" a variable.
 fn some_operator(variable: bool) -> u64
-    ensures { λ r. ⌜ r ≡ pick variable 41 40 ⌝ }
+    ensures { λ r. ⌜ r ≡ pick variable someAfterValueNumber someValueNumber ⌝ }
 {
     if variable {
         operator::SOME_AFTER_VALUE
@@ -383,7 +388,7 @@ fn some_operator(variable: bool) -> u64
 // Form 6: some value of x, or some after value of a variable, meets the witness.
 fn spell_witnessed(words: &[u64], table: Table, e: u64, x: u64, out: &mut [u8]) -> u64
     requires { ⌜ table ≡ countsOf (rowsOf (now words)) ⌝ }
-    ensures { λ r. ⌜ Spelled (spelled (pick (isVariableNumber (rowsOf (now (words .entry))) x) 41 40) x ∷ shownRows (rowsOf (now (words .entry))) false (witnessNode (rowsOf (now (words .entry))) e x)) r (now (out .entry)) (now (out .exit)) ⌝ }
+    ensures { λ r. ⌜ Spelled (spelled (pick (isVariableNumber (rowsOf (now (words .entry))) x) someAfterValueNumber someValueNumber) x ∷ shownRows (rowsOf (now (words .entry))) false (witnessNode (rowsOf (now (words .entry))) e x)) r (now (out .entry)) (now (out .exit)) ⌝ }
 {
     let operator = some_operator(is_variable(words, table, x));
     let root = witness_root(words, e, x);
@@ -393,7 +398,7 @@ fn spell_witnessed(words: &[u64], table: Table, e: u64, x: u64, out: &mut [u8]) 
 // Form 8: variant after < variant.
 fn spell_decreases(words: &[u64], table: Table, root: u64, out: &mut [u8]) -> u64
     requires { ⌜ table ≡ countsOf (rowsOf (now words)) ⌝ }
-    ensures { λ r. ⌜ Spelled ((spelled 21 0 ∷ shownRows (rowsOf (now (words .entry))) true root) ++ shownRows (rowsOf (now (words .entry))) false root) r (now (out .entry)) (now (out .exit)) ⌝ }
+    ensures { λ r. ⌜ Spelled ((spelled lessNumber 0 ∷ shownRows (rowsOf (now (words .entry))) true root) ++ shownRows (rowsOf (now (words .entry))) false root) r (now (out .entry)) (now (out .exit)) ⌝ }
 {
     let after = spell_under(words, table, operator::LESS, 0, root, true, out);
     let at = rest_start(out.len(), after);

@@ -1,0 +1,40 @@
+-- 01, Rows: the operators that well-definedness and the forms of entries add to a formula, by name.
+use Prim.Native.Nat.{ℕ}
+use Rattle.formula.specs.Tree.{equal, less, logicalNot, quotient, remainder, and, or, implies}
+use Rattle.reply.specs.Spelled.{unaryNumber, binaryNumber, divisionNumber, connectiveNumber}
+
+abbrev pub literalNumber : ℕ
+literalNumber = 1
+
+abbrev pub identifierNumber : ℕ
+identifierNumber = 2
+
+abbrev pub afterNumber : ℕ
+afterNumber = 3
+
+abbrev pub quotientNumber : ℕ
+quotientNumber = divisionNumber quotient
+
+abbrev pub remainderNumber : ℕ
+remainderNumber = divisionNumber remainder
+
+abbrev pub equalsNumber : ℕ
+equalsNumber = binaryNumber equal
+
+abbrev pub lessNumber : ℕ
+lessNumber = binaryNumber less
+
+abbrev pub bottomNumber : ℕ
+bottomNumber = 31
+
+abbrev pub notNumber : ℕ
+notNumber = unaryNumber logicalNot
+
+abbrev pub andNumber : ℕ
+andNumber = connectiveNumber and
+
+abbrev pub orNumber : ℕ
+orNumber = connectiveNumber or
+
+abbrev pub impliesNumber : ℕ
+impliesNumber = connectiveNumber implies
