@@ -7,13 +7,13 @@ use Rattle.lists.specs.Choice.{pick}
 use Rattle.lists.specs.Below.{first, numbers, keep}
 use Rattle.table.specs.Names.{abstractInvariantTag, abstractMachine, abstractParameterKind, abstractVariableKind, axiomTag, becomesEqualTag}
 use Rattle.table.specs.Names.{booleanType, concreteInvariantTag, concreteVariableKind, constantKind as kindOfConstants, eventTag, guardTag}
-use Rattle.table.specs.Names.{identifierTag, initialisationClass, ordinaryClass, variantTag, witnessTag}
+use Rattle.table.specs.Names.{identifierTag, convergentClass, initialisationClass, ordinaryClass, variantTag, witnessTag}
 use Rattle.table.specs.Rows.{Rows, tagged, section, count, kindOf, typeOf, operatorOf, leftOf, rightOf, machineNumber, classOf, refinedBy, isAction}
 use Rattle.formula.specs.Values.{ValueType, integer, boolean}
 use Rattle.formula.specs.Tree.{literal, bottom, Tree, constant, identifier, after, unary, binary, division, connective}
 use Rattle.machine.specs.Machine.{Kind, constantKind, abstractVariable, concreteVariable, abstractParameter, concreteParameter}
 use Rattle.machine.specs.Machine.{Action, unassigned, becomesEqual, becomesSuchThat, Machine}
-use Rattle.machine.specs.Machine.{Role, abstractInitialisation, abstractOrdinary, concreteInitialisation, refining, convergent}
+use Rattle.machine.specs.Machine.{Role, abstractInitialisation, abstractOrdinary, concreteInitialisation, refining, convergent, anticipated}
 use Rattle.machine.specs.Operator.{Operator, literalOf, identifierOf, afterOf, constantOf, unaryOf, binaryOf, divisionOf, connectiveOf, unknown, operatorNumbered}
 
 -- 01: "type: 1 integer, 2 boolean"
@@ -28,13 +28,14 @@ kindNumbered n =
     (pick (eqb n concreteVariableKind) concreteVariable
     (pick (eqb n abstractParameterKind) abstractParameter concreteParameter)))
 
--- 01: "machine: 1 abstract, 2 concrete; class: 0 initialisation, 1 ordinary, 2 convergent"; the abstract initialisation is event 1
+-- 01: "machine: 1 abstract, 2 concrete; class: 0 initialisation, 1 ordinary, 2 convergent", else 3, anticipated; the abstract initialisation is event 1
 unfoldable pub roleNumbered : ℕ → ℕ → ℕ → Role
 roleNumbered machine class refined =
     pick (eqb machine abstractMachine)
     (pick (eqb class initialisationClass) abstractInitialisation abstractOrdinary)
     (pick (eqb class initialisationClass) (concreteInitialisation 1)
-    (pick (eqb class ordinaryClass) (refining refined) convergent))
+    (pick (eqb class ordinaryClass) (refining refined)
+    (pick (eqb class convergentClass) convergent anticipated)))
 
 -- a node of an operator, its column b and the trees of its operands
 abbrev pub node : Operator → ℕ → Tree → Tree → Tree

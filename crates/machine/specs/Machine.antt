@@ -22,13 +22,15 @@ pub data Action : Type 0 where
   becomesEqual : ℕ → Action
   becomesSuchThat : ℕ → Action
 
--- an event by its machine and class; a concrete initialisation and a refining event with the abstract event that its steps are matched by
+-- an event by its machine and class; a concrete initialisation and a refining event with the abstract event that its steps are matched by; convergent and
+-- anticipated events refine nothing
 pub data Role : Type 0 where
   abstractInitialisation : Role
   abstractOrdinary : Role
   concreteInitialisation : ℕ → Role
   refining : ℕ → Role
   convergent : Role
+  anticipated : Role
 
 -- an abstract parameter, or a variable for its after value, with the witness's root
 pub record Witness : Type 0 where

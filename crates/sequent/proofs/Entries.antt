@@ -14,13 +14,13 @@ use Rattle.lists.proofs.All.{all-left, all-right, all-head, all-join, all-in, a
 use Rattle.lists.proofs.Choice.{chosen, not-chosen}
 use Rattle.lists.proofs.Keep.{all-keep}
 use Rattle.machine.specs.Machine.{Role, Action, becomesEqual, becomesSuchThat, Witness, Machine}
-use Rattle.sequent.specs.Entry.{Entry, written, primed, defined, moves, feasible, witnessed, natural, decreases, variable}
+use Rattle.sequent.specs.Entry.{Entry, written, primed, defined, moves, feasible, witnessed, natural, decreases, notIncreased, variable}
 use Rattle.sequent.specs.Formed.{ActionRoot, WitnessFor}
 use Rattle.sequent.specs.Sequent.{Sequent, sequent}
 use Rattle.sequent.specs.Listed.{sequents}
 use Rattle.sequent.specs.Required.{isInitialisation, isConcrete, MatchedBy, asWritten, axiomsInvariants, baseOf, ownVariables, ownInvariants}
 use Rattle.sequent.specs.Required.{baseGuards, movesOf, witnessesOf, Required, wd-formula, wd-variant, wd-guard, wd-action, fis, wd-witness, wfis}
-use Rattle.sequent.specs.Required.{grd, sim, inv, inv-convergent, nat, var}
+use Rattle.sequent.specs.Required.{grd, sim, inv, inv-new, nat, var, var-anticipated}
 use Rattle.sequent.proofs.Exact.{listed-required}
 
 -- a node that the machine names as a root
@@ -50,6 +50,7 @@ pub data EntryOf (m : Machine) : Entry → Type 0 where
   of-witnessed : {e : ℕ} {w : Witness} → In e (m .events) → In w (m .witnesses e) → EntryOf m (witnessed e (w .target))
   of-natural : {r : ℕ} → Root m r → EntryOf m (natural r)
   of-decreases : {r : ℕ} → Root m r → EntryOf m (decreases r)
+  of-not-increased : {r : ℕ} → Root m r → EntryOf m (notIncreased r)
 
 -- the item of row 80
 pub data ItemOf (m : Machine) : ℕ → Type 0 where
@@ -162,13 +163,15 @@ module _ (m : Machine) where
   required-made (inv {e} at c i) =
       let root = own-invariant (m .role e) i in
       made (omega arith) (inr at) (root-item root) (all-join (all-join (guards-of e) (moved-of at)) (roots-of e)) (of-primed root)
-  required-made (inv-convergent {e} at c i) =
+  required-made (inv-new {e} at c i) =
       let root = own-invariant (m .role e) i in
       made (omega arith) (inr at) (root-item root)
       (all-join (all-join (guards-of e) (moved-of at)) (moves-of at (m .abstractVariables) (λ x. inl))) (of-primed root)
   required-made (nat {e} at c i) = made (omega arith) (inr at) (root-item (variant-root i)) (guards-of e) (of-natural (variant-root i))
   required-made (var {e} at c i) =
       made (omega arith) (inr at) (root-item (variant-root i)) (all-join (guards-of e) (moved-of at)) (of-decreases (variant-root i))
+  required-made (var-anticipated {e} at c i) =
+      made (omega arith) (inr at) (root-item (variant-root i)) (all-join (guards-of e) (moved-of at)) (of-not-increased (variant-root i))
 
   pub listed-made : {s : Sequent} → In s (sequents m) → MadeOf m s
   listed-made i = required-made (listed-required m i)

@@ -1,26 +1,28 @@
 -- The list has exactly the required sequents, for every machine: each place of the list is traced to a row of the table, and each row to a place.
 -- The hypotheses of both are equal, role by role (`base-same` and the equations after it); the rest follows membership through ++, map and flatMap.
-use mathlib.Core.Path.{_≡_, refl, sym, ap, ap₂, subst, _∙_}
+use mathlib.Core.Path.{_≡_, refl, sym, ap, subst, _∙_}
 use mathlib.Core.Bool.{Bool, true, false}
 use mathlib.Core.List.{List, [], _∷_, _++_, map, append-nil, append-assoc}
 use mathlib.Core.Logic.{_⊎_, _↔_, inl, inr, ⊎-elim}
 use Prim.Native.Nat.{ℕ}
 use Rattle.lists.specs.All.{In, here, there}
 use Rattle.lists.specs.Choice.{pick}
+use Rattle.lists.proofs.Choice.{chosen, not-chosen}
 use Rattle.lists.proofs.All.{in-nil, in-cons, in-left, in-right, in-either, in-map, in-unmap, in-flat, in-unflat}
 use Rattle.machine.specs.Machine.{Action, unassigned, becomesEqual, becomesSuchThat, Witness, Machine}
-use Rattle.machine.specs.Machine.{Role, abstractInitialisation, abstractOrdinary, concreteInitialisation, refining, convergent}
-use Rattle.sequent.specs.Entry.{Entry, written, defined, moves, feasible, natural, decreases, variable}
-use Rattle.sequent.specs.Sequent.{Sequent, sequent, WD, FIS, NAT, VAR}
+use Rattle.machine.specs.Machine.{Role, abstractInitialisation, abstractOrdinary, concreteInitialisation, refining, convergent, anticipated}
+use Rattle.sequent.specs.Entry.{Entry, written, primed, defined, moves, feasible, natural, decreases, notIncreased, variable}
+use Rattle.sequent.specs.Sequent.{Sequent, sequent, WD, INV, FIS, NAT, VAR}
 use Rattle.sequent.specs.Listed.{inOrder, actionWD, actionFIS, matching, refined}
 use Rattle.sequent.specs.Listed.{allWritten, base, guarded, moved, witnessEntries, witnessHypotheses, witnessSequents}
 use Rattle.sequent.specs.Listed.{parameterWitnesses, invHypotheses, variantSequents, eventSequents, formulas, sequents}
 use Rattle.sequent.specs.Listed.{grd as grdOf, sim as simOf, inv as invOf}
 use Rattle.sequent.proofs.Parts.{guardWDs, actionWDs, actionFISs, ofWitnesses, grds, sims, nats, vars}
 use Rattle.sequent.proofs.Parts.{fromInvs, fromSims, fromGrds, fromWitnesses, fromFISs, fromActions, eventSequents-parts}
-use Rattle.sequent.specs.Required.{MatchedBy, by-initialisation, by-refined}
+use Rattle.sequent.specs.Required.{isNew, MatchedBy, by-initialisation, by-refined}
 use Rattle.sequent.specs.Required.{asWritten, baseOf, ownVariables, ownInvariants, baseGuards, movesOf, witnessesOf}
-use Rattle.sequent.specs.Required.{Required, wd-formula, wd-variant, wd-guard, wd-action, fis, wd-witness, wfis, grd, sim, inv, inv-convergent, nat, var}
+use Rattle.sequent.specs.Required.{Required, wd-formula, wd-variant, wd-guard, wd-action, fis, wd-witness, wfis, grd, sim, inv, inv-new, nat, var}
+use Rattle.sequent.specs.Required.{var-anticipated}
 
 -- a property of sequents depends on their hypotheses only as a list
 under : (P : Sequent → Type 0) {k e i : ℕ} {hs gs : List Entry} {g : Entry} → hs ≡ gs → P (sequent k e i hs g) → P (sequent k e i gs g)
@@ -28,16 +30,6 @@ under P {k} {e} {i} {g = g} h p = subst (λ hs. P (sequent k e i hs g)) h p
 
 pub in-one : {A : Type 0} {a x : A} → In a (x ∷ []) → a ≡ x
 in-one i = ⊎-elim (λ p. p) (λ j. absurd (in-nil j)) (in-cons i)
-
-abbrev IsConvergent : Role → Type 0
-IsConvergent abstractInitialisation = ⊥
-IsConvergent abstractOrdinary = ⊥
-IsConvergent (concreteInitialisation f) = ⊥
-IsConvergent (refining f) = ⊥
-IsConvergent convergent = Unit
-
-other : {ro : Role} → ¬ IsConvergent ro → ¬ (ro ≡ convergent)
-other f p = f (subst IsConvergent (sym p) tt)
 
 -- "those before it": a place of `inOrder` is a place of its formulas
 pub inOrder-split : (e : ℕ) (hs : List Entry) (rs : List ℕ) {s : Sequent} → In s (inOrder e hs rs)
@@ -92,6 +84,7 @@ refined-role abstractOrdinary i = absurd (in-nil i)
 refined-role (concreteInitialisation f) i = absurd (in-nil i)
 refined-role (refining f) i = ap refining (sym (in-one i))
 refined-role convergent i = absurd (in-nil i)
+refined-role anticipated i = absurd (in-nil i)
 
 refined-at : {ro : Role} {f : ℕ} → ro ≡ refining f → In f (refined ro)
 refined-at {f = f} p = subst (λ ro. In f (refined ro)) (sym p) (here refl)
@@ -102,6 +95,7 @@ matching-role abstractOrdinary i = absurd (in-nil i)
 matching-role (concreteInitialisation f) i = subst (λ g. MatchedBy g (concreteInitialisation f)) (sym (in-one i)) by-initialisation
 matching-role (refining f) i = subst (λ g. MatchedBy g (refining f)) (sym (in-one i)) by-refined
 matching-role convergent i = absurd (in-nil i)
+matching-role anticipated i = absurd (in-nil i)
 
 matching-at : {ro : Role} {f : ℕ} → MatchedBy f ro → In f (matching ro)
 matching-at by-initialisation = here refl
@@ -114,28 +108,30 @@ module _ (m : Machine) where
   base-same (concreteInitialisation f) = append-nil (asWritten (m .axioms))
   base-same (refining f) = refl
   base-same convergent = refl
+  base-same anticipated = refl
 
   inv-hypotheses : (ro : Role) (e : ℕ)
-      → ((ro ≡ convergent) × (invHypotheses m ro e ≡ moved m ro e ++ map (moves e) (m .abstractVariables)))
-      ⊎ ((¬ (ro ≡ convergent)) × (invHypotheses m ro e ≡ moved m ro e ++ witnessEntries m (m .witnesses e)))
-  inv-hypotheses abstractInitialisation e = inr (other (λ x. x), refl)
-  inv-hypotheses abstractOrdinary e = inr (other (λ x. x), refl)
-  inv-hypotheses (concreteInitialisation f) e = inr (other (λ x. x), refl)
-  inv-hypotheses (refining f) e = inr (other (λ x. x), refl)
-  inv-hypotheses convergent e = inl (refl, refl)
+      → invHypotheses m ro e ≡ moved m ro e ++ pick (isNew ro) (map (moves e) (m .abstractVariables)) (witnessEntries m (m .witnesses e))
+  inv-hypotheses abstractInitialisation e = refl
+  inv-hypotheses abstractOrdinary e = refl
+  inv-hypotheses (concreteInitialisation f) e = refl
+  inv-hypotheses (refining f) e = refl
+  inv-hypotheses convergent e = refl
+  inv-hypotheses anticipated e = refl
 
-  variant-role : (ro : Role) {e : ℕ} {s : Sequent} → In s (variantSequents m ro e)
-      → (ro ≡ convergent) × (r : ℕ) × In r (m .variants)
-      × ((s ≡ sequent NAT e r (guarded m ro e) (natural r)) ⊎ (s ≡ sequent VAR e r (moved m ro e) (decreases r)))
+  variant-role : (ro : Role) {e : ℕ} {s : Sequent} → In s (variantSequents m ro e) → (r : ℕ) × In r (m .variants)
+      × (((ro ≡ convergent) × ((s ≡ sequent NAT e r (guarded m ro e) (natural r)) ⊎ (s ≡ sequent VAR e r (moved m ro e) (decreases r))))
+      ⊎ ((ro ≡ anticipated) × (s ≡ sequent VAR e r (moved m ro e) (notIncreased r))))
   variant-role abstractInitialisation i = absurd (in-nil i)
   variant-role abstractOrdinary i = absurd (in-nil i)
   variant-role (concreteInitialisation f) i = absurd (in-nil i)
   variant-role (refining f) i = absurd (in-nil i)
   variant-role convergent {e} {s} i =
       ⊎-elim
-      (λ j. let (r, k, p) = in-unmap _ (m .variants) j in (refl, r, k, inl p))
-      (λ j. let (r, k, p) = in-unmap _ (m .variants) j in (refl, r, k, inr p))
+      (λ j. let (r, k, p) = in-unmap _ (m .variants) j in (r, k, inl (refl, inl p)))
+      (λ j. let (r, k, p) = in-unmap _ (m .variants) j in (r, k, inl (refl, inr p)))
       (in-either (nats m convergent e) i)
+  variant-role anticipated {e} {s} i = let (r, k, p) = in-unmap _ (m .variants) i in (r, k, inr (refl, p))
 
   -- the hypotheses of an event's sequents, required and listed
   module _ (e : ℕ) where
@@ -204,17 +200,21 @@ module _ (m : Machine) where
     inv-required : In s (invOf m (m .role e) e) → Required m s
     inv-required i =
         let (r, j, p) = in-unmap _ (ownInvariants m (m .role e)) i in
-        ⊎-elim
-        (λ c. required-as p (ap (λ hs. hs ++ map (moves e) (m .abstractVariables)) (moved-same e) ∙ sym (c .1)) (inv-convergent at (c .0) j))
-        (λ c. required-as p (ap (λ hs. hs ++ witnessesOf m e) (moved-same e) ∙ sym (c .1)) (inv at (c .0) j))
-        (inv-hypotheses (m .role e) e)
+        by-class p j (isNew (m .role e)) refl (inv-hypotheses (m .role e) e)
+      where
+        by-class : {r : ℕ} → s ≡ sequent INV e r (invHypotheses m (m .role e) e) (primed r) → In r (ownInvariants m (m .role e)) → (b : Bool)
+            → isNew (m .role e) ≡ b
+            → invHypotheses m (m .role e) e ≡ moved m (m .role e) e ++ pick b (map (moves e) (m .abstractVariables)) (witnessEntries m (m .witnesses e))
+            → Required m s
+        by-class p j true c h = required-as p (ap (λ hs. hs ++ map (moves e) (m .abstractVariables)) (moved-same e) ∙ sym h) (inv-new at c j)
+        by-class p j false c h = required-as p (ap (λ hs. hs ++ witnessesOf m e) (moved-same e) ∙ sym h) (inv at c j)
 
     variant-required : In s (variantSequents m (m .role e) e) → Required m s
     variant-required i =
-        let (c, r, j, k) = variant-role (m .role e) i in
+        let (r, j, k) = variant-role (m .role e) i in
         ⊎-elim
-        (λ p. required-as p (guarded-same e) (nat at c j))
-        (λ p. required-as p (moved-same e) (var at c j))
+        (λ c. ⊎-elim (λ p. required-as p (guarded-same e) (nat at (c .0) j)) (λ p. required-as p (moved-same e) (var at (c .0) j)) (c .1))
+        (λ c. required-as (c .1) (moved-same e) (var-anticipated at (c .0) j))
         k
 
     event-required : In s (eventSequents m e (m .role e)) → Required m s
@@ -268,9 +268,11 @@ module _ (m : Machine) where
     variants-listed : In s (variantSequents m (m .role e) e) → In s (sequents m)
     variants-listed i = invs-listed (in-right (invOf m (m .role e) e) i)
 
-  variants-at : {ro : Role} (e : ℕ) {s : Sequent} → ro ≡ convergent → In s (nats m ro e ++ vars m ro e) → In s (variantSequents m ro e)
-  variants-at e {s} c i =
-      subst (λ ro. In s (variantSequents m ro e)) (sym c) (subst (λ ro. In s (nats m ro e ++ vars m ro e)) c i)
+  -- the sequents of a role's variant, by what they are for that role
+  variants-at : {ro role : Role} (e : ℕ) (f : Role → List Sequent) → variantSequents m ro e ≡ f ro → {s : Sequent} → role ≡ ro → In s (f role)
+      → In s (variantSequents m role e)
+  variants-at {ro} e f p {s} c i =
+      subst (λ ro. In s (variantSequents m ro e)) (sym c) (subst (In s) (sym p) (subst (λ ro. In s (f ro)) c i))
 
   pub required-listed : {s : Sequent} → Required m s → In s (sequents m)
   unfolding sequents
@@ -298,16 +300,20 @@ module _ (m : Machine) where
       (sims-listed at (in-left _ (in-flat (simOf m (m .role e) e) (matching-at c) (in-map _ i))))
   required-listed (inv {e} {r} at c i) =
       listed-as
-      (ap (λ hs. hs ++ witnessesOf m e) (moved-same e) ∙ ⊎-elim (λ k. absurd (c (k .0))) (λ k. sym (k .1)) (inv-hypotheses (m .role e) e))
+      (ap (λ hs. hs ++ witnessesOf m e) (moved-same e) ∙ sym (inv-hypotheses (m .role e) e ∙ ap (λ hs. moved m (m .role e) e ++ hs) (not-chosen (isNew (m .role e)) _ _ c)))
       (invs-listed at (in-left _ (in-map _ i)))
-  required-listed (inv-convergent {e} {r} at c i) =
+  required-listed (inv-new {e} {r} at c i) =
       listed-as
       (ap (λ hs. hs ++ map (moves e) (m .abstractVariables)) (moved-same e)
-      ∙ ⊎-elim (λ k. sym (k .1)) (λ k. absurd (k .0 c)) (inv-hypotheses (m .role e) e))
+      ∙ sym (inv-hypotheses (m .role e) e ∙ ap (λ hs. moved m (m .role e) e ++ hs) (chosen (isNew (m .role e)) _ _ c)))
       (invs-listed at (in-left _ (in-map _ i)))
-  required-listed (nat {e} at c i) = listed-as (guarded-same e) (variants-listed at (variants-at e c (in-left _ (in-map _ i))))
+  required-listed (nat {e} at c i) =
+      listed-as (guarded-same e) (variants-listed at (variants-at e (λ ro. nats m ro e ++ vars m ro e decreases) refl c (in-left _ (in-map _ i))))
   required-listed (var {e} at c i) =
-      listed-as (moved-same e) (variants-listed at (variants-at e c (in-right (nats m (m .role e) e) (in-map _ i))))
+      listed-as (moved-same e)
+      (variants-listed at (variants-at e (λ ro. nats m ro e ++ vars m ro e decreases) refl c (in-right (nats m (m .role e) e) (in-map _ i))))
+  required-listed (var-anticipated {e} at c i) =
+      listed-as (moved-same e) (variants-listed at (variants-at e (λ ro. vars m ro e notIncreased) refl c (in-map _ i)))
 
   pub listed-exactly : {s : Sequent} → In s (sequents m) ↔ Required m s
   listed-exactly = (listed-required, required-listed)

@@ -5,3 +5,4 @@ pub mod Ordered
 pub mod Parts
 pub mod Places
 pub mod Entries
+pub mod Variants

@@ -19,8 +19,8 @@ use Rattle.lists.proofs.Distinct.{pairwise-head, pairwise-tail, pairwise-left, 
 use Rattle.lists.proofs.Distinct.{pairwise-once, pairwise-unmap, pairwise-flat}
 use Rattle.lists.proofs.Sorted.{sorted-same}
 use Rattle.machine.specs.Machine.{Action, unassigned, becomesEqual, becomesSuchThat, Witness, Machine}
-use Rattle.machine.specs.Machine.{Role, abstractInitialisation, abstractOrdinary, concreteInitialisation, refining, convergent}
-use Rattle.sequent.specs.Entry.{Entry, written, primed, defined, moves, natural, decreases}
+use Rattle.machine.specs.Machine.{Role, abstractInitialisation, abstractOrdinary, concreteInitialisation, refining, convergent, anticipated}
+use Rattle.sequent.specs.Entry.{Entry, written, primed, defined, moves, natural, decreases, notIncreased}
 use Rattle.sequent.specs.Sequent.{Sequent, sequent, WD, INV, FIS, GRD, SIM, WFIS, NAT, VAR}
 use Rattle.sequent.specs.Listed.{inOrder, actionWD, actionFIS, matching, refined, allWritten, base, guarded}
 use Rattle.sequent.specs.Listed.{witnessSequents, grd, sim, inv, invHypotheses, variantSequents, eventSequents, sequents}
@@ -67,6 +67,7 @@ refined-one abstractOrdinary = pairwise-nil
 refined-one (concreteInitialisation f) = pairwise-nil
 refined-one (refining f) = pairwise-one f
 refined-one convergent = pairwise-nil
+refined-one anticipated = pairwise-nil
 
 matching-one : (ro : Role) → Pairwise (λ f g. ⊥) (matching ro)
 matching-one abstractInitialisation = pairwise-nil
@@ -74,6 +75,7 @@ matching-one abstractOrdinary = pairwise-nil
 matching-one (concreteInitialisation f) = pairwise-one f
 matching-one (refining f) = pairwise-one f
 matching-one convergent = pairwise-nil
+matching-one anticipated = pairwise-nil
 
 inOrder-items : (e : ℕ) (hs : List Entry) (rs : List ℕ) → map (λ s. s .item) (inOrder e hs rs) ≡ rs
 unfolding inOrder
@@ -224,6 +226,10 @@ module _ (m : Machine) (separate : Separate m) where
         block-join m (omega arith)
         (map-block m (placeIn (m .variants)) NAT _ natural (places-rise variants-distinct) (λ r. refl))
         (map-block m (placeIn (m .variants)) VAR _ decreases (places-rise variants-distinct) (λ r. refl))
+    variant-block anticipated =
+        block-join m (omega arith)
+        (nil-block m {lo = group NAT} {hi = group NAT})
+        (map-block m (placeIn (m .variants)) VAR _ notIncreased (places-rise variants-distinct) (λ r. refl))
 
     -- the groups in their order
     parts-block : Block m (e ∷ []) (group WD) (suc (group VAR)) ((guardWDs m role e ++ actionWDs m role e) ++ fromFISs m role e)

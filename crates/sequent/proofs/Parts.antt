@@ -3,7 +3,7 @@ use mathlib.Core.Path.{_≡_, refl, sym, ap, _∙_}
 use mathlib.Core.List.{List, [], _∷_, _++_, map, flatMap, append-assoc, append-nil}
 use Prim.Native.Nat.{ℕ}
 use Rattle.machine.specs.Machine.{Role, Machine}
-use Rattle.sequent.specs.Entry.{Entry, written, defined, natural, decreases}
+use Rattle.sequent.specs.Entry.{Entry, written, defined, natural}
 use Rattle.sequent.specs.Sequent.{Sequent, sequent, WD, NAT, VAR}
 use Rattle.sequent.specs.Listed.{inOrder, actionWD, actionFIS, matching, refined, base, guarded, moved}
 use Rattle.sequent.specs.Listed.{witnessSequents, grd, sim, inv, variantSequents, eventSequents}
@@ -31,8 +31,9 @@ module _ (m : Machine) (ro : Role) (e : ℕ) where
   abbrev pub nats : List Sequent
   nats = map (λ r. sequent NAT e r (guarded m ro e) (natural r)) (m .variants)
 
-  abbrev pub vars : List Sequent
-  vars = map (λ r. sequent VAR e r (moved m ro e) (decreases r)) (m .variants)
+  -- with the goal of the event's class
+  abbrev pub vars : (ℕ → Entry) → List Sequent
+  vars goal = map (λ r. sequent VAR e r (moved m ro e) (goal r)) (m .variants)
 
   -- what stands from a part on
   abbrev pub fromInvs : List Sequent

@@ -10,7 +10,7 @@ use Rattle.formula.specs.AfterValues.{atAfter}
 use Rattle.formula.specs.Formula.{Formula, plain, someValue, someAfterValue}
 use Rattle.machine.specs.Machine.{isVariable, Action, unassigned, becomesEqual, becomesSuchThat, Witness, Machine}
 
--- forms 1 to 8
+-- forms 1 to 9
 pub data Entry : Type 0 where
   -- "1 node as written"
   written : ℕ → Entry
@@ -28,6 +28,8 @@ pub data Entry : Type 0 where
   natural : ℕ → Entry
   -- "8 variant after < variant"
   decreases : ℕ → Entry
+  -- 02, request 1: "variant after ≤ variant (form 9, root, 0)"
+  notIncreased : ℕ → Entry
 
 -- the root of the witness for a target; 0, which is no node, where there is none
 abbrev pub witnessRoot : List Witness → ℕ → ℕ
@@ -38,7 +40,7 @@ module _ (m : Machine) where
   abbrev pub variable : ℕ → Bool
   variable x = isVariable (m .kind x)
 
-  -- "Forms 4 and 8 put the after side first."
+  -- "Forms 4 and 8 put the after side first.", and so does 9
   abbrev pub actionTree : Action → ℕ → Tree
   actionTree unassigned x = binary equal (after x) (identifier x)
   actionTree (becomesEqual r) x = binary equal (after x) (m .tree r)
@@ -56,3 +58,4 @@ module _ (m : Machine) where
   formula (witnessed e x) = pick (variable x) (someAfterValue x (witnessTree e x)) (someValue x (witnessTree e x))
   formula (natural r) = plain (binary atMost (constant (literal 0)) (m .tree r))
   formula (decreases r) = plain (binary less (atAfter variable (m .tree r)) (m .tree r))
+  formula (notIncreased r) = plain (binary atMost (atAfter variable (m .tree r)) (m .tree r))

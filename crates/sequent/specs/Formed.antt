@@ -7,7 +7,7 @@ use Rattle.lists.specs.All.{In}
 use Rattle.table.specs.Rows.{Rows}
 use Rattle.machine.specs.Machine.{Action, unassigned, becomesEqual, becomesSuchThat, Witness, Machine}
 use Rattle.machine.specs.Node.{Formed}
-use Rattle.sequent.specs.Entry.{Entry, written, primed, defined, moves, feasible, witnessed, natural, decreases, witnessRoot}
+use Rattle.sequent.specs.Entry.{Entry, written, primed, defined, moves, feasible, witnessed, natural, decreases, notIncreased, witnessRoot}
 
 -- a property of the root of an action, where it has one
 abbrev pub ActionRoot : (ℕ → Type 0) → Action → Type 0
@@ -35,3 +35,4 @@ module _ (t : Rows) (m : Machine) where
   EntryFormed (witnessed e x) = WitnessFor (m .witnesses e) x × HasFormula (witnessRoot (m .witnesses e) x)
   EntryFormed (natural r) = HasFormula r
   EntryFormed (decreases r) = HasFormula r
+  EntryFormed (notIncreased r) = HasFormula r

@@ -5,8 +5,8 @@ use Prim.Native.Nat.{ℕ}
 use Rattle.lists.specs.Choice.{pick}
 use Rattle.lists.specs.Below.{keep}
 use Rattle.machine.specs.Machine.{Action, unassigned, becomesEqual, becomesSuchThat, Witness, Machine}
-use Rattle.machine.specs.Machine.{Role, abstractInitialisation, abstractOrdinary, concreteInitialisation, refining, convergent}
-use Rattle.sequent.specs.Entry.{Entry, written, primed, defined, moves, feasible, witnessed, natural, decreases, variable}
+use Rattle.machine.specs.Machine.{Role, abstractInitialisation, abstractOrdinary, concreteInitialisation, refining, convergent, anticipated}
+use Rattle.sequent.specs.Entry.{Entry, written, primed, defined, moves, feasible, witnessed, natural, decreases, notIncreased, variable}
 use Rattle.sequent.specs.Required.{ownVariables, ownInvariants}
 use Rattle.sequent.specs.Sequent.{Sequent, sequent, WD, INV, FIS, GRD, SIM, WFIS, NAT, VAR}
 
@@ -34,6 +34,7 @@ matching abstractOrdinary = []
 matching (concreteInitialisation f) = f ∷ []
 matching (refining f) = f ∷ []
 matching convergent = []
+matching anticipated = []
 
 abbrev pub refined : Role → List ℕ
 refined abstractInitialisation = []
@@ -41,6 +42,7 @@ refined abstractOrdinary = []
 refined (concreteInitialisation f) = []
 refined (refining f) = f ∷ []
 refined convergent = []
+refined anticipated = []
 
 module _ (m : Machine) where
   abbrev pub allWritten : List ℕ → List Entry
@@ -53,6 +55,7 @@ module _ (m : Machine) where
   base (concreteInitialisation f) = allWritten (m .axioms)
   base (refining f) = allWritten (m .axioms) ++ (allWritten (m .abstractInvariants) ++ allWritten (m .concreteInvariants))
   base convergent = allWritten (m .axioms) ++ (allWritten (m .abstractInvariants) ++ allWritten (m .concreteInvariants))
+  base anticipated = allWritten (m .axioms) ++ (allWritten (m .abstractInvariants) ++ allWritten (m .concreteInvariants))
 
   -- "base, guards"
   abbrev pub guarded : Role → ℕ → List Entry
@@ -93,11 +96,12 @@ module _ (m : Machine) where
   invHypotheses (concreteInitialisation f) e = moved (concreteInitialisation f) e ++ witnessEntries (m .witnesses e)
   invHypotheses (refining f) e = moved (refining f) e ++ witnessEntries (m .witnesses e)
   invHypotheses convergent e = moved convergent e ++ map (moves e) (m .abstractVariables)
+  invHypotheses anticipated e = moved anticipated e ++ map (moves e) (m .abstractVariables)
 
   abbrev pub inv : Role → ℕ → List Sequent
   inv ro e = map (λ r. sequent INV e r (invHypotheses ro e) (primed r)) (ownInvariants m ro)
 
-  -- "NAT; VAR (convergent): base, guards; VAR also moves"
+  -- "NAT; VAR (convergent): base, guards; VAR also moves"; an anticipated event has VAR alone, with form 9
   abbrev pub variantSequents : Role → ℕ → List Sequent
   variantSequents abstractInitialisation e = []
   variantSequents abstractOrdinary e = []
@@ -106,6 +110,7 @@ module _ (m : Machine) where
   variantSequents convergent e =
       map (λ r. sequent NAT e r (guarded convergent e) (natural r)) (m .variants)
       ++ map (λ r. sequent VAR e r (moved convergent e) (decreases r)) (m .variants)
+  variantSequents anticipated e = map (λ r. sequent VAR e r (moved anticipated e) (notIncreased r)) (m .variants)
 
   -- "event by event: WD of guards, of actions by variable, FIS by variable, each witness's WD then WFIS, GRD, SIM, INV, NAT, VAR"
   unfoldable pub eventSequents : ℕ → Role → List Sequent

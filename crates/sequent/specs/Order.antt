@@ -9,7 +9,7 @@ use lib.Dec.{ltb, eqb}
 use lib.ListN.{length}
 use Rattle.lists.specs.Choice.{pick}
 use Rattle.machine.specs.Machine.{Action, unassigned, becomesEqual, becomesSuchThat, Machine}
-use Rattle.machine.specs.Machine.{Role, abstractInitialisation, abstractOrdinary, concreteInitialisation, refining, convergent}
+use Rattle.machine.specs.Machine.{Role, abstractInitialisation, abstractOrdinary, concreteInitialisation, refining, convergent, anticipated}
 use Rattle.sequent.specs.Sequent.{Sequent, WD, INV, FIS, GRD, SIM, WFIS, NAT, VAR}
 use Rattle.sequent.specs.Required.{axiomsInvariants, ownVariables, ownInvariants}
 
@@ -50,6 +50,7 @@ module _ (m : Machine) where
   refinedGuards (concreteInitialisation f) = []
   refinedGuards (refining f) = m .guards f
   refinedGuards convergent = []
+  refinedGuards anticipated = []
 
   -- The group and the place in it. "Table order otherwise": the place of the root or target among the machine's, which are in table order; "by variable": the
   -- identifier. A root of an event is in one of the lists, as each node has one use.

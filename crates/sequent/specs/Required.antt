@@ -1,5 +1,6 @@
 -- The sequents that the published obligations require of a machine and its refinement: 01's table "Sequents" row by row, with the hypotheses and goals of
--- document 004. A relation: it says which sequents there are, of which events, and nothing of how a list of them is made.
+-- document 004, and 02's anticipated events (request 1). A relation: it says which sequents there are, of which events, and nothing of how a list of them is
+-- made.
 use mathlib.Core.Path.{_≡_}
 use mathlib.Core.Bool.{Bool, true, false, not}
 use mathlib.Core.List.{List, [], _∷_, _++_, map}
@@ -9,8 +10,8 @@ use Rattle.lists.specs.All.{In}
 use Rattle.lists.specs.Choice.{pick}
 use Rattle.lists.specs.Below.{keep}
 use Rattle.machine.specs.Machine.{becomesEqual, becomesSuchThat, Witness, Machine}
-use Rattle.machine.specs.Machine.{Role, abstractInitialisation, abstractOrdinary, concreteInitialisation, refining, convergent}
-use Rattle.sequent.specs.Entry.{Entry, written, primed, defined, moves, feasible, witnessed, natural, decreases, variable}
+use Rattle.machine.specs.Machine.{Role, abstractInitialisation, abstractOrdinary, concreteInitialisation, refining, convergent, anticipated}
+use Rattle.sequent.specs.Entry.{Entry, written, primed, defined, moves, feasible, witnessed, natural, decreases, notIncreased, variable}
 use Rattle.sequent.specs.Sequent.{Sequent, sequent, WD, INV, FIS, GRD, SIM, WFIS, NAT, VAR}
 
 abbrev pub isInitialisation : Role → Bool
@@ -19,6 +20,7 @@ isInitialisation abstractOrdinary = false
 isInitialisation (concreteInitialisation f) = true
 isInitialisation (refining f) = false
 isInitialisation convergent = false
+isInitialisation anticipated = false
 
 abbrev pub isConcrete : Role → Bool
 isConcrete abstractInitialisation = false
@@ -26,6 +28,16 @@ isConcrete abstractOrdinary = false
 isConcrete (concreteInitialisation f) = true
 isConcrete (refining f) = true
 isConcrete convergent = true
+isConcrete anticipated = true
+
+-- a new event refines nothing: convergent or, 02, request 1: "Event class 3, concrete only, .. refines nothing", anticipated
+abbrev pub isNew : Role → Bool
+isNew abstractInitialisation = false
+isNew abstractOrdinary = false
+isNew (concreteInitialisation f) = false
+isNew (refining f) = false
+isNew convergent = true
+isNew anticipated = true
 
 -- 01, The run: an initialisation is matched by the abstract initialisation, "a concrete ordinary step .. by a step of the event it refines"
 pub data MatchedBy (f : ℕ) : Role → Type 0 where
@@ -96,10 +108,10 @@ pub data Required (m : Machine) : Sequent → Type 0 where
   sim : {e f x : ℕ} → In e (m .events) → MatchedBy f (m .role e) → In x (m .abstractVariables)
       → Required m (sequent SIM e x ((baseGuards m e ++ movesOf m e) ++ witnessesOf m e) (moves f x))
   -- "2 INV, own machine's invariants | base, guards, moves, witnesses | 2 | root"
-  inv : {e r : ℕ} → In e (m .events) → ¬ (m .role e ≡ convergent) → In r (ownInvariants m (m .role e))
+  inv : {e r : ℕ} → In e (m .events) → isNew (m .role e) ≡ false → In r (ownInvariants m (m .role e))
       → Required m (sequent INV e r ((baseGuards m e ++ movesOf m e) ++ witnessesOf m e) (primed r))
-  -- "for a convergent event form 4 of each abstract variable instead of witnesses"
-  inv-convergent : {e r : ℕ} → In e (m .events) → m .role e ≡ convergent → In r (ownInvariants m (m .role e))
+  -- "for a convergent event form 4 of each abstract variable instead of witnesses"; an anticipated one "has all sequents of a convergent event except NAT"
+  inv-new : {e r : ℕ} → In e (m .events) → isNew (m .role e) ≡ true → In r (ownInvariants m (m .role e))
       → Required m (sequent INV e r ((baseGuards m e ++ movesOf m e) ++ map (moves e) (m .abstractVariables)) (primed r))
   -- "7 NAT (convergent) | base, guards | 7 | root"
   nat : {e r : ℕ} → In e (m .events) → m .role e ≡ convergent → In r (m .variants)
@@ -107,6 +119,9 @@ pub data Required (m : Machine) : Sequent → Type 0 where
   -- "8 VAR (convergent) | base, guards; VAR also moves | 8 | root"
   var : {e r : ℕ} → In e (m .events) → m .role e ≡ convergent → In r (m .variants)
       → Required m (sequent VAR e r (baseGuards m e ++ movesOf m e) (decreases r))
+  -- 02, request 1: "its VAR goal is variant after ≤ variant (form 9, root, 0), made only where a variant row exists"
+  var-anticipated : {e r : ℕ} → In e (m .events) → m .role e ≡ anticipated → In r (m .variants)
+      → Required m (sequent VAR e r (baseGuards m e ++ movesOf m e) (notIncreased r))
 
 -- the numbers of row 80: "kind, event or 0, item"
 pub record SameHeader (s t : Sequent) : Type 0 where

@@ -14,3 +14,5 @@ pub const WITNESSED: u64 = 6;
 pub const NATURAL: u64 = 7;
 
 pub const DECREASES: u64 = 8;
+
+pub const NOT_INCREASED: u64 = 9;

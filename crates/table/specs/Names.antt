@@ -57,7 +57,7 @@ abstractMachine = 1
 abbrev pub concreteMachine : ℕ
 concreteMachine = 2
 
--- "class: 0 initialisation, 1 ordinary, 2 convergent"
+-- "class: 0 initialisation, 1 ordinary, 2 convergent"; 02, request 1: class 3, anticipated
 abbrev pub initialisationClass : ℕ
 initialisationClass = 0
 
@@ -66,6 +66,9 @@ ordinaryClass = 1
 
 abbrev pub convergentClass : ℕ
 convergentClass = 2
+
+abbrev pub anticipatedClass : ℕ
+anticipatedClass = 3
 
 -- "type: 1 integer, 2 boolean"; a formula is also of the third sort
 abbrev pub integerType : ℕ
