@@ -1,7 +1,7 @@
--- Laws of the tests: of two in order, of where those that pass stand, of a number after another, and of a variant that stands with convergent events.
+-- Laws of the tests: of two in order, of where those that pass stand, and of a number after another.
 use Prim.Native.Nat.{ℕ, _+_, _-_}
-use mathlib.Core.Path.{_≡_, refl, sym, subst}
-use mathlib.Core.Bool.{Bool, true, false, not, _&&_, _||_, Bool·beq}
+use mathlib.Core.Path.{_≡_, sym, subst}
+use mathlib.Core.Bool.{Bool, true, false, _&&_, _||_}
 use native.Mathlib.Omega.{arith}
 use native.Mathlib.Decide.{ℕ-discrete}
 use borrow.Author.Tests.{eq-eqb, ne-eqb}
@@ -40,10 +40,3 @@ follows-next x y f = go (ℕ-discrete (y - 1) x)
     go : Dec (y - 1 ≡ x) → eqb (y - 1) x ≡ eqb y (1 + x)
     go (yes e) = rw (eq-eqb (y - 1) x e, eq-eqb y (1 + x) (omega arith))
     go (no g) = rw (ne-eqb (y - 1) x g, ne-eqb y (1 + x) (omega arith))
-
--- one of two without the other
-pub one-alone : (a b : Bool) → ((a && not b) || (not a && b)) ≡ not (Bool·beq a b)
-one-alone true true = refl
-one-alone true false = refl
-one-alone false true = refl
-one-alone false false = refl

@@ -1,4 +1,4 @@
-// 01, Refusal 12 missing: whether a table lacks an initialisation, an initial action, a witness, a variant or a convergent event.
+// 01, Refusal 12 missing: whether a table lacks an initialisation, an initial action, a witness, a variant, or an event for its variant.
 use scan::Query;
 use scan::some_row;
 use scan::span_at;
@@ -120,7 +120,7 @@ fn some_event_lacks(words: &[u64], table: Table, spans: &[usize]) -> bool
     false
 }
 
-// 12: an initialisation of either machine, an action or a witness, or a variant without convergent events or the reverse.
+// 12: an initialisation of either machine, an action or a witness, a variant for class 2, or class 2 or 3 for a variant.
 pub fn missing(words: &[u64], table: Table, spans: &[usize]) -> bool
     requires { ⌜ (table ≡ countsOf (rowsOf (now words))) × Spanned (rowsOf (now words)) (now spans) ⌝ }
     ensures { λ r. ⌜ r ≡ missing (rowsOf (now (words .entry))) ⌝ }
@@ -129,8 +129,10 @@ pub fn missing(words: &[u64], table: Table, spans: &[usize]) -> bool
     let abstract_initialised = some_row(words, spans, Query::Initialises(event::ABSTRACT), rows);
     let concrete_initialised = some_row(words, spans, Query::Initialises(event::CONCRETE), rows);
     let lacks = some_event_lacks(words, table, spans);
-    let convergent = some_row(words, spans, Query::Convergent, rows);
+    let convergent = some_row(words, spans, Query::OfClass(event::CONVERGENT), rows);
+    let anticipated = some_row(words, spans, Query::OfClass(event::ANTICIPATED), rows);
     let variant = some_row(words, spans, Query::Tagged(tag::VARIANT), rows);
-    let unmatched = (convergent & !variant) | (!convergent & variant);
-    !abstract_initialised | (!concrete_initialised | (lacks | unmatched))
+    let lacks_variant = convergent & !variant;
+    let lacks_new_event = variant & !(convergent | anticipated);
+    !abstract_initialised | (!concrete_initialised | (lacks | (lacks_variant | lacks_new_event)))
 }

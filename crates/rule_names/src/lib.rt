@@ -65,7 +65,8 @@ pub fn event_offends(words: &[u64], table: Table, spans: &[usize], i: usize) -> 
     let class = b_at(words, i);
     let good_machine = (machine == event::ABSTRACT) | (machine == event::CONCRETE);
     let good_class = (class < event::CONVERGENT)
-        | ((class == event::CONVERGENT) & (machine == event::CONCRETE));
+        | (((class == event::CONVERGENT) | (class == event::ANTICIPATED))
+            & (machine == event::CONCRETE));
     let rest = good_refined(words, table, i) & !out_of_order(words, spans, i);
     !(good_machine & (good_class & rest))
 }

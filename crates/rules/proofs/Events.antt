@@ -2,7 +2,7 @@
 -- before it, and the concrete one is there.
 use Prim.Native.Nat.{ℕ, _≤_, _<_}
 use mathlib.Core.Path.{_≡_, sym, ap, _∙_, subst}
-use mathlib.Core.Bool.{false, not, _&&_}
+use mathlib.Core.Bool.{false, not, _&&_, _||_}
 use mathlib.Core.Logic.{_⊎_, inl, inr}
 use native.Mathlib.Omega.{arith}
 use lib.Dec.{T, ltb, eqb, eqb→eq, ltb→lt}
@@ -43,18 +43,17 @@ module _ (t : Rows) (ok : Obeys t) where
       machine : T (goodMachine t i) → (t .a i ≡ 1) ⊎ (t .a i ≡ 2)
       machine g = or-cases (eqb (t .a i) 1) (eqb (t .a i) 2) g (λ p. inl (eqb→eq (t .a i) 1 p)) (λ p. inr (eqb→eq (t .a i) 2 p))
 
-      one-at-least : (t .a i ≡ 1) ⊎ (t .a i ≡ 2) → 1 ≤ t .a i
-      one-at-least (inl p) = omega arith
-      one-at-least (inr p) = omega arith
+      new : T (eqb (t .b i) 2 || eqb (t .b i) 3) → t .b i ≤ 3
+      new g = or-cases (eqb (t .b i) 2) (eqb (t .b i) 3) g (λ p. omega (arith, eqb→eq (t .b i) 2 p)) (λ p. omega (arith, eqb→eq (t .b i) 3 p))
 
-      class : T (goodClass t i) → (t .b i < 2) ⊎ ((t .b i ≡ 2) × (t .a i ≡ 2))
+      class : T (goodClass t i) → (t .b i < 2) ⊎ ((t .b i ≤ 3) × (t .a i ≡ 2))
       class g =
-          or-cases (ltb (t .b i) 2) (eqb (t .b i) 2 && eqb (t .a i) 2) g (λ p. inl (ltb→lt (t .b i) 2 p))
-          (λ p. let s = and-split (eqb (t .b i) 2) (eqb (t .a i) 2) p in inr (eqb→eq (t .b i) 2 (s .0), eqb→eq (t .a i) 2 (s .1)))
+          or-cases (ltb (t .b i) 2) ((eqb (t .b i) 2 || eqb (t .b i) 3) && eqb (t .a i) 2) g (λ p. inl (ltb→lt (t .b i) 2 p))
+          (λ p. let s = and-split (eqb (t .b i) 2 || eqb (t .b i) 3) (eqb (t .a i) 2) p in inr (new (s .0), eqb→eq (t .a i) 2 (s .1)))
 
-      both : (t .a i ≡ 1) ⊎ (t .a i ≡ 2) → (t .b i < 2) ⊎ ((t .b i ≡ 2) × (t .a i ≡ 2)) → EventNumbers (t .a i) (t .b i)
-      both m (inl c) = record { machineIs = m; classIs = omega (arith, one-at-least m) }
-      both m (inr c) = record { machineIs = m; classIs = omega (arith, c .0, c .1) }
+      both : (t .a i ≡ 1) ⊎ (t .a i ≡ 2) → (t .b i < 2) ⊎ ((t .b i ≤ 3) × (t .a i ≡ 2)) → EventNumbers (t .a i) (t .b i)
+      both m (inl c) = record { machineIs = m; abstractClass = λ e. omega arith; concreteClass = omega arith }
+      both m (inr c) = record { machineIs = m; abstractClass = λ e. omega (arith, c .1); concreteClass = c .0 }
 
       good : T (goodMachine t i) → T (goodClass t i) → EventNumbers (t .a i) (t .b i)
       good g c = both (machine g) (class c)

@@ -2,28 +2,24 @@
 -- event.
 use Prim.Native.Nat.{ℕ, _+_, _<_}
 use mathlib.Core.Path.{_≡_, subst₂}
-use mathlib.Core.Bool.{Bool, true, false, not, _&&_, _||_, Bool·beq}
+use mathlib.Core.Bool.{Bool, true, false, not, _&&_, _||_}
 use lib.Dec.{T, eqb, eqb→eq, not-T}
 use Rattle.lists.specs.Below.{someBelow}
 use Rattle.lists.proofs.Below.{some-found, some-shown}
-use Rattle.formula.proofs.Truth.{eq→eqb, and-join, or-left, or-neither, not-false-test, false-refutes}
+use Rattle.formula.proofs.Truth.{eq→eqb, and-join, or-left, or-neither, and-not-right, not-false-test, false-refutes}
 use Rattle.table.specs.Rows.{Rows, tagged, named, rowOf, numberIn, kindOf, machineNumber, classOf}
 use Rattle.table.proofs.Sections.{named-row, number-of-row}
-use Rattle.rules.specs.Rules.{initialises, assigned, lacksAction, lacksWitness, eventLacks, convergentEvent, missing}
+use Rattle.rules.specs.Rules.{initialises, assigned, lacksAction, lacksWitness, eventLacks, ofClass, someOfClass, someVariant, lacksVariant, lacksNewEvent, missing}
 use Rattle.rules.proofs.Obeys.{Obeys}
 use Rattle.rules.proofs.Tags.{tagged-test, tags-rising}
-
-same-truth : (a b : Bool) → T (Bool·beq a b) → T a → T b
-same-truth true true h p = tt
-same-truth true false h p = h
-same-truth false b h p = absurd p
 
 -- the parts of the check
 pub record NothingMissing (t : Rows) : Type 0 where
   pub abstractInitialised : T (someBelow (initialises t 1) (t .size))
   pub concreteInitialised : T (someBelow (initialises t 2) (t .size))
   pub nothingLacking : someBelow (eventLacks t) (t .size) ≡ false
-  pub variantWithConvergent : T (Bool·beq (someBelow (convergentEvent t) (t .size)) (someBelow (tagged t 70) (t .size)))
+  pub variantWithConvergent : lacksVariant t ≡ false
+  pub variantWithNewEvent : lacksNewEvent t ≡ false
 
 module _ (t : Rows) (ok : Obeys t) where
   abbrev some : (ℕ → Bool) → Bool
@@ -35,11 +31,13 @@ module _ (t : Rows) (ok : Obeys t) where
       let p = or-neither (not (some (initialises t 1))) _ (ok .present) in
       let q = or-neither (not (some (initialises t 2))) _ (p .1) in
       let r = or-neither (some (eventLacks t)) _ (q .1) in
+      let v = or-neither (lacksVariant t) (lacksNewEvent t) (r .1) in
       record {
         abstractInitialised = not-false-test (some (initialises t 1)) (p .0);
         concreteInitialised = not-false-test (some (initialises t 2)) (q .0);
         nothingLacking = r .0;
-        variantWithConvergent = not-false-test (Bool·beq (some (convergentEvent t)) (some (tagged t 70))) (r .1);
+        variantWithConvergent = v .0;
+        variantWithNewEvent = v .1;
       }
 
   -- "an initial action for a variable"
@@ -65,11 +63,16 @@ module _ (t : Rows) (ok : Obeys t) where
       twice-not true h = tt
       twice-not false h = h
 
-  -- "a variant without convergent events or the reverse"
-  pub convergent-variant : (e : ℕ) → T (named t 40 e) → classOf t e ≡ 2 → (i : ℕ) × (i < t .size) × (t .tag i ≡ 70)
-  convergent-variant e n c =
+  -- an event shows its class
+  class-shown : (e class : ℕ) → T (named t 40 e) → classOf t e ≡ class → T (someOfClass t class)
+  class-shown e class n c =
       let i = rowOf t 40 e in
       let p = named-row t (tags-rising t ok) 40 e n in
-      let h = some-shown (convergentEvent t) (t .size) i (p .0) (and-join (tagged t 40 i) (eqb (t .b i) 2) (tagged-test t 40 i (p .1)) (eq→eqb (t .b i) 2 c)) in
-      let r = some-found (tagged t 70) (t .size) (same-truth (some (convergentEvent t)) (some (tagged t 70)) (nothing-missing .variantWithConvergent) h) in
+      some-shown (ofClass t class) (t .size) i (p .0) (and-join (tagged t 40 i) (eqb (t .b i) class) (tagged-test t 40 i (p .1)) (eq→eqb (t .b i) class c))
+
+  -- a variant "must stand with class 2"
+  pub convergent-variant : (e : ℕ) → T (named t 40 e) → classOf t e ≡ 2 → (i : ℕ) × (i < t .size) × (t .tag i ≡ 70)
+  convergent-variant e n c =
+      let h = and-not-right (someOfClass t 2) (not (someVariant t)) (nothing-missing .variantWithConvergent) (class-shown e 2 n c) in
+      let r = some-found (tagged t 70) (t .size) (not-false-test (someVariant t) h) in
       (r .0, r .1, eqb→eq (t .tag (r .0)) 70 (r .2))

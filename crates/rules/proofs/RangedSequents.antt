@@ -13,7 +13,7 @@ use Rattle.lists.proofs.All.{all-at, all-in, all-imp, all-map}
 use Rattle.lists.proofs.Below.{count-at-most}
 use Rattle.table.specs.Rows.{Rows, tagged, section, count, named, rowOf, machineNumber, classOf, refinedBy}
 use Rattle.table.proofs.Sections.{named-bounds}
-use Rattle.machine.specs.Machine.{Witness, Machine, Role, abstractInitialisation, abstractOrdinary, concreteInitialisation, refining, convergent}
+use Rattle.machine.specs.Machine.{Witness, Machine, Role, abstractInitialisation, abstractOrdinary, concreteInitialisation, refining, convergent, anticipated}
 use Rattle.machine.specs.Described.{roleNumbered, belonging, identifiersOf, machineOf}
 use Rattle.machine.proofs.Described.{action-row, identifier-named, event-named}
 use Rattle.sequent.specs.Entry.{Entry}
@@ -24,6 +24,7 @@ use Rattle.sequent.specs.Listed.{sequents}
 use Rattle.sequent.specs.Required.{MatchedBy, by-initialisation, by-refined}
 use Rattle.sequent.proofs.Entries.{Root, axiom-root, abstract-invariant-root, concrete-invariant-root, variant-root, guard-root, action-root, witness-root}
 use Rattle.sequent.proofs.Entries.{VariableOf, EventOf, EntryOf, of-written, of-primed, of-defined, of-moves, of-feasible, of-witnessed, of-natural, of-decreases}
+use Rattle.sequent.proofs.Entries.{of-not-increased}
 use Rattle.sequent.proofs.Entries.{ItemOf, root-item, variable-item, target-item, action-root-has, listed-made}
 use Rattle.rules.proofs.Range.{Ranged, small-ranged, zero-ranged, RangedRows}
 
@@ -34,6 +35,7 @@ RoleRanged abstractOrdinary = Unit {0}
 RoleRanged (concreteInitialisation f) = Ranged f
 RoleRanged (refining f) = Ranged f
 RoleRanged convergent = Unit {0}
+RoleRanged anticipated = Unit {0}
 
 abbrev WitnessRanged : Witness → Type 0
 WitnessRanged w = Ranged (w .target) × Ranged (w .root)
@@ -71,15 +73,18 @@ module _ (t : Rows) (r : RangedRows t) where
 
   role-ranged : (machine class f : ℕ) → Ranged f → RoleRanged (roleNumbered machine class f)
   unfolding roleNumbered
-  role-ranged machine class f h = go (eqb machine 1) (eqb class 0) (eqb class 1)
+  role-ranged machine class f h = go (eqb machine 1) (eqb class 0) (eqb class 1) (eqb class 2)
     where
-      go : (x y z : Bool)
-          → RoleRanged (pick x (pick y abstractInitialisation abstractOrdinary) (pick y (concreteInitialisation 1) (pick z (refining f) convergent)))
-      go true true z = tt
-      go true false z = tt
-      go false true z = small-ranged 1 (omega arith)
-      go false false true = h
-      go false false false = tt
+      go : (x y z v : Bool)
+          → RoleRanged
+          (pick x (pick y abstractInitialisation abstractOrdinary)
+          (pick y (concreteInitialisation 1) (pick z (refining f) (pick v convergent anticipated))))
+      go true true z v = tt
+      go true false z v = tt
+      go false true z v = small-ranged 1 (omega arith)
+      go false false true v = h
+      go false false false true = tt
+      go false false false false = tt
 
   pub machine-ranged : RangedMachine (machineOf t)
   unfolding machineOf
@@ -127,6 +132,7 @@ module _ (m : Machine) (r : RangedMachine m) where
   entry-ranged h (of-witnessed {e} at i) = (all-at (r .events) at, all-at (r .witnesses e) i .0)
   entry-ranged h (of-natural q) = (root-ranged q, zero-ranged)
   entry-ranged h (of-decreases q) = (root-ranged q, zero-ranged)
+  entry-ranged h (of-not-increased q) = (root-ranged q, zero-ranged)
 
   item-ranged : {x : ℕ} → ItemOf m x → Ranged x
   item-ranged (root-item q) = root-ranged q

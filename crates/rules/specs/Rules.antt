@@ -1,10 +1,10 @@
 -- 01, Refusals 3 to 12: for each number, whether a row offends, or something is missing.
 use Prim.Native.Nat.{ℕ, zero, suc, _+_, _-_}
-use mathlib.Core.Bool.{Bool, true, false, not, _&&_, _||_, Bool·beq}
+use mathlib.Core.Bool.{Bool, true, false, not, _&&_, _||_}
 use lib.Dec.{ltb, leb, eqb}
 use Rattle.lists.specs.Choice.{pick}
 use Rattle.lists.specs.Below.{oneIf, countBelow, someBelow}
-use Rattle.table.specs.Names.{abstractInvariantTag, abstractMachine, abstractParameterKind, abstractVariableKind, axiomTag, becomesEqualTag}
+use Rattle.table.specs.Names.{abstractInvariantTag, abstractMachine, abstractParameterKind, abstractVariableKind, anticipatedClass, axiomTag, becomesEqualTag}
 use Rattle.table.specs.Names.{booleanType, concreteInvariantTag, concreteMachine, concreteParameterKind, concreteVariableKind, constantKind}
 use Rattle.table.specs.Names.{convergentClass, eventTag, guardTag, identifierTag, initialisationClass, integerType}
 use Rattle.table.specs.Names.{nodeTag, ordinaryClass, predicateSort, variantTag, witnessTag}
@@ -37,9 +37,9 @@ module _ (t : Rows) where
   abbrev pub goodMachine : ℕ → Bool
   goodMachine i = eqb (t .a i) abstractMachine || eqb (t .a i) concreteMachine
 
-  -- "class: 0 initialisation, 1 ordinary, 2 convergent (concrete only)"
+  -- "class: 0 initialisation, 1 ordinary, 2 convergent (concrete only)"; 02, request 1: "Event class 3, concrete only"
   abbrev pub goodClass : ℕ → Bool
-  goodClass i = ltb (t .b i) convergentClass || (eqb (t .b i) convergentClass && eqb (t .a i) concreteMachine)
+  goodClass i = ltb (t .b i) convergentClass || ((eqb (t .b i) convergentClass || eqb (t .b i) anticipatedClass) && eqb (t .a i) concreteMachine)
 
   -- "refined event (abstract, class 1) of a concrete ordinary one, else 0"
   abbrev pub abstractOrdinaryEvent : ℕ → Bool
@@ -206,13 +206,25 @@ module _ (t : Rows) where
   abbrev pub eventLacks : ℕ → Bool
   eventLacks i = tagged t eventTag i && someBelow (lacksFor i) (t .size)
 
-  -- "a variant without convergent events or the reverse"
-  abbrev pub convergentEvent : ℕ → Bool
-  convergentEvent i = tagged t eventTag i && eqb (t .b i) convergentClass
+  -- "a variant without convergent events or the reverse", which 02, request 1, puts anew: "A variant may stand with class 2 or 3 and must stand with class 2."
+  abbrev pub ofClass : ℕ → ℕ → Bool
+  ofClass class i = tagged t eventTag i && eqb (t .b i) class
+
+  abbrev pub someOfClass : ℕ → Bool
+  someOfClass class = someBelow (ofClass class) (t .size)
+
+  abbrev pub someVariant : Bool
+  someVariant = someBelow (tagged t variantTag) (t .size)
+
+  abbrev pub lacksVariant : Bool
+  lacksVariant = someOfClass convergentClass && not someVariant
+
+  abbrev pub lacksNewEvent : Bool
+  lacksNewEvent = someVariant && not (someOfClass convergentClass || someOfClass anticipatedClass)
 
   unfoldable pub missing : Bool
   missing =
       not (someBelow (initialises abstractMachine) (t .size))
       || (not (someBelow (initialises concreteMachine) (t .size))
       || (someBelow eventLacks (t .size)
-      || not (Bool·beq (someBelow convergentEvent (t .size)) (someBelow (tagged t variantTag) (t .size)))))
+      || (lacksVariant || lacksNewEvent)))

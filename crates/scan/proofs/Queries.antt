@@ -11,7 +11,7 @@ use Rattle.lists.proofs.Below.{count-stays}
 use Rattle.table.specs.Names.{becomesEqualTag, becomesSuchTag, witnessTag}
 use Rattle.table.specs.Rows.{Rows, tagged, isAction}
 use Rattle.scan.specs.declared.Query.{Query}
-use Rattle.scan.specs.declared.Query.the-variants.{Event, SameTarget, Initialises, Assigns, Witnesses, Convergent, Tagged}
+use Rattle.scan.specs.declared.Query.the-variants.{Event, SameTarget, Initialises, Assigns, Witnesses, OfClass, Tagged}
 use Rattle.scan.specs.Query.{actionTag, queryTag, passesOf}
 use Rattle.scan.specs.Span.{Spans}
 use Rattle.scan.specs.Spans.{ofTag, tagSpan}
@@ -76,7 +76,7 @@ module _ (t : Rows) where
   outside (Initialises machine) j o = rw o
   outside (Assigns event target) j o = rw o
   outside (Witnesses event target) j o = rw o
-  outside Convergent j o = rw o
+  outside (OfClass class) j o = rw o
   outside (Tagged k) j o = tagged-outside k j o
 
   pub query-spans : (q : Query) → Spans (passesOf t q) (t .size) (tagSpan t (queryTag q))

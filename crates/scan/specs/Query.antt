@@ -3,10 +3,10 @@ use Prim.Native.Nat.{ℕ}
 use mathlib.Core.Bool.{Bool, _&&_, _||_}
 use lib.Dec.{eqb}
 use Rattle.lists.specs.Choice.{pick}
-use Rattle.table.specs.Names.{eventTag, becomesEqualTag, witnessTag, becomesSuchTag, convergentClass, initialisationClass}
+use Rattle.table.specs.Names.{eventTag, becomesEqualTag, witnessTag, becomesSuchTag, initialisationClass}
 use Rattle.table.specs.Rows.{Rows}
 use Rattle.scan.specs.declared.Query.{Query}
-use Rattle.scan.specs.declared.Query.the-variants.{Event, SameTarget, Initialises, Assigns, Witnesses, Convergent, Tagged}
+use Rattle.scan.specs.declared.Query.the-variants.{Event, SameTarget, Initialises, Assigns, Witnesses, OfClass, Tagged}
 
 -- the tag under which the rows of a tag stand
 abbrev pub spanTag : ℕ → ℕ
@@ -22,7 +22,7 @@ holds (SameTarget other event target) tag a b = ((actionTag other && actionTag t
 holds (Initialises machine) tag a b = (eqb tag eventTag && eqb a machine) && eqb b initialisationClass
 holds (Assigns event target) tag a b = actionTag tag && (eqb a event && eqb b target)
 holds (Witnesses event target) tag a b = eqb tag witnessTag && (eqb a event && eqb b target)
-holds Convergent tag a b = eqb tag eventTag && eqb b convergentClass
+holds (OfClass class) tag a b = eqb tag eventTag && eqb b class
 holds (Tagged k) tag a b = eqb tag k
 
 -- the tag under which the rows that pass stand
@@ -32,7 +32,7 @@ queryTag (SameTarget other event target) = spanTag other
 queryTag (Initialises machine) = eventTag
 queryTag (Assigns event target) = becomesEqualTag
 queryTag (Witnesses event target) = witnessTag
-queryTag Convergent = eventTag
+queryTag (OfClass class) = eventTag
 queryTag (Tagged k) = k
 
 -- the row j of a table passes

@@ -33,8 +33,8 @@ pub enum Query {
     Assigns { event: u64, target: u64 },
     // a witness of an event for an identifier (check 12)
     Witnesses { event: u64, target: u64 },
-    // a convergent event (check 12)
-    Convergent,
+    // an event of a class (check 12)
+    OfClass(u64),
     // a row of a tag (check 12)
     Tagged(u64),
 }
@@ -62,7 +62,7 @@ fn passes(query: Query, tag: u64, a: u64, b: u64) -> bool
             & ((a == event) & (b == target)),
         Query::Witnesses { event, target } => (tag == tag::WITNESS)
             & ((a == event) & (b == target)),
-        Query::Convergent => (tag == tag::EVENT) & (b == event::CONVERGENT),
+        Query::OfClass(class) => (tag == tag::EVENT) & (b == class),
         Query::Tagged(k) => tag == k,
     }
 }
@@ -288,7 +288,7 @@ fn query_tag(query: Query) -> u64
         Query::Initialises(machine) => tag::EVENT,
         Query::Assigns { event, target } => tag::BECOMES_EQUAL,
         Query::Witnesses { event, target } => tag::WITNESS,
-        Query::Convergent => tag::EVENT,
+        Query::OfClass(class) => tag::EVENT,
         Query::Tagged(k) => k,
     }
 }
