@@ -104,3 +104,7 @@ pub bound-falls : (k : ℕ) (v w : ℤ) → T (lessℤ w v) → T (atMostℤ (po
 bound-falls k v w l t =
     let h : T (atMostℤ (pos k) (sucℤ w)) = rw (+ℤ-one w) at t in
     rw (+ℤ-one v) (at-most-suc (pos k) v (at-most-trans (pos k) (sucℤ w) v h (less-suc w v l)))
+
+-- what is at most the lower value plus one is at most the higher value plus one
+pub bound-kept : (k : ℕ) (v w : ℤ) → T (atMostℤ w v) → T (atMostℤ (pos k) (w +ℤ pos 1)) → T (atMostℤ (pos k) (v +ℤ pos 1))
+bound-kept k v w l t = at-most-trans (pos k) (w +ℤ pos 1) (v +ℤ pos 1) t (at-most-add w v (pos 1) l)

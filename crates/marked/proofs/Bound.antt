@@ -1,12 +1,12 @@
 -- P10 by the theorem's own notions: the machine has the convergent step from variant 0 to −1, its bound allows a stretch of one such step, and none of two.
 use mathlib.Core.Path.{_≡_, refl, sym, ap, subst, _∙_}
-use mathlib.Core.List.{List, [], _∷_, flatMap}
+use mathlib.Core.List.{[], _∷_, flatMap}
 use mathlib.Core.Option.{Option, some}
-use Prim.Native.Nat.{ℕ}
+use Prim.Native.Nat.{ℕ, zero, suc}
 use native.Mathlib.Omega.{arith}
 use lib.Dec.{T}
 use lib.IntN.{ℤ, pos, negsuc}
-use Rattle.lists.specs.All.{All, all-nil, all-cons, In, here, there}
+use Rattle.lists.specs.All.{all-nil, all-cons, In, here, there}
 use Rattle.lists.specs.Below.{countBelow, first, numbers, keep}
 use Rattle.lists.proofs.All.{in-nil}
 use Rattle.number.specs.Number.{columnsOf}
@@ -20,7 +20,7 @@ use Rattle.machine.specs.Described.{typeNumbered, kindNumbered, roleNumbered, t
 use Rattle.rules.specs.Decoded.{lineOf, wordsOf}
 use Rattle.reply.specs.Printed.{rowsBytes}
 use Rattle.run.specs.Run.{blank, Follows}
-use Rattle.run.specs.SafeRun.{stretch, withinBound, Bounded}
+use Rattle.run.specs.SafeRun.{withinBound, Unbroken, convergentSteps, Bounded, StretchesBounded}
 use Rattle.marked.specs.Cases.{falling, withU, stepTo, readIn}
 
 one-step : Follows falling (blank falling) (withU (pos 0)) (stepTo (negsuc 0) ∷ [])
@@ -37,20 +37,30 @@ unfolding falling flatMap columnsOf numberOf scanFrom rowBytes rowsBytes lineOf 
 variant-is = refl
 
 -- both steps are convergent
-stretch-one : stretch falling (stepTo (negsuc 0) ∷ []) ≡ 1
+counted-one : convergentSteps falling (stepTo (negsuc 0) ∷ []) ≡ 1
+unfolding falling flatMap columnsOf numberOf scanFrom rowBytes rowsBytes lineOf wordsOf machineOf start count countBelow roleNumbered numbers keep
+counted-one = refl
+
+counted-two : convergentSteps falling (stepTo (negsuc 0) ∷ stepTo (negsuc 1) ∷ []) ≡ 2
+unfolding falling flatMap columnsOf numberOf scanFrom rowBytes rowsBytes lineOf wordsOf machineOf start count countBelow roleNumbered numbers keep
+counted-two = refl
+
+unbroken-two : Unbroken falling (stepTo (negsuc 0) ∷ stepTo (negsuc 1) ∷ [])
 unfolding falling flatMap columnsOf numberOf scanFrom rowBytes rowsBytes lineOf wordsOf machineOf start count countBelow roleNumbered numbers
-stretch-one = refl
+unbroken-two = all-cons tt (all-cons tt all-nil)
 
-stretch-two : stretch falling (stepTo (negsuc 0) ∷ stepTo (negsuc 1) ∷ []) ≡ 2
-unfolding falling flatMap columnsOf numberOf scanFrom rowBytes rowsBytes lineOf wordsOf machineOf start count countBelow roleNumbered numbers
-stretch-two = refl
+one-bounded : Bounded falling (blank falling) (withU (pos 0)) (convergentSteps falling (stepTo (negsuc 0) ∷ []))
+one-bounded = rw counted-one (λ l. (8, pos 0, rw variants-are (here refl), variant-is, tt))
 
-one-allowed : Bounded falling (blank falling) (withU (pos 0)) (stretch falling (stepTo (negsuc 0) ∷ []))
-one-allowed = rw stretch-one (λ l. (8, pos 0, rw variants-are (here refl), variant-is, tt))
+one-allowed : StretchesBounded falling (blank falling) (withU (pos 0)) (stepTo (negsuc 0) ∷ [])
+unfolding keep
+one-allowed zero u = λ l. absurd (omega arith)
+one-allowed (suc zero) u = one-bounded
+one-allowed (suc (suc n)) u = one-bounded
 
-two-refused : Bounded falling (blank falling) (withU (pos 0)) (stretch falling (stepTo (negsuc 0) ∷ stepTo (negsuc 1) ∷ [])) → ⊥
+two-refused : StretchesBounded falling (blank falling) (withU (pos 0)) (stepTo (negsuc 0) ∷ stepTo (negsuc 1) ∷ []) → ⊥
 two-refused h =
-    let (r, v, i, e, t) = subst (Bounded falling (blank falling) (withU (pos 0))) stretch-two h (omega arith) in
+    let (r, v, i, e, t) = subst (Bounded falling (blank falling) (withU (pos 0))) counted-two (h 2 unbroken-two) (omega arith) in
     let r-is : r ≡ 8 = only (subst (In r) variants-are i) in
     let v-is : v ≡ pos 0 = same-number (sym e ∙ ap (λ r. readTree (readIn (pos 0)) (falling .tree r)) r-is ∙ variant-is) in
     subst (λ v. T (withinBound 2 v)) v-is t

@@ -17,7 +17,7 @@ use Rattle.rules.specs.declared.Verdict.the-variants as verdict
 use Rattle.rules.specs.Verdict.{verdict as verdictOf}
 use Rattle.rules.specs.Offence.{machine}
 use Rattle.run.specs.Run.{State, blank, world, Taken}
-use Rattle.run.specs.SafeRun.{withinBound, stretch}
+use Rattle.run.specs.SafeRun.{withinBound, convergentSteps}
 use Rattle.reply.specs.declared.Reply.{Reply}
 use Rattle.reply.specs.declared.Reply.the-variants as reply
 use Rattle.reply.specs.Printed.{row, rowsBytes}
@@ -175,8 +175,8 @@ cases =
     ∷ gives (ofVerdict (verdictOf bytesP10)) (accepted 6)
     ∷ gives (ofReading (readTree (readIn (pos 0)) (falling .tree 8))) (whole (pos 0))
     ∷ gives (ofReading (readTree (readIn (negsuc 0)) (falling .tree 8))) (whole (negsuc 0))
-    ∷ gives (bit (withinBound (stretch falling (stepTo (negsuc 0) ∷ [])) (pos 0))) (bit true)
-    ∷ gives (bit (withinBound (stretch falling (stepTo (negsuc 0) ∷ stepTo (negsuc 1) ∷ [])) (pos 0))) (bit false)
+    ∷ gives (bit (withinBound (convergentSteps falling (stepTo (negsuc 0) ∷ [])) (pos 0))) (bit true)
+    ∷ gives (bit (withinBound (convergentSteps falling (stepTo (negsuc 0) ∷ stepTo (negsuc 1) ∷ [])) (pos 0))) (bit false)
     ∷ []
 
 -- the two are the same in every case

@@ -15,12 +15,12 @@ use Rattle.table.proofs.Sections.{section-row, row-section, named-bounds}
 use Rattle.formula.specs.Values.{integer}
 use Rattle.formula.proofs.Sort.{treeType}
 use Rattle.formula.proofs.Truth.{and-split, or-cases, true-test}
-use Rattle.machine.specs.Machine.{Witness, unassigned, Role, abstractInitialisation, abstractOrdinary, concreteInitialisation, refining, convergent}
+use Rattle.machine.specs.Machine.{Witness, unassigned, Role, abstractInitialisation, abstractOrdinary, concreteInitialisation, refining, convergent, anticipated}
 use Rattle.machine.specs.Described.{typeNumbered, kindNumbered, roleNumbered, treeOf, actionOf, belonging, identifiersOf, machineOf}
 use Rattle.machine.proofs.Described.{SetBy, action-row, belonging-row, identifier-named, event-named, named-event}
 use Rattle.machine.proofs.Roles.{RoleSays}
 use Rattle.sequent.specs.Entry.{witnessRoot}
-use Rattle.sequent.specs.Required.{ownVariables}
+use Rattle.sequent.specs.Required.{isNew, ownVariables}
 use Rattle.rules.specs.Sight.{hasKind}
 use Rattle.rules.specs.Rules.{guardEvent, actionTarget}
 use Rattle.rules.proofs.Obeys.{Obeys}
@@ -63,6 +63,14 @@ module _ (t : Rows) where
   abbrev EventSays : ℕ → Role → Type 0
   EventSays e ro = RoleSays (machineNumber t e) (classOf t e) (refinedBy t e) ro
 
+  new-concrete : (e : ℕ) (ro : Role) → EventSays e ro → T (isNew ro) → machineNumber t e ≡ 2
+  new-concrete e abstractInitialisation s new = absurd new
+  new-concrete e abstractOrdinary s new = absurd new
+  new-concrete e (concreteInitialisation f) s new = absurd new
+  new-concrete e (refining f) s new = absurd new
+  new-concrete e convergent s new = s .0
+  new-concrete e anticipated s new = s .0
+
 module _ (t : Rows) (ok : Obeys t) where
   -- the variant is an integer
   variant-type : (i : ℕ) → i < t .size → t .tag i ≡ 70 → treeType (λ x. typeNumbered (typeOf t x)) (treeOf t (t .a i)) ≡ integer
@@ -95,9 +103,9 @@ module _ (t : Rows) (ok : Obeys t) where
           let same : r .0 ≡ i = witness-once t ok (r .0) i (q .0) (p .0) (q .1) (p .1) (q .2 ∙ sym (p .2)) (sym (ap (λ u. u .target) (r .2)) ∙ e′) in
           ap (λ u. u .root) (r .2) ∙ ap (t .c) same
 
-  -- a convergent event sets no abstract variable
-  convergent-stays : (e x : ℕ) → machineNumber t e ≡ 2 → In x (identifiersOf t 2) → actionOf t e x ≡ unassigned
-  convergent-stays e x m j =
+  -- a concrete event sets no abstract variable
+  abstract-stays : (e x : ℕ) → machineNumber t e ≡ 2 → In x (identifiersOf t 2) → actionOf t e x ≡ unassigned
+  abstract-stays e x m j =
       action-row t e x (λ a. a ≡ unassigned) (λ i by. absurd (never-set 51 i by tt (λ h. h))) (λ i by. absurd (never-set 52 i by tt (λ h. h))) (λ none. refl)
     where
       never-set : (k i : ℕ) → SetBy t k e x i → T (rootTag k) → (T (targetTest t k i) → T (actionTarget t (t .a i) (t .b i))) → ⊥
@@ -159,7 +167,8 @@ accepted-well-formed t ok = record {
       let n = event-named t e i in
       let r = refined-ordinary t ok e f n (event-says t ok e (refining f) n q) in
       (named-event t f (r .0), r .1, r .2);
-  convergentStays = λ e i q. all-in (identifiersOf t 2) (λ x j. convergent-stays t ok e x (event-says t ok e convergent (event-named t e i) q .0) j);
+  newStays = λ e i new. all-in (identifiersOf t 2) (λ x j.
+      abstract-stays t ok e x (new-concrete t e (roleIn t e) (event-says t ok e (roleIn t e) (event-named t e i) refl) new) j);
   convergentVariant = λ e i q.
       let n = event-named t e i in
       let r = convergent-variant t ok e n (event-says t ok e convergent n q .1) in

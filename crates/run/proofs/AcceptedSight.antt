@@ -17,7 +17,7 @@ use Rattle.formula.proofs.Sort.{treeType}
 use Rattle.formula.proofs.Mentions.{mentions-imp}
 use Rattle.formula.proofs.Truth.{eq→eqb, and-split, or-left, or-right, or-cases}
 use Rattle.machine.specs.Machine.{Kind, constantKind, abstractVariable, concreteVariable, abstractParameter, concreteParameter}
-use Rattle.machine.specs.Machine.{Role, abstractInitialisation, abstractOrdinary, concreteInitialisation, refining, convergent}
+use Rattle.machine.specs.Machine.{Role, abstractInitialisation, abstractOrdinary, concreteInitialisation, refining, convergent, anticipated}
 use Rattle.machine.specs.Described.{typeNumbered, kindNumbered, roleNumbered, treeOf, sets, actionOf, belonging, identifiersOf, machineOf}
 use Rattle.machine.proofs.Described.{SetBy, action-row, belonging-row, identifier-named}
 use Rattle.machine.proofs.Roles.{RoleSays}
@@ -49,6 +49,8 @@ own-seen (refining f) machine class refined k s n (inl e) = at-kind (refining f)
 own-seen (refining f) machine class refined k s n (inr e) = at-kind (refining f) k 5 (omega (arith, s .0)) tt
 own-seen convergent machine class refined k s n (inl e) = at-kind convergent k 3 (omega (arith, s .0)) tt
 own-seen convergent machine class refined k s n (inr e) = at-kind convergent k 5 (omega (arith, s .0)) tt
+own-seen anticipated machine class refined k s n (inl e) = at-kind anticipated k 3 (omega (arith, s .0)) tt
+own-seen anticipated machine class refined k s n (inr e) = at-kind anticipated k 5 (omega (arith, s .0)) tt
 
 constant-seen : (ro : Role) → T (ownKinds ro constantKind)
 constant-seen abstractInitialisation = tt
@@ -56,6 +58,7 @@ constant-seen abstractOrdinary = tt
 constant-seen (concreteInitialisation f) = tt
 constant-seen (refining f) = tt
 constant-seen convergent = tt
+constant-seen anticipated = tt
 
 module _ (t : Rows) where
   abbrev kindIn : ℕ → Kind
@@ -130,6 +133,7 @@ module _ (t : Rows) where
         go (concreteInitialisation f) s i = of 3 (omega (arith, s .0)) i
         go (refining f) s i = of 3 (omega (arith, s .0)) i
         go convergent s i = of 3 (omega (arith, s .0)) i
+        go anticipated s i = of 3 (omega (arith, s .0)) i
 
     -- "51 takes the variable's type"
     equal-type : (e x i : ℕ) → T (named t 10 x) → SetBy t 51 e x i → treeType (λ x. typeNumbered (typeOf t x)) (treeOf t (t .c i)) ≡ typeNumbered (typeOf t x)
@@ -179,6 +183,7 @@ module _ (t : Rows) where
         go (concreteInitialisation f) s h = only (kindIn x) h
         go (refining f) s h = h
         go convergent s h = h
+        go anticipated s h = h
 
     pub witness-target : (e i : ℕ) → In i (belonging t 60 e)
         → T (named t 40 e) × (machineNumber t e ≡ 2) × T (hasKind t 2 (t .b i) || hasKind t 4 (t .b i))

@@ -4,7 +4,7 @@ use mathlib.Core.List.{[], _++_, map, flatMap}
 use Prim.Native.Nat.{ℕ}
 use Rattle.lists.specs.All.{All, In}
 use Rattle.lists.proofs.All.{all-left, all-right, all-at, all-imp, all-unmap, all-unflat}
-use Rattle.machine.specs.Machine.{Machine, Role, abstractInitialisation, abstractOrdinary, concreteInitialisation, refining, convergent}
+use Rattle.machine.specs.Machine.{Machine, Role, abstractInitialisation, abstractOrdinary, concreteInitialisation, refining, convergent, anticipated}
 use Rattle.sequent.specs.Entry.{written, primed, defined, moves}
 use Rattle.sequent.specs.Sequent.{Valid, sequent, WD, INV, GRD, SIM}
 use Rattle.sequent.specs.Listed.{inOrder, actionWD, actionFIS, matching, refined, allWritten, base, guarded, moved}
@@ -60,6 +60,7 @@ module _ (m : Machine) (wf : WellFormed m) where
   variables-kind (concreteInitialisation f) = wf .concreteVariablesKind
   variables-kind (refining f) = wf .concreteVariablesKind
   variables-kind convergent = wf .concreteVariablesKind
+  variables-kind anticipated = wf .concreteVariablesKind
 
   pub event-sees : (e : ℕ) → In e (m .events) → {ro : Role} → m .role e ≡ ro → EventSees m ro e
   event-sees e i {ro} q = record {

@@ -2,28 +2,28 @@
 -- make the abstract event's guards and moves true, so that it has a step there, and INV of both events holds in the same world.
 use mathlib.Core.Path.{_≡_, refl, sym, ap, subst}
 use mathlib.Core.List.{[], _++_, map}
-use Prim.Native.Nat.{ℕ}
-use native.Mathlib.Omega.{arith}
+use Prim.Native.Nat.{ℕ, suc}
 use lib.Dec.{T}
+use Rattle.lists.specs.Choice.{pick}
 use Rattle.lists.specs.All.{All, all-nil, In, here}
 use Rattle.lists.proofs.All.{all-left, all-right, all-join, all-at, all-in, all-imp, all-map, all-unmap}
 use Rattle.formula.specs.Values.{wrap}
 use Rattle.formula.specs.Evaluate.{Env, evaluate, True}
 use Rattle.formula.proofs.Values.{eq-equal-value}
-use Rattle.machine.specs.Machine.{Machine, Role, abstractInitialisation, abstractOrdinary, concreteInitialisation, refining, convergent}
-use Rattle.sequent.specs.Entry.{written, primed, moves, natural, decreases, actionTree}
+use Rattle.machine.specs.Machine.{Machine, Role, abstractInitialisation, abstractOrdinary, concreteInitialisation, refining, convergent, anticipated}
+use Rattle.sequent.specs.Entry.{written, primed, moves, natural, decreases, notIncreased, actionTree}
 use Rattle.sequent.specs.Sequent.{Meets, Valid, sequent, NAT, VAR}
 use Rattle.sequent.specs.Listed.{matching, refined, base, guarded, moved, witnessEntries, invHypotheses, sequents}
-use Rattle.sequent.specs.Required.{ownInvariants}
+use Rattle.sequent.specs.Required.{isNew, ownInvariants}
 use Rattle.run.specs.Run.{State, blank, world, Step, ofRun, Match, Matches}
-use Rattle.run.specs.SafeRun.{ownState, notInitial, oneMore, Bounded}
+use Rattle.run.specs.SafeRun.{isConvergent, ownState, notInitial, ofStretch, Bounded}
 use Rattle.run.proofs.WellFormed.{WitnessSees, WellFormed}
 use Rattle.run.proofs.Reading.{AllTrue}
 use Rattle.run.proofs.Events.{EventValid, event-sees, events-valid}
 use Rattle.run.proofs.Steps.{step-moved, moved-step}
 use Rattle.run.proofs.Witnesses.{matched, hiddenValues, entries-true, parameter-entries-true}
 use Rattle.run.proofs.Pair.{AxiomsTrue, PairTrue, axioms-world, abstract-world, base-true, abstract-after, concrete-after, pair-safe}
-use Rattle.run.proofs.Variant.{one-more-bounded}
+use Rattle.run.proofs.Variant.{convergent-bounded, anticipated-bounded}
 
 -- the goals of an event's INV are true where the hypotheses are
 invariants-true : (m : Machine) (ro : Role) (e : ℕ) → EventValid m ro e → (ρ : Env (m .type)) → All (Meets m ρ) (invHypotheses m ro e)
@@ -70,7 +70,8 @@ module _ (m : Machine) where
     pub match : Match m
     pub pair : PairTrue m c (match .result) k′
     pub matches : Matches m ro c a (match .parameters) (match .result)
-    pub bounded : (n : ℕ) → Bounded m c k′ n → Bounded m c k (oneMore m ro n)
+    -- a step of a stretch bounds the stretch that it begins, where the stretch after it has n convergent steps and is bounded
+    pub bounded : T (ofStretch m ro) → (n : ℕ) → Bounded m c k′ n → Bounded m c k (pick (isConvergent ro) (suc n) n)
 
 module _ (m : Machine) (wf : WellFormed m) (vs : All (Valid m) (sequents m)) where
   -- the guards and moves of a step from the pair are true, beside whatever the other machine does
@@ -103,7 +104,7 @@ module _ (m : Machine) (wf : WellFormed m) (vs : All (Valid m) (sequents m)) whe
               concrete-after m wf c a k w p w k′ (invariants-true m (refining f) e valid ρ (witnessed-true m (refining f) e ws valid c a k p k′ mv));
         };
         matches = (j, abstract, moved-step m abstractOrdinary f (event-sees m wf f j abstract) c a k w p w k′ w (λ t. refl) valid′ b g ts);
-        bounded = λ n b l. absurd (omega arith);
+        bounded = λ t. absurd t;
       }
 
   -- an outcome of the concrete initialisation is matched by one of the abstract initialisation
@@ -138,14 +139,37 @@ module _ (m : Machine) (wf : WellFormed m) (vs : All (Valid m) (sequents m)) whe
         moved-step m abstractInitialisation f (event-sees m wf f j abstract) c z z w z w k′ z (λ t. absurd t) valid′ b g ts,
       )
 
-  -- a convergent event's abstract variables keep their values
-  stays-true : (e : ℕ) → In e (m .events) → m .role e ≡ convergent → (c a k q p k′ : State m)
+  -- a new event's abstract variables keep their values
+  stays-true : (e : ℕ) → In e (m .events) → T (isNew (m .role e)) → (c a k q p k′ : State m)
       → All (Meets m (world m c a k q p a k′)) (map (moves e) (m .abstractVariables))
   unfolding evaluate
-  stays-true e i role c a k q p k′ = all-map (moves e) (all-in (m .abstractVariables) (λ x j.
+  stays-true e i new c a k q p k′ = all-map (moves e) (all-in (m .abstractVariables) (λ x j.
       let ρ : Env (m .type) = world m c a k q p a k′ in
       let kept : ρ .after x ≡ ρ .present x = rw (all-at (wf .abstractVariablesKind) j) in
-      subst (λ A. True ρ (actionTree m A x)) (sym (all-at (wf .convergentStays e i role) j)) (eq-equal-value _ _ (ap (wrap (m .type x)) kept))))
+      subst (λ A. True ρ (actionTree m A x)) (sym (all-at (wf .newStays e i new) j)) (eq-equal-value _ _ (ap (wrap (m .type x)) kept))))
+
+  -- after a new event's step the invariants are true, with the abstract state as it was
+  new-pair : (ro : Role) (e : ℕ) → In e (m .events) → m .role e ≡ ro → T (isNew ro) → (c a k p k′ : State m) → PairTrue m c a k
+      → All (Meets m (world m c a k (blank m) p a k′)) (moved m ro e) → PairTrue m c a k′
+  new-pair ro e i role new c a k p k′ h mv = record {
+    axioms = h .axioms;
+    abstractInvariants = abstract-world m wf c a k h k′ _ _ _ _;
+    concreteInvariants = concrete-after m wf c a k (blank m) p a k′ (go ro new (events-valid m vs e i role) mv);
+  }
+    where
+      ρ : Env (m .type)
+      ρ = world m c a k (blank m) p a k′
+
+      stays : All (Meets m ρ) (map (moves e) (m .abstractVariables))
+      stays = stays-true e i (subst (λ o. T (isNew o)) (sym role) new) c a k (blank m) p k′
+
+      go : (ro : Role) → T (isNew ro) → EventValid m ro e → All (Meets m ρ) (moved m ro e) → All (λ r. Meets m ρ (primed r)) (m .concreteInvariants)
+      go abstractInitialisation t valid mv = absurd t
+      go abstractOrdinary t valid mv = absurd t
+      go (concreteInitialisation f) t valid mv = absurd t
+      go (refining f) t valid mv = absurd t
+      go convergent t valid mv = invariants-true m convergent e valid ρ (all-join mv stays)
+      go anticipated t valid mv = invariants-true m anticipated e valid ρ (all-join mv stays)
 
   convergent-matched : (e : ℕ) → In e (m .events) → m .role e ≡ convergent → (c a k p k′ : State m) → PairTrue m c a k → Step m convergent e c k p k′
       → Matched m convergent c a k k′
@@ -160,16 +184,24 @@ module _ (m : Machine) (wf : WellFormed m) (vs : All (Valid m) (sequents m)) whe
       let (r, j) = wf .convergentVariant e i role in
       record {
         match = record { parameters = blank m; result = a };
-        pair = record {
-          axioms = h .axioms;
-          abstractInvariants = abstract-world m wf c a k h k′ _ _ _ _;
-          concreteInvariants =
-              concrete-after m wf c a k (blank m) p a k′
-              (invariants-true m convergent e valid ρ (all-join mv (stays-true e i role c a k (blank m) p k′)));
-        };
+        pair = new-pair convergent e i role tt c a k p k′ h mv;
         matches = refl;
-        bounded = one-more-bounded m wf c a k (blank m) p a k′ (pair-safe m wf vs c a k h .variant)
+        bounded = λ _. convergent-bounded m wf c a k (blank m) p a k′ (pair-safe m wf vs c a k h .variant)
             (all-imp (λ r v. v ρ (all-left _ _ mv)) ns) (all-imp (λ r v. v ρ mv) fs) r j;
+      }
+
+  anticipated-matched : (e : ℕ) → In e (m .events) → m .role e ≡ anticipated → (c a k p k′ : State m) → PairTrue m c a k → Step m anticipated e c k p k′
+      → Matched m anticipated c a k k′
+  unfolding Valid
+  anticipated-matched e i role c a k p k′ h s =
+      let ρ : Env (m .type) = world m c a k (blank m) p a k′ in
+      let mv : All (Meets m ρ) (moved m anticipated e) = moved-true e i role tt c a k (blank m) p a k′ h s in
+      let ks = all-unmap (λ r. sequent VAR e r (moved m anticipated e) (notIncreased r)) (m .variants) (events-valid m vs e i role .variant) in
+      record {
+        match = record { parameters = blank m; result = a };
+        pair = new-pair anticipated e i role tt c a k p k′ h mv;
+        matches = refl;
+        bounded = λ _. anticipated-bounded m wf c a k (blank m) p a k′ (pair-safe m wf vs c a k h .variant) (all-imp (λ r v. v ρ mv) ks);
       }
 
   pub step-matched : (ro : Role) (e : ℕ) → In e (m .events) → m .role e ≡ ro → T (ofRun m ro) → (c a k p k′ : State m) → PairTrue m c a k
@@ -179,3 +211,4 @@ module _ (m : Machine) (wf : WellFormed m) (vs : All (Valid m) (sequents m)) whe
   step-matched (concreteInitialisation f) e i role l c a k p k′ h s = absurd l
   step-matched (refining f) e i role l c a k p k′ h s = refining-matched e f i role c a k p k′ h s
   step-matched convergent e i role l c a k p k′ h s = convergent-matched e i role c a k p k′ h s
+  step-matched anticipated e i role l c a k p k′ h s = anticipated-matched e i role c a k p k′ h s

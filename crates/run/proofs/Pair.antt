@@ -6,7 +6,7 @@ use lib.Dec.{T}
 use Rattle.lists.specs.All.{All, all-nil}
 use Rattle.lists.proofs.All.{all-right, all-join, all-at, all-in, all-map}
 use Rattle.formula.specs.Evaluate.{Env}
-use Rattle.machine.specs.Machine.{Machine, Role, abstractInitialisation, abstractOrdinary, concreteInitialisation, refining, convergent}
+use Rattle.machine.specs.Machine.{Machine, Role, abstractInitialisation, abstractOrdinary, concreteInitialisation, refining, convergent, anticipated}
 use Rattle.sequent.specs.Entry.{written, primed}
 use Rattle.sequent.specs.Sequent.{Meets, Valid}
 use Rattle.sequent.specs.Listed.{allWritten, base, formulas, sequents}
@@ -74,6 +74,7 @@ module _ (m : Machine) (wf : WellFormed m) where
       go (concreteInitialisation f) l = absurd l
       go (refining f) l = all-join axioms (all-join abstract concrete)
       go convergent l = all-join axioms (all-join abstract concrete)
+      go anticipated l = all-join axioms (all-join abstract concrete)
 
   -- the goals of INV, in the world of a step, say that the invariants are true at the pair after it
   module _ (c a k q p a′ k′ : State m) where

@@ -3,7 +3,6 @@
 use mathlib.Core.Path.{_≡_, refl, sym, subst}
 use mathlib.Core.List.{List, [], _∷_}
 use Prim.Native.Nat.{ℕ}
-use native.Mathlib.Omega.{arith}
 use Rattle.lists.specs.All.{All, all-nil, In}
 use Rattle.lists.proofs.All.{all-map}
 use Rattle.machine.specs.Machine.{Machine, abstractInitialisation, concreteInitialisation}
@@ -11,23 +10,24 @@ use Rattle.sequent.specs.Entry.{written}
 use Rattle.sequent.specs.Sequent.{Valid}
 use Rattle.sequent.specs.Listed.{sequents}
 use Rattle.run.specs.Run.{State, blank, view, AllReadTrue, Taken, Follows, Match}
-use Rattle.run.specs.SafeRun.{EventSafe, stretch, Bounded, Along, RunsSafe, Safe}
+use Rattle.run.specs.SafeRun.{EventSafe, StretchesBounded, Along, RunsSafe, Safe}
 use Rattle.run.proofs.WellFormed.{WellFormed}
 use Rattle.run.proofs.Reading.{all-read-true}
 use Rattle.run.proofs.Events.{event-sees, events-valid}
 use Rattle.run.proofs.Successor.{event-safe}
 use Rattle.run.proofs.Pair.{pairOf, AxiomsTrue, PairTrue, axioms-world, pair-safe}
 use Rattle.run.proofs.Matching.{initialisation-matched, step-matched}
+use Rattle.run.proofs.Stretch.{no-stretch, stretch-more}
 
 module _ (m : Machine) (wf : WellFormed m) (vs : All (Valid m) (sequents m)) where
-  -- every list of steps from a pair of states is matched, with the bound of the stretch that it begins with
+  -- every list of steps from a pair of states is matched, with the bound of the stretches that it begins with
   steps-matched : (c : State m) (ss : List (Taken m)) (a k : State m) → PairTrue m c a k → Follows m c k ss
-      → (ts : List (Match m)) × Along m c a k ss ts × Bounded m c k (stretch m ss)
-  steps-matched c [] a k h f = ([], pair-safe m wf vs c a k h, λ l. absurd (omega arith))
+      → (ts : List (Match m)) × Along m c a k ss ts × StretchesBounded m c k ss
+  steps-matched c [] a k h f = ([], pair-safe m wf vs c a k h, no-stretch m c k)
   steps-matched c (s ∷ ss) a k h f =
       let n = step-matched m wf vs (m .role (s .event)) (s .event) (f .0) refl (f .1) c a k (s .parameters) (s .result) h (f .2) in
       let r = steps-matched c ss (n .match .result) (s .result) (n .pair) (f .3) in
-      let b = n .bounded (stretch m ss) (r .2) in
+      let b = stretch-more m c k (s .result) s ss (n .bounded) (r .2) in
       (n .match ∷ r .0, (pair-safe m wf vs c a k h, b, n .matches, r .1), b)
 
   from-initialisation : (e f : ℕ) → In e (m .events) → m .role e ≡ concreteInitialisation f → (c : State m)

@@ -1,23 +1,25 @@
--- The bound on convergent steps: NAT leaves room for the last one, and VAR for one more before those that are bounded already.
-use mathlib.Core.Path.{_≡_, refl, ap, _∙_, subst}
+-- The bound on convergent steps: NAT leaves room for the last one, VAR of a convergent event for one more before those that are bounded already, and VAR of
+-- an anticipated one keeps the bound.
+use mathlib.Core.Path.{_≡_, refl, sym, ap, _∙_, subst}
 use mathlib.Core.Bool.{true, false}
 use mathlib.Core.Option.{Option, some}
-use Prim.Native.Nat.{ℕ, zero, suc}
+use Prim.Native.Nat.{ℕ, zero, suc, _<_}
 use native.Mathlib.Omega.{arith}
 use lib.Dec.{T}
 use lib.IntN.{ℤ, pos}
 use Rattle.lists.specs.All.{All, In}
 use Rattle.lists.proofs.All.{all-at}
 use Rattle.formula.specs.Values.{AnyValue, number, asNumber, atMostℤ, lessℤ}
-use Rattle.formula.specs.Evaluate.{evaluate, readTree}
-use Rattle.formula.proofs.Order.{bound-one, bound-falls}
+use Rattle.formula.specs.Evaluate.{Env, evaluate, readTree}
+use Rattle.formula.specs.AfterValues.{atAfter}
+use Rattle.formula.proofs.Order.{bound-one, bound-falls, bound-kept}
 use Rattle.formula.proofs.Mentions.{evaluate-agree}
 use Rattle.formula.proofs.WellDefined.{reads-total}
 use Rattle.machine.specs.Machine.{Machine}
-use Rattle.sequent.specs.Entry.{natural, decreases}
+use Rattle.sequent.specs.Entry.{natural, decreases, notIncreased, variable}
 use Rattle.sequent.specs.Sequent.{Meets}
 use Rattle.run.specs.Run.{State, blank, world, Defined}
-use Rattle.run.specs.SafeRun.{Bounded}
+use Rattle.run.specs.SafeRun.{withinBound, Bounded}
 use Rattle.run.proofs.WellFormed.{kinds, WellFormed}
 use Rattle.run.proofs.Reading.{defined-reads, evaluate-typed}
 use Rattle.run.proofs.Views.{world-agree}
@@ -35,36 +37,53 @@ module _ (m : Machine) (wf : WellFormed m) where
       let ρ = pairOf m c (blank m) k in
       defined-reads m ρ r d ∙ ap {B = Option AnyValue} some (evaluate-typed m ρ r (all-at (wf .variantsInteger) i))
 
-  -- a convergent step from k to k′, in a world where the goals of NAT and VAR are true
-  module _ (c a k q p a′ k′ : State m) (ds : All (Defined m (pairOf m c (blank m) k)) (m .variants))
-      (ns : All (λ r. Meets m (world m c a k q p a′ k′) (natural r)) (m .variants))
-      (fs : All (λ r. Meets m (world m c a k q p a′ k′) (decreases r)) (m .variants)) where
-    before : (r : ℕ) → In r (m .variants) → evaluate (world m c a k q p a′ k′) (m .tree r) ≡ evaluate (pairOf m c (blank m) k) (m .tree r)
+  -- a step from k to k′, in a world where the goals of its event's NAT and VAR are true
+  module _ (c a k q p a′ k′ : State m) (ds : All (Defined m (pairOf m c (blank m) k)) (m .variants)) where
+    abbrev W : Env (m .type)
+    W = world m c a k q p a′ k′
+
+    before : (r : ℕ) → In r (m .variants) → evaluate W (m .tree r) ≡ evaluate (pairOf m c (blank m) k) (m .tree r)
     before r i =
         evaluate-agree _ _
         (world-agree m (kinds true false true false false) c a k q p a′ k′ (blank m) k _ _ _ _ (λ t. absurd t) (λ t. refl) (λ t. absurd t) (λ t. absurd t))
         (m .tree r) (all-at (wf .variantsSee) i)
 
-    variant-natural : (r : ℕ) → In r (m .variants) → T (atMostℤ (pos 0) (variantAt c k r))
-    unfolding evaluate
-    variant-natural r i = subst (λ v. T (atMostℤ (pos 0) (asNumber v))) (before r i) (all-at ns i)
-
-    variant-falls : (r : ℕ) → In r (m .variants) → T (lessℤ (variantAt c k′ r) (variantAt c k r))
-    unfolding evaluate
-    variant-falls r i =
-        subst (λ v. T (lessℤ (variantAt c k′ r) (asNumber v))) (before r i)
-        (subst (λ v. T (lessℤ (asNumber v) (asNumber (evaluate (world m c a k q p a′ k′) (m .tree r)))))
+    -- what VAR compares are the variant's values at k′ and at k
+    compared : (P : ℤ → ℤ → Type 0) (r : ℕ) → In r (m .variants)
+        → P (asNumber (evaluate W (atAfter (variable m) (m .tree r)))) (asNumber (evaluate W (m .tree r))) → P (variantAt c k′ r) (variantAt c k r)
+    compared P r i h =
+        subst (λ v. P (variantAt c k′ r) (asNumber v)) (before r i)
+        (subst (λ v. P (asNumber v) (asNumber (evaluate W (m .tree r))))
         (after-evaluate m (kinds true false true false false) (λ t. t) (λ t. t) c a k q p a′ k′ (blank m) k′ (λ t. absurd t) (λ t. refl) r
-        (all-at (wf .variantsSee) i)) (all-at fs i))
+        (all-at (wf .variantsSee) i)) h)
 
-    pub one-more-bounded : (r : ℕ) → In r (m .variants) → (n : ℕ) → Bounded m c k′ n → Bounded m c k (suc n)
-    one-more-bounded r i zero b l = (r, variantAt c k r, i, variant-reads c k r i (all-at ds i), bound-one (variantAt c k r) (variant-natural r i))
-    one-more-bounded r i (suc n) b l =
-        let (s, v, j, e, t) = b (omega arith) in
-        let v-is : variantAt c k′ s ≡ v = ap asNumber (reads-total (pairOf m c (blank m) k′) (m .tree s) (number v) e) in (
-          s,
-          variantAt c k s,
-          j,
-          variant-reads c k s j (all-at ds j),
-          bound-falls (suc n) (variantAt c k s) v (subst (λ z. T (lessℤ z (variantAt c k s))) v-is (variant-falls s j)) t,
-        )
+    -- a bound at k′ gives one at k
+    carried : (n n′ : ℕ) → 0 < n → ((r : ℕ) → In r (m .variants) → T (withinBound n (variantAt c k′ r)) → T (withinBound n′ (variantAt c k r)))
+        → Bounded m c k′ n → Bounded m c k n′
+    carried n n′ l f b _ =
+        let (s, v, j, e, t) = b l in
+        let v-is : variantAt c k′ s ≡ v = ap asNumber (reads-total (pairOf m c (blank m) k′) (m .tree s) (number v) e) in
+        (s, variantAt c k s, j, variant-reads c k s j (all-at ds j), f s j (subst (λ z. T (withinBound n z)) (sym v-is) t))
+
+    module _ (ns : All (λ r. Meets m W (natural r)) (m .variants)) (fs : All (λ r. Meets m W (decreases r)) (m .variants)) where
+      variant-natural : (r : ℕ) → In r (m .variants) → T (atMostℤ (pos 0) (variantAt c k r))
+      unfolding evaluate
+      variant-natural r i = subst (λ v. T (atMostℤ (pos 0) (asNumber v))) (before r i) (all-at ns i)
+
+      variant-falls : (r : ℕ) → In r (m .variants) → T (lessℤ (variantAt c k′ r) (variantAt c k r))
+      unfolding evaluate
+      variant-falls r i = compared (λ w v. T (lessℤ w v)) r i (all-at fs i)
+
+      pub convergent-bounded : (r : ℕ) → In r (m .variants) → (n : ℕ) → Bounded m c k′ n → Bounded m c k (suc n)
+      convergent-bounded r i zero b l = (r, variantAt c k r, i, variant-reads c k r i (all-at ds i), bound-one (variantAt c k r) (variant-natural r i))
+      convergent-bounded r i (suc n) b l =
+          carried (suc n) (suc (suc n)) (omega arith) (λ s j t. bound-falls (suc n) (variantAt c k s) (variantAt c k′ s) (variant-falls s j) t) b l
+
+    module _ (ks : All (λ r. Meets m W (notIncreased r)) (m .variants)) where
+      variant-kept : (r : ℕ) → In r (m .variants) → T (atMostℤ (variantAt c k′ r) (variantAt c k r))
+      unfolding evaluate
+      variant-kept r i = compared (λ w v. T (atMostℤ w v)) r i (all-at ks i)
+
+      pub anticipated-bounded : (n : ℕ) → Bounded m c k′ n → Bounded m c k n
+      anticipated-bounded n b l =
+          carried n n l (λ s j t. bound-kept n (variantAt c k s) (variantAt c k′ s) (variant-kept s j) t) b l

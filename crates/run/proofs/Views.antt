@@ -6,7 +6,7 @@ use lib.Dec.{T, eqb, eqb→eq}
 use Rattle.formula.specs.Evaluate.{Env}
 use Rattle.formula.proofs.Mentions.{Agree}
 use Rattle.machine.specs.Machine.{Kind, constantKind, abstractVariable, concreteVariable, abstractParameter, concreteParameter, Machine}
-use Rattle.machine.specs.Machine.{Role, abstractInitialisation, abstractOrdinary, concreteInitialisation, refining, convergent}
+use Rattle.machine.specs.Machine.{Role, abstractInitialisation, abstractOrdinary, concreteInitialisation, refining, convergent, anticipated}
 use Rattle.run.specs.Run.{byKind, State, world, view}
 use Rattle.run.specs.SafeRun.{ownState, notInitial}
 use Rattle.run.proofs.WellFormed.{ownKinds, never, variableKind}
@@ -38,6 +38,7 @@ module _ (m : Machine) where
   own-same (concreteInitialisation f) s = refl
   own-same (refining f) s = refl
   own-same convergent s = refl
+  own-same anticipated s = refl
 
   -- the after value of an event's own variable, in a world and in the event's view
   pub world-after : (ro : Role) (c a k q p a′ k′ : State m) (x : ℕ) → m .kind x ≡ variableKind ro → world m c a k q p a′ k′ .after x ≡ ownState m ro a′ k′ x
@@ -46,6 +47,7 @@ module _ (m : Machine) where
   world-after (concreteInitialisation f) c a k q p a′ k′ x e = rw e
   world-after (refining f) c a k q p a′ k′ x e = rw e
   world-after convergent c a k q p a′ k′ x e = rw e
+  world-after anticipated c a k q p a′ k′ x e = rw e
 
   pub view-after : (ro : Role) (c s r n : State m) (x : ℕ) → m .kind x ≡ variableKind ro → view m ro c s r n .after x ≡ n x
   view-after abstractInitialisation c s r n x e = rw e
@@ -53,6 +55,7 @@ module _ (m : Machine) where
   view-after (concreteInitialisation f) c s r n x e = rw e
   view-after (refining f) c s r n x e = rw e
   view-after convergent c s r n x e = rw e
+  view-after anticipated c s r n x e = rw e
 
 -- an event with the parameters r sees its own machine's part of a world, whatever the after values are; an initialisation sees no parameters
 module _ (m : Machine) (ro : Role) (c a k q p a′ k′ r : State m) (h : T (notInitial m ro) → ownState m ro q p ≡ r) where
@@ -70,6 +73,7 @@ module _ (m : Machine) (ro : Role) (c a k q p a′ k′ r : State m) (h : T (not
           world-agree m (ownKinds (concreteInitialisation f)) c a k q p a′ k′ _ _ _ _ _ _ (λ t. absurd t) (λ t. absurd t) (λ t. absurd t) (λ t. absurd t)
       go (refining f) g = world-agree m (ownKinds (refining f)) c a k q p a′ k′ _ _ _ _ _ _ (λ t. absurd t) (λ t. refl) (λ t. absurd t) (λ t. g tt)
       go convergent g = world-agree m (ownKinds convergent) c a k q p a′ k′ _ _ _ _ _ _ (λ t. absurd t) (λ t. refl) (λ t. absurd t) (λ t. g tt)
+      go anticipated g = world-agree m (ownKinds anticipated) c a k q p a′ k′ _ _ _ _ _ _ (λ t. absurd t) (λ t. refl) (λ t. absurd t) (λ t. g tt)
 
   pub action-agree : (x : ℕ) → m .kind x ≡ variableKind ro →
       Agree (λ y. ownKinds ro (m .kind y)) (eqb x) W (view m ro c (ownState m ro a k) r (ownState m ro a′ k′))

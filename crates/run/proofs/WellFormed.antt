@@ -10,9 +10,9 @@ use Rattle.formula.specs.Mentions.{mentions}
 use Rattle.formula.proofs.Sort.{treeType}
 use Rattle.machine.specs.Machine.{Kind, constantKind, abstractVariable, concreteVariable, abstractParameter, concreteParameter}
 use Rattle.machine.specs.Machine.{Action, unassigned, becomesEqual, becomesSuchThat, Witness, Machine}
-use Rattle.machine.specs.Machine.{Role, abstractInitialisation, abstractOrdinary, concreteInitialisation, refining, convergent}
+use Rattle.machine.specs.Machine.{Role, abstractInitialisation, abstractOrdinary, concreteInitialisation, refining, convergent, anticipated}
 use Rattle.sequent.specs.Entry.{witnessRoot}
-use Rattle.sequent.specs.Required.{ownVariables}
+use Rattle.sequent.specs.Required.{isNew, ownVariables}
 
 -- a set of kinds: constant, abstract variable, concrete variable, abstract parameter, concrete parameter
 abbrev pub kinds : Bool → Bool → Bool → Bool → Bool → Kind → Bool
@@ -29,6 +29,7 @@ ownKinds abstractOrdinary = kinds true true false true false
 ownKinds (concreteInitialisation f) = kinds true false false false false
 ownKinds (refining f) = kinds true false true false true
 ownKinds convergent = kinds true false true false true
+ownKinds anticipated = kinds true false true false true
 
 abbrev pub never : ℕ → Bool
 never x = false
@@ -40,6 +41,7 @@ variableKind abstractOrdinary = abstractVariable
 variableKind (concreteInitialisation f) = concreteVariable
 variableKind (refining f) = concreteVariable
 variableKind convergent = concreteVariable
+variableKind anticipated = concreteVariable
 
 module _ (m : Machine) where
   abbrev pub Sees : (Kind → Bool) → (ℕ → Bool) → ℕ → Type 0
@@ -74,5 +76,5 @@ module _ (m : Machine) where
     pub initialises : (e f : ℕ) → In e (m .events) → m .role e ≡ concreteInitialisation f
         → In f (m .events) × (m .role f ≡ abstractInitialisation) × (m .guards e ≡ []) × (m .guards f ≡ []) × (m .witnesses f ≡ [])
     pub refines : (e f : ℕ) → In e (m .events) → m .role e ≡ refining f → In f (m .events) × (m .role f ≡ abstractOrdinary) × (m .witnesses f ≡ [])
-    pub convergentStays : (e : ℕ) → In e (m .events) → m .role e ≡ convergent → All (λ x. m .action e x ≡ unassigned) (m .abstractVariables)
+    pub newStays : (e : ℕ) → In e (m .events) → T (isNew (m .role e)) → All (λ x. m .action e x ≡ unassigned) (m .abstractVariables)
     pub convergentVariant : (e : ℕ) → In e (m .events) → m .role e ≡ convergent → (r : ℕ) × In r (m .variants)

@@ -11,7 +11,7 @@ use Rattle.formula.specs.Values.{ValueType, integer, boolean, Value, AnyValue, 
 use Rattle.formula.specs.Evaluate.{Valuation, Env, readTree}
 use Rattle.machine.specs.Machine.{Kind, constantKind, abstractVariable, concreteVariable, abstractParameter, concreteParameter}
 use Rattle.machine.specs.Machine.{Action, unassigned, becomesEqual, becomesSuchThat, Machine}
-use Rattle.machine.specs.Machine.{Role, abstractInitialisation, abstractOrdinary, concreteInitialisation, refining, convergent}
+use Rattle.machine.specs.Machine.{Role, abstractInitialisation, abstractOrdinary, concreteInitialisation, refining, convergent, anticipated}
 use Rattle.sequent.specs.Required.{ownVariables}
 
 -- one of five by an identifier's kind: constant, abstract variable, concrete variable, abstract parameter, concrete parameter
@@ -49,6 +49,7 @@ module _ (m : Machine) where
   view (concreteInitialisation f) c s p s′ = world c blank s blank p blank s′
   view (refining f) c s p s′ = world c blank s blank p blank s′
   view convergent c s p s′ = world c blank s blank p blank s′
+  view anticipated c s p s′ = world c blank s blank p blank s′
 
   -- a formula is read, and is read as true
   abbrev pub Defined : Env (m .type) → ℕ → Type 0
@@ -98,6 +99,7 @@ module _ (m : Machine) where
   ofRun (concreteInitialisation f) = false
   ofRun (refining f) = true
   ofRun convergent = true
+  ofRun anticipated = true
 
   -- "then any list of steps of other concrete events, each from the values the last one left"
   abbrev pub Follows : State → State → List Taken → Type 0
@@ -112,10 +114,11 @@ module _ (m : Machine) where
     pub result : State
 
   -- "A concrete ordinary step is matched by a step of the event it refines", an abstract ordinary one, "a convergent one by no abstract step: the abstract
-  -- state stays."
+  -- state stays."; 02, request 1: an anticipated one "has no abstract step to match"
   abbrev pub Matches : Role → State → State → State → State → Type 0
   Matches abstractInitialisation c a q a′ = ⊥
   Matches abstractOrdinary c a q a′ = ⊥
   Matches (concreteInitialisation f) c a q a′ = ⊥
   Matches (refining f) c a q a′ = In f (m .events) × (m .role f ≡ abstractOrdinary) × Step abstractOrdinary f c a q a′
   Matches convergent c a q a′ = a′ ≡ a
+  Matches anticipated c a q a′ = a′ ≡ a

@@ -1,21 +1,31 @@
 -- Demand 3: what is claimed of every run, as one statement about runs of any length.
 use mathlib.Core.Path.{_≡_}
-use mathlib.Core.Bool.{Bool, not}
+use mathlib.Core.Bool.{Bool, true, false, not}
 use mathlib.Core.List.{List, [], _∷_, _++_}
 use mathlib.Core.Option.{some}
-use Prim.Native.Nat.{ℕ, zero, suc, _<_}
+use Prim.Native.Nat.{ℕ, _<_}
 use lib.Dec.{T}
 use lib.IntN.{ℤ, pos, _+ℤ_}
+use lib.ListN.{length, take}
 use Rattle.lists.specs.All.{All, In}
+use Rattle.lists.specs.Below.{keep}
 use Rattle.formula.specs.Values.{number, atMostℤ}
 use Rattle.formula.specs.Evaluate.{readTree}
-use Rattle.machine.specs.Machine.{Role, abstractInitialisation, abstractOrdinary, concreteInitialisation, refining, convergent, Machine}
-use Rattle.sequent.specs.Required.{isInitialisation, ownVariables}
+use Rattle.machine.specs.Machine.{Role, abstractInitialisation, abstractOrdinary, concreteInitialisation, refining, convergent, anticipated, Machine}
+use Rattle.sequent.specs.Required.{isInitialisation, isNew, ownVariables}
 use Rattle.run.specs.Run.{State, blank, world, view, Defined, AllReadTrue, NoneUndefined, ActionDefined, Enabled, Step, Taken, Follows, Match, Matches}
 
--- "every unbroken stretch of one or more convergent steps has at most as many steps as the variant's value before it plus one"
+-- "at most the variant's value before the stretch plus one"
 abbrev pub withinBound : ℕ → ℤ → Bool
 withinBound n v = atMostℤ (pos n) (v +ℤ pos 1)
+
+abbrev pub isConvergent : Role → Bool
+isConvergent abstractInitialisation = false
+isConvergent abstractOrdinary = false
+isConvergent (concreteInitialisation f) = false
+isConvergent (refining f) = false
+isConvergent convergent = true
+isConvergent anticipated = false
 
 module _ (m : Machine) where
   -- an event at a state of its machine, with some parameter values: "nothing divides by zero", for any after values, and
@@ -32,6 +42,7 @@ module _ (m : Machine) where
   ownState (concreteInitialisation f) a k = k
   ownState (refining f) a k = k
   ownState convergent a k = k
+  ownState anticipated a k = k
 
   abbrev pub notInitial : Role → Bool
   notInitial ro = not (isInitialisation ro)
@@ -42,22 +53,25 @@ module _ (m : Machine) where
     pub variant : All (Defined m (world m c (blank m) k (blank m) (blank m) (blank m) (blank m))) (m .variants)
     pub events : (e : ℕ) → In e (m .events) → T (notInitial (m .role e)) → (p : State m) → EventSafe (m .role e) e c (ownState (m .role e) a k) p
 
-  -- how many of the next steps are convergent, up to the first that is not
-  abbrev pub oneMore : Role → ℕ → ℕ
-  oneMore abstractInitialisation n = zero
-  oneMore abstractOrdinary n = zero
-  oneMore (concreteInitialisation f) n = zero
-  oneMore (refining f) n = zero
-  oneMore convergent n = suc n
+  -- 02, request 1: "an unbroken stretch of both classes": all its steps are convergent or anticipated
+  abbrev pub ofStretch : Role → Bool
+  ofStretch ro = isNew ro
 
-  abbrev pub stretch : List (Taken m) → ℕ
-  stretch [] = zero
-  stretch (s ∷ ss) = oneMore (m .role (s .event)) (stretch ss)
+  abbrev pub Unbroken : List (Taken m) → Type 0
+  Unbroken ss = All (λ s. T (ofStretch (m .role (s .event)))) ss
 
-  -- a stretch of n convergent steps, and the variant's value before it
+  -- "the convergent steps number"
+  abbrev pub convergentSteps : List (Taken m) → ℕ
+  convergentSteps ss = length (keep (λ s. isConvergent (m .role (s .event))) ss)
+
+  -- n convergent steps of a stretch that "holds a convergent step", and the variant's value before it
   abbrev pub Bounded : State m → State m → ℕ → Type 0
   Bounded c k n = 0 < n → (r : ℕ) × (v : ℤ) × In r (m .variants)
       × (readTree (world m c (blank m) k (blank m) (blank m) (blank m) (blank m)) (m .tree r) ≡ some (number v)) × T (withinBound n v)
+
+  -- of every stretch that begins at k, the next n steps for any n
+  abbrev pub StretchesBounded : State m → State m → List (Taken m) → Type 0
+  StretchesBounded c k ss = (n : ℕ) → Unbroken (take n ss) → Bounded c k (convergentSteps (take n ss))
 
   -- along the whole run, at every matched pair of states; the abstract steps match the concrete ones one by one
   abbrev pub Along : State m → State m → State m → List (Taken m) → List (Match m) → Type 0
@@ -65,7 +79,7 @@ module _ (m : Machine) where
   Along c a k [] (t ∷ ts) = ⊥
   Along c a k (s ∷ ss) [] = ⊥
   Along c a k (s ∷ ss) (t ∷ ts) =
-      PairSafe c a k × Bounded c k (stretch (s ∷ ss)) × Matches m (m .role (s .event)) c a (t .parameters) (t .result) × Along c (t .result) (s .result) ss ts
+      PairSafe c a k × StretchesBounded c k (s ∷ ss) × Matches m (m .role (s .event)) c a (t .parameters) (t .result) × Along c (t .result) (s .result) ss ts
 
   -- the concrete initialisation e and the abstract one f, with constants that meet the axioms: e has an outcome, and for every outcome and
   -- every list of further steps, one sequence of the abstract machine, from an outcome of f on, matches the whole run
