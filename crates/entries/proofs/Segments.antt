@@ -27,7 +27,7 @@ use Rattle.select.specs.declared.Selection.{Selection}
 use Rattle.select.specs.declared.Selection.the-variants.{Tagged, OfEvent, ForParameters, Identifiers}
 use Rattle.select.specs.Selection.{rowOfEvent, parameterWitness, identifierAt, selects}
 use Rattle.walk.specs.declared.Slot.{Slot}
-use Rattle.walk.specs.Events.{isAbstract, isInitial, isConvergent, ownKind}
+use Rattle.walk.specs.Events.{isAbstract, isInitial, isNew, ownKind}
 use Rattle.walk.specs.Groups.{groups, groupAt, groupRows, when, headerKind, headerItem, axiomGroup, abstractInvariantGroup, concreteInvariantGroup, guardGroup, witnessGroup, grdGroup}
 use Rattle.walk.specs.Slots.{slotAt, slotCount}
 use Rattle.walk.proofs.Groups.{roleOf, writtenOf, baseAt, guardedAt, movedAt, witnessOf, made, by-role, variables-own, guards-rows, witnesses-rows, map-identifiers}
@@ -131,8 +131,8 @@ module _ (t : Rows) where
   unfolding machineOf
   base-then e rest =
       by-role t e
-      (λ a z o r. base (machineOf t) r ++ rest ≡ A 30 ++ (pick (not z) (A 31) [] ++ (pick (not z && not a) (A 32) [] ++ rest)))
-      (λ o. refl) (λ o. append-assoc (A 30) (A 31) rest) refl three three
+      (λ a z o v r. base (machineOf t) r ++ rest ≡ A 30 ++ (pick (not z) (A 31) [] ++ (pick (not z && not a) (A 32) [] ++ rest)))
+      (λ o v. refl) (λ o v. append-assoc (A 30) (A 31) rest) refl three three three
       ∙ ap₂ (λ (xs : List Entry) (ys : List Entry). xs ++ ys) (section-written 30)
       (ap₂ (λ (xs : List Entry) (ys : List Entry). pick (not (isInitial t e)) xs [] ++ (pick (not (isInitial t e) && not (isAbstract t e)) ys [] ++ rest))
       (section-written 31) (section-written 32))
@@ -200,24 +200,24 @@ module _ (t : Rows) where
       by-test true = moved-then e rest
       by-test false = guarded-then e rest
 
-  -- "for a convergent event form 4 of each abstract variable instead of witnesses"
+  -- "for a convergent event form 4 of each abstract variable instead of witnesses", and so for an anticipated one
   invariant-own : (e : ℕ) → invHypotheses (machineOf t) (roleOf t e) e ≡ moved (machineOf t) (roleOf t e) e
-      ++ pick (isConvergent t e) (map (moves e) (machineOf t .abstractVariables)) (witnessEntries (machineOf t) (machineOf t .witnesses e))
+      ++ pick (isNew t e) (map (moves e) (machineOf t .abstractVariables)) (witnessEntries (machineOf t) (machineOf t .witnesses e))
   invariant-own e =
       by-role t e
-      (λ a z o r. invHypotheses (machineOf t) r e ≡ moved (machineOf t) r e
+      (λ a z o v r. invHypotheses (machineOf t) r e ≡ moved (machineOf t) r e
       ++ pick (not a && not (z || o)) (map (moves e) (machineOf t .abstractVariables)) (witnessEntries (machineOf t) (machineOf t .witnesses e)))
-      (λ o. refl) (λ o. refl) refl refl refl
+      (λ o v. refl) (λ o v. refl) refl refl refl refl
 
   invariant-then : (e : ℕ) (rest : List Entry) → invHypotheses (machineOf t) (roleOf t e) e ++ rest
       ≡ basic e (rooted (t .b) (rowOfEvent t 50 e) ++ (moving e (ownKind t e)
-      ++ (pick (not (isConvergent t e)) (rooted (t .c) (rowOfEvent t 60 e)) [] ++ (pick (isConvergent t e) (moving e 2) [] ++ rest))))
+      ++ (pick (not (isNew t e)) (rooted (t .c) (rowOfEvent t 60 e)) [] ++ (pick (isNew t e) (moving e 2) [] ++ rest))))
   invariant-then e rest =
       ap (λ xs. xs ++ rest)
-      (invariant-own e ∙ ap₂ (λ (xs : List Entry) (ys : List Entry). moved (machineOf t) (roleOf t e) e ++ pick (isConvergent t e) xs ys) (moves-abstract e) (witnesses-written e))
-      ∙ append-assoc (moved (machineOf t) (roleOf t e) e) (pick (isConvergent t e) (moving e 2) (rooted (t .c) (rowOfEvent t 60 e))) rest
-      ∙ moved-then e (pick (isConvergent t e) (moving e 2) (rooted (t .c) (rowOfEvent t 60 e)) ++ rest)
-      ∙ ap (λ xs. basic e (rooted (t .b) (rowOfEvent t 50 e) ++ (moving e (ownKind t e) ++ xs))) (by-test (isConvergent t e))
+      (invariant-own e ∙ ap₂ (λ (xs : List Entry) (ys : List Entry). moved (machineOf t) (roleOf t e) e ++ pick (isNew t e) xs ys) (moves-abstract e) (witnesses-written e))
+      ∙ append-assoc (moved (machineOf t) (roleOf t e) e) (pick (isNew t e) (moving e 2) (rooted (t .c) (rowOfEvent t 60 e))) rest
+      ∙ moved-then e (pick (isNew t e) (moving e 2) (rooted (t .c) (rowOfEvent t 60 e)) ++ rest)
+      ∙ ap (λ xs. basic e (rooted (t .b) (rowOfEvent t 50 e) ++ (moving e (ownKind t e) ++ xs))) (by-test (isNew t e))
     where
       by-test : (b : Bool) → pick b (moving e 2) (rooted (t .c) (rowOfEvent t 60 e)) ++ rest
           ≡ pick (not b) (rooted (t .c) (rowOfEvent t 60 e)) [] ++ (pick b (moving e 2) [] ++ rest)

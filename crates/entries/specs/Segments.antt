@@ -11,7 +11,7 @@ use Rattle.lists.specs.Sum.{sumBelow}
 use Rattle.table.specs.Names.{axiomTag, abstractInvariantTag, concreteInvariantTag, guardTag, witnessTag, abstractVariableKind}
 use Rattle.table.specs.Rows.{Rows}
 use Rattle.table.specs.Lookups.{isVariableNumber}
-use Rattle.sequent.specs.Entry.{Entry, written, primed, defined, moves, feasible, witnessed, natural, decreases}
+use Rattle.sequent.specs.Entry.{Entry, written, primed, defined, moves, feasible, witnessed, natural, decreases, notIncreased}
 use Rattle.sequent.specs.Numbers.{writtenForm, movesForm}
 use Rattle.sequent.specs.Sequent.{Sequent, sequent}
 use Rattle.select.specs.declared.Selection.{Selection}
@@ -20,7 +20,7 @@ use Rattle.select.specs.Selection.{selects}
 use Rattle.walk.specs.declared.Item.{Item}
 use Rattle.walk.specs.declared.Item.the-variants.{A, B, C, Identifier}
 use Rattle.walk.specs.declared.Slot.{Slot}
-use Rattle.walk.specs.Events.{isAbstract, isInitial, isConvergent, matchedBy, ownKind}
+use Rattle.walk.specs.Events.{isAbstract, isInitial, isConvergent, isNew, matchedBy, ownKind}
 use Rattle.walk.specs.Groups.{axiomGroup, abstractInvariantGroup, concreteInvariantGroup, guardGroup, witnessGroup, grdGroup, simGroup, invGroup, varGroup}
 use Rattle.walk.specs.Groups.{when, itemAt, headerKind, headerItem}
 use Rattle.entries.specs.declared.Segment.{Segment}
@@ -33,11 +33,15 @@ abbrev pub segments : ℕ
 segments = 7
 
 module _ (t : Rows) where
+  -- VAR: form 8 of a convergent event, form 9 of an anticipated one
+  abbrev pub variantGoal : ℕ → ℕ → Entry
+  variantGoal e x = pick (isConvergent t e) (decreases x) (notIncreased x)
+
   -- column "goal", kind by kind, of an event and an item; 0 is no kind and counts as 1
   abbrev pub goals : List (ℕ → ℕ → Entry)
   goals =
       (λ e x. defined x) ∷ (λ e x. defined x) ∷ (λ e x. primed x) ∷ (λ e x. feasible e x) ∷ (λ e x. written x) ∷ (λ e x. moves (matchedBy t e) x)
-      ∷ (λ e x. witnessed e x) ∷ (λ e x. natural x) ∷ (λ e x. decreases x) ∷ []
+      ∷ (λ e x. witnessed e x) ∷ (λ e x. natural x) ∷ (λ e x. variantGoal e x) ∷ []
 
   unfoldable pub goalOf : ℕ → ℕ → ℕ → Entry
   goalOf kind e x = getD goals kind (λ e x. defined x) e x
@@ -65,13 +69,13 @@ module _ (t : Rows) (s : Slot) where
       (eqb (s .group) simGroup || (eqb (s .group) invGroup || eqb (s .group) varGroup))
       || (eqb (s .group) witnessGroup && isVariableNumber t (t .b (s .row)))
 
-  -- SIM, and INV but of a convergent event
+  -- SIM, and INV but of a convergent or anticipated event
   abbrev pub hasWitnesses : Bool
-  hasWitnesses = eqb (s .group) simGroup || (eqb (s .group) invGroup && not (isConvergent t (s .event)))
+  hasWitnesses = eqb (s .group) simGroup || (eqb (s .group) invGroup && not (isNew t (s .event)))
 
-  -- "for a convergent event form 4 of each abstract variable instead of witnesses"
+  -- "for a convergent event form 4 of each abstract variable instead of witnesses", and so for an anticipated one
   abbrev pub hasAbstractMoves : Bool
-  hasAbstractMoves = eqb (s .group) invGroup && isConvergent t (s .event)
+  hasAbstractMoves = eqb (s .group) invGroup && isNew t (s .event)
 
   -- GRD has "parameter witnesses"
   abbrev pub witnessRows : Selection

@@ -22,6 +22,7 @@ use walk::header_kind;
 use walk::is_abstract;
 use walk::is_convergent;
 use walk::is_initial;
+use walk::is_new;
 use walk::item_at;
 use walk::matched_by;
 use walk::own_kind;
@@ -41,7 +42,7 @@ ghost use Rattle.sequent.specs.Numbers.{numbers, numbersOf, writtenForm, movesF
 ghost use Rattle.walk.specs.declared.Item.the-variants.{A as columnA, B as columnB, Identifier};
 ghost use Rattle.walk.specs.Groups.{when, guardGroup};
 ghost use Rattle.reply.specs.Printed.{rowsBytes};
-ghost use Rattle.entries.specs.Segments.{segmentOf, goalOf, upTo, ofNone, hasAbstract, hasConcrete, hasMoves, hasWitnesses, hasAbstractMoves, witnessRows};
+ghost use Rattle.entries.specs.Segments.{segmentOf, variantGoal, goalOf, upTo, ofNone, hasAbstract, hasConcrete, hasMoves, hasWitnesses, hasAbstractMoves, witnessRows};
 ghost use Rattle.entries.specs.Segments.{segments, segmentAt, segmentEntry, goalAt, hypothesisCount};
 ghost use Rattle.entries.specs.Seek.{cursorAt, entryAt, Stands, SoughtEntry};
 ghost use Rattle.entries.specs.Written.{numbersRow, hypothesisRows, entryRows};
@@ -96,21 +97,21 @@ fn has_moves(words: &[u64], table: Table, slot: Slot) -> bool
         | ((group == Group::WITNESS) & variable)
 }
 
-// SIM, and INV but of a convergent event.
+// SIM, and INV but of a convergent or anticipated event.
 fn has_witnesses(words: &[u64], table: Table, slot: Slot) -> bool
     requires { ⌜ table ≡ countsOf (rowsOf (now words)) ⌝ }
     ensures { λ r. ⌜ r ≡ hasWitnesses (rowsOf (now (words .entry))) slot ⌝ }
 {
     let group = slot.group;
-    (group == Group::SIM) | ((group == Group::INV) & !is_convergent(words, table, slot.event))
+    (group == Group::SIM) | ((group == Group::INV) & !is_new(words, table, slot.event))
 }
 
-// "for a convergent event form 4 of each abstract variable instead of witnesses"
+// "for a convergent event form 4 of each abstract variable instead of witnesses", and so for an anticipated one
 fn has_abstract_moves(words: &[u64], table: Table, slot: Slot) -> bool
     requires { ⌜ table ≡ countsOf (rowsOf (now words)) ⌝ }
     ensures { λ r. ⌜ r ≡ hasAbstractMoves (rowsOf (now (words .entry))) slot ⌝ }
 {
-    (slot.group == Group::INV) & is_convergent(words, table, slot.event)
+    (slot.group == Group::INV) & is_new(words, table, slot.event)
 }
 
 // Its witnesses; of GRD "parameter witnesses".
@@ -265,6 +266,17 @@ fn of_event(form: u64, event: u64, x: u64) -> Entry
     }
 }
 
+// The goal of VAR: form 8 of a convergent event, form 9 of an anticipated one.
+fn variant_goal(words: &[u64], table: Table, event: u64, root: u64) -> Entry
+    requires { ⌜ table ≡ countsOf (rowsOf (now words)) ⌝ }
+    ensures { λ r. ⌜ r ≡ numbersOf (variantGoal (rowsOf (now (words .entry))) event root) ⌝ }
+{
+    if is_convergent(words, table, event) {
+        return of_root(form::DECREASES, root);
+    }
+    of_root(form::NOT_INCREASED, root)
+}
+
 // The goal of a kind, for an event and an item.
 fn goal_of(words: &[u64], table: Table, kind: u64, event: u64, item: u64) -> Entry
     requires { ⌜ table ≡ countsOf (rowsOf (now words)) ⌝ }
@@ -277,7 +289,7 @@ fn goal_of(words: &[u64], table: Table, kind: u64, event: u64, item: u64) -> Ent
         kind::SIM => of_event(form::MOVES, matched_by(words, table, event), item),
         kind::WFIS => of_event(form::WITNESSED, event, item),
         kind::NAT => of_root(form::NATURAL, item),
-        kind::VAR => of_root(form::DECREASES, item),
+        kind::VAR => variant_goal(words, table, event, item),
         _ => of_root(form::DEFINED, item),
     }
 }

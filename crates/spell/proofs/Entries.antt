@@ -18,8 +18,8 @@ use Rattle.sequent.specs.Forms.{forms, entryOf}
 use Rattle.reply.specs.Spelled.{spelled, spellTree, spell}
 use Rattle.spell.specs.Spell.{shownRows, definedRows, movesRows, witnessNode, entryRows}
 
--- a number that is no form from 2 to 8 counts as form 1
-other-form : (n : ℕ) → (2 ≤ n → 8 < n) → (λ a b. written a) ≡ getD forms n (λ a b. written a)
+-- a number that is no form from 2 to 9 counts as form 1
+other-form : (n : ℕ) → (2 ≤ n → 9 < n) → (λ a b. written a) ≡ getD forms n (λ a b. written a)
 other-form zero h = refl
 other-form (suc zero) h = refl
 other-form (suc (suc n)) h = sym (List·getD-eq-default forms (λ a b. written a) {n = suc (suc n)} (omega (arith, h (omega arith))))
@@ -37,7 +37,7 @@ module _ (t : Rows) (h : Numbers) where
   form-numbered : (k : ℕ) → h .form ≡ k → spell (formula (machineOf t) (getD forms k (λ a b. written a) (h .first) (h .second))) ≡ entryRows t h
   form-numbered k e = form-as (getD forms k (λ a b. written a)) (ap (λ k. getD forms k (λ a b. written a)) (sym e))
 
-  pub written-rows : (2 ≤ h .form → 8 < h .form) → shownRows t false (h .first) ≡ entryRows t h
+  pub written-rows : (2 ≤ h .form → 9 < h .form) → shownRows t false (h .first) ≡ entryRows t h
   unfolding shownRows spell machineOf
   written-rows f = form-as (λ a b. written a) (other-form (h .form) f)
 
@@ -73,3 +73,7 @@ module _ (t : Rows) (h : Numbers) where
   pub decreases-rows : h .form ≡ 8 → (spelled 21 0 ∷ shownRows t true (h .first)) ++ shownRows t false (h .first) ≡ entryRows t h
   unfolding shownRows spell spellTree machineOf
   decreases-rows e = form-numbered 8 e
+
+  pub not-increased-rows : h .form ≡ 9 → (spelled 22 0 ∷ shownRows t true (h .first)) ++ shownRows t false (h .first) ≡ entryRows t h
+  unfolding shownRows spell spellTree machineOf
+  not-increased-rows e = form-numbered 9 e

@@ -1,6 +1,6 @@
 -- 01, Rows: the operators that well-definedness and the forms of entries add to a formula, by name.
 use Prim.Native.Nat.{ℕ}
-use Rattle.formula.specs.Tree.{equal, less, logicalNot, quotient, remainder, and, or, implies}
+use Rattle.formula.specs.Tree.{equal, logicalNot, quotient, remainder, and, or, implies}
 use Rattle.reply.specs.Spelled.{unaryNumber, binaryNumber, divisionNumber, connectiveNumber}
 
 abbrev pub literalNumber : ℕ
@@ -20,9 +20,6 @@ remainderNumber = divisionNumber remainder
 
 abbrev pub equalsNumber : ℕ
 equalsNumber = binaryNumber equal
-
-abbrev pub lessNumber : ℕ
-lessNumber = binaryNumber less
 
 abbrev pub bottomNumber : ℕ
 bottomNumber = 31

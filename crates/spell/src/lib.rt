@@ -27,7 +27,7 @@ ghost use Rattle.table.specs.Lookups.{isVariableNumber};
 ghost use Rattle.table.specs.Counts.{countsOf};
 ghost use Rattle.rule_references.specs.Operator.{meantShape};
 ghost use Rattle.reply.specs.Spelled.{spelled, someValueNumber, someAfterValueNumber};
-ghost use Rattle.spell.specs.Operators.{literalNumber, identifierNumber, afterNumber, equalsNumber, lessNumber};
+ghost use Rattle.spell.specs.Operators.{literalNumber, identifierNumber, afterNumber, equalsNumber};
 ghost use Rattle.spell.specs.Spell.{capped, restStart, Spelled, leaf, nodeBy, operandRows, nodeOf, shownRows, definedRows, openingRows, guardRows, closingRows, movesRows, witnessNode, entryRows};
 
 // More rows than any buffer has room for.
@@ -395,12 +395,12 @@ fn spell_witnessed(words: &[u64], table: Table, e: u64, x: u64, out: &mut [u8]) 
     spell_under(words, table, operator, x, root, false, out)
 }
 
-// Form 8: variant after < variant.
-fn spell_decreases(words: &[u64], table: Table, root: u64, out: &mut [u8]) -> u64
+// Forms 8 and 9: variant after < variant, variant after ≤ variant, by the operator.
+fn spell_variants(words: &[u64], table: Table, operator: u64, root: u64, out: &mut [u8]) -> u64
     requires { ⌜ table ≡ countsOf (rowsOf (now words)) ⌝ }
-    ensures { λ r. ⌜ Spelled ((spelled lessNumber 0 ∷ shownRows (rowsOf (now (words .entry))) true root) ++ shownRows (rowsOf (now (words .entry))) false root) r (now (out .entry)) (now (out .exit)) ⌝ }
+    ensures { λ r. ⌜ Spelled ((spelled operator 0 ∷ shownRows (rowsOf (now (words .entry))) true root) ++ shownRows (rowsOf (now (words .entry))) false root) r (now (out .entry)) (now (out .exit)) ⌝ }
 {
-    let after = spell_under(words, table, operator::LESS, 0, root, true, out);
+    let after = spell_under(words, table, operator, 0, root, true, out);
     let at = rest_start(out.len(), after);
     let before = spell_expression(words, table, root, false, &mut out[at..]);
     add_rows(after, before)
@@ -429,7 +429,8 @@ pub fn spell(words: &[u64], table: Table, entry: Entry, out: &mut [u8]) -> u64
             first,
             out,
         ),
-        form::DECREASES => spell_decreases(words, table, first, out),
+        form::DECREASES => spell_variants(words, table, operator::LESS, first, out),
+        form::NOT_INCREASED => spell_variants(words, table, operator::AT_MOST, first, out),
         _ => spell_expression(words, table, first, false, out),
     }
 }

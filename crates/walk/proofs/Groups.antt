@@ -1,7 +1,7 @@
 -- Each part of the list is what the slots of one group hold. A part is a list over rows of a tag, or over identifiers of a kind, and the slots are these rows or
 -- identifiers with the selection's test beside them. The role of an event, read from its row, tells which parts are empty.
-use Prim.Native.Nat.{ℕ, zero, suc, _+_, _≤_}
-use mathlib.Core.Path.{_≡_, refl, sym, ap, ap₂, _∙_, subst}
+use Prim.Native.Nat.{ℕ, zero, suc, _+_, _≤_, _<_}
+use mathlib.Core.Path.{_≡_, refl, sym, ap, ap₂, _∙_, subst, subst₂}
 use mathlib.Core.Bool.{Bool, true, false, not, _&&_, _||_}
 use mathlib.Core.List.{List, [], _∷_, _++_, map, flatMap, map-append, append-assoc, append-nil}
 use native.Mathlib.Omega.{arith}
@@ -16,9 +16,9 @@ use Rattle.lists.proofs.Flat.{pick-and, flat-none, flat-keep, flat-one, flat-ma
 use Rattle.lists.proofs.Flat.{keep-keep, keep-next, numbers-suc}
 use Rattle.table.specs.Rows.{Rows, tagged, section, count, kindOf, machineNumber, classOf, refinedBy}
 use Rattle.machine.specs.Machine.{Action, unassigned, becomesEqual, becomesSuchThat, Witness}
-use Rattle.machine.specs.Machine.{Role, abstractInitialisation, abstractOrdinary, concreteInitialisation, refining, convergent}
+use Rattle.machine.specs.Machine.{Role, abstractInitialisation, abstractOrdinary, concreteInitialisation, refining, convergent, anticipated}
 use Rattle.machine.specs.Described.{roleNumbered, actionOf, belonging, identifiersOf, machineOf}
-use Rattle.sequent.specs.Entry.{Entry, written, primed, defined, moves, feasible, natural, decreases}
+use Rattle.sequent.specs.Entry.{Entry, written, primed, defined, moves, feasible, natural, decreases, notIncreased}
 use Rattle.sequent.specs.Sequent.{Sequent, sequent, WD, INV, FIS, GRD, SIM, NAT, VAR}
 use Rattle.sequent.specs.Listed.{inOrder, actionWD, actionFIS, matching, refined, allWritten, base, guarded, moved, witnessEntries, parameterWitnesses, invHypotheses}
 use Rattle.sequent.specs.Listed.{witnessSequents, grd, sim, inv, variantSequents, formulas}
@@ -27,7 +27,7 @@ use Rattle.sequent.proofs.Parts.{guardWDs, actionWDs, actionFISs, ofWitnesses, 
 use Rattle.select.specs.declared.Selection.{Selection}
 use Rattle.select.specs.declared.Selection.the-variants.{None, Tagged, OfEvent, Identifiers, Assigned, SuchThat}
 use Rattle.select.specs.Selection.{rowOfEvent, identifierAt, actionRow, isAssigned, becomesSuch, selects}
-use Rattle.walk.specs.Events.{isAbstract, isRefining, isMatched, isConvergent, matchedBy, ownKind, ownInvariantTag}
+use Rattle.walk.specs.Events.{isAbstract, isRefining, isMatched, isConvergent, isNew, matchedBy, ownKind, ownInvariantTag}
 use Rattle.walk.specs.Groups.{when, ofEvent, groupAt, groupRows, axiomGroup, abstractInvariantGroup, concreteInvariantGroup, variantGroup}
 use Rattle.walk.specs.Groups.{guardGroup, actionGroup, fisGroup, witnessGroup, grdGroup, simGroup, invGroup, natGroup, varGroup}
 
@@ -90,12 +90,13 @@ module _ (t : Rows) where
       ∷ (λ e i. one GRD e (t .b i) (guardedAt e ++ parametersAt e) (written (t .b i)))
       -- "SIM, each abstract variable | base, guards, moves, witnesses | 4 of the abstract event | variable"
       ∷ (λ e i. one SIM e (i + 1) (movedAt e ++ witnessesAt e) (moves (matchedBy t e) (i + 1)))
-      -- "INV, own machine's invariants | base, guards, moves, witnesses; for a convergent event form 4 of each abstract variable instead of witnesses | 2 | root"
+      -- "INV, own machine's invariants | base, guards, moves, witnesses; for a convergent event form 4 of each abstract variable instead of witnesses | 2 | root",
+      -- and so for an anticipated one
       ∷ (λ e i. one INV e (t .a i) (invariantAt e) (primed (t .a i)))
       -- "NAT (convergent) | base, guards | 7 | root"
       ∷ (λ e i. one NAT e (t .a i) (guardedAt e) (natural (t .a i)))
-      -- "VAR (convergent) | base, guards; VAR also moves | 8 | root"
-      ∷ (λ e i. one VAR e (t .a i) (movedAt e) (decreases (t .a i)))
+      -- "VAR (convergent) | base, guards; VAR also moves | 8 | root"; 9 for an anticipated event
+      ∷ (λ e i. one VAR e (t .a i) (movedAt e) (pick (isConvergent t e) (decreases (t .a i)) (notIncreased (t .a i))))
       ∷ []
 
   unfoldable pub made : ℕ → ℕ → ℕ → List Sequent
@@ -108,25 +109,33 @@ module _ (t : Rows) where
   abbrev pub groupSlots : ℕ → ℕ → List Sequent
   groupSlots e g = flatMap (slot e g) (numbers (t .size) 0)
 
--- a role by the tests that its numbers meet
-role-cases : (machine class refined : ℕ) (P : Bool → Bool → Bool → Role → Type 0) → ((o : Bool) → P true true o abstractInitialisation)
-    → ((o : Bool) → P true false o abstractOrdinary) → P false true false (concreteInitialisation 1) → P false false true (refining refined)
-    → P false false false convergent → P (eqb machine 1) (eqb class 0) (eqb class 1) (roleNumbered machine class refined)
+-- a role by the tests that its numbers meet: abstract, class 0, class 1, class 2
+role-cases : (machine class refined : ℕ) (P : Bool → Bool → Bool → Bool → Role → Type 0) → ((o v : Bool) → P true true o v abstractInitialisation)
+    → ((o v : Bool) → P true false o v abstractOrdinary) → P false true false false (concreteInitialisation 1) → P false false true false (refining refined)
+    → P false false false true convergent → P false false false false anticipated
+    → P (eqb machine 1) (eqb class 0) (eqb class 1) (eqb class 2) (roleNumbered machine class refined)
 unfolding roleNumbered
-role-cases machine class refined P ai ao ci re co = go (eqb machine 1) (eqb class 0) (eqb class 1) only
+role-cases machine class refined P ai ao ci re co an = go (eqb machine 1) (eqb class 0) (eqb class 1) (eqb class 2)
+    (λ p. (only 0 p 1 (omega arith), only 0 p 2 (omega arith))) (λ p. only 1 p 2 (omega arith))
   where
-    only : eqb class 0 ≡ true → eqb class 1 ≡ false
-    only p = ne-eqb class 1 (omega (arith, eqb-true class 0 p))
+    -- a class is not also a later one
+    only : (k : ℕ) → eqb class k ≡ true → (l : ℕ) → k < l → eqb class l ≡ false
+    only k p l h = ne-eqb class l (omega (arith, eqb-true class k p))
 
-    initial : (o : Bool) → o ≡ false → P false true o (concreteInitialisation 1)
-    initial o e = subst (λ o. P false true o (concreteInitialisation 1)) (sym e) ci
+    initial : (o v : Bool) → o ≡ false → v ≡ false → P false true o v (concreteInitialisation 1)
+    initial o v p q = subst₂ (λ o v. P false true o v (concreteInitialisation 1)) (sym p) (sym q) ci
 
-    go : (a z o : Bool) → (z ≡ true → o ≡ false) → P a z o (pick a (pick z abstractInitialisation abstractOrdinary) (pick z (concreteInitialisation 1) (pick o (refining refined) convergent)))
-    go true true o h = ai o
-    go true false o h = ao o
-    go false true o h = initial o (h refl)
-    go false false true h = re
-    go false false false h = co
+    ordinary : (v : Bool) → v ≡ false → P false false true v (refining refined)
+    ordinary v q = subst (λ v. P false false true v (refining refined)) (sym q) re
+
+    go : (a z o v : Bool) → (z ≡ true → (o ≡ false) × (v ≡ false)) → (o ≡ true → v ≡ false)
+        → P a z o v (pick a (pick z abstractInitialisation abstractOrdinary) (pick z (concreteInitialisation 1) (pick o (refining refined) (pick v convergent anticipated))))
+    go true true o v h k = ai o v
+    go true false o v h k = ao o v
+    go false true o v h k = initial o v (h refl .0) (h refl .1)
+    go false false true v h k = ordinary v (k refl)
+    go false false false true h k = co
+    go false false false false h k = an
 
 -- formulas that are each defined under those before them, over the rows that pass a test
 before-next : (P : ℕ → Bool) (root : ℕ → ℕ) (i : ℕ) → before P root (suc i) ≡ before P root i ++ pick (P i) (written (root i) ∷ []) []
@@ -275,37 +284,42 @@ module _ (t : Rows) where
 
   -- what the role says, by the tests on the event's row
   module _ (e : ℕ) where
-    abbrev OfRole : (Bool → Bool → Bool → Role → Type 0) → Type 0
-    OfRole P = P (isAbstract t e) (eqb (classOf t e) 0) (eqb (classOf t e) 1) (roleOf t e)
+    abbrev OfRole : (Bool → Bool → Bool → Bool → Role → Type 0) → Type 0
+    OfRole P = P (isAbstract t e) (eqb (classOf t e) 0) (eqb (classOf t e) 1) (eqb (classOf t e) 2) (roleOf t e)
 
-    pub by-role : (P : Bool → Bool → Bool → Role → Type 0) → ((o : Bool) → P true true o abstractInitialisation)
-        → ((o : Bool) → P true false o abstractOrdinary) → P false true false (concreteInitialisation 1) → P false false true (refining (refinedBy t e))
-        → P false false false convergent → OfRole P
+    pub by-role : (P : Bool → Bool → Bool → Bool → Role → Type 0) → ((o v : Bool) → P true true o v abstractInitialisation)
+        → ((o v : Bool) → P true false o v abstractOrdinary) → P false true false false (concreteInitialisation 1)
+        → P false false true false (refining (refinedBy t e)) → P false false false true convergent → P false false false false anticipated → OfRole P
     unfolding machineOf
     by-role P = role-cases (machineNumber t e) (classOf t e) (refinedBy t e) P
 
     pub variables-own : ownVariables (machineOf t) (roleOf t e) ≡ identifiersOf t (ownKind t e)
     unfolding machineOf
-    variables-own = by-role (λ a z o r. ownVariables (machineOf t) r ≡ identifiersOf t (pick a 2 3)) (λ o. refl) (λ o. refl) refl refl refl
+    variables-own =
+        by-role (λ a z o v r. ownVariables (machineOf t) r ≡ identifiersOf t (pick a 2 3)) (λ o v. refl) (λ o v. refl) refl refl refl refl
 
     invariants-own : ownInvariants (machineOf t) (roleOf t e) ≡ map (t .a) (section t (ownInvariantTag t e))
     unfolding machineOf
-    invariants-own = by-role (λ a z o r. ownInvariants (machineOf t) r ≡ map (t .a) (section t (pick a 31 32))) (λ o. refl) (λ o. refl) refl refl refl
+    invariants-own =
+        by-role (λ a z o v r. ownInvariants (machineOf t) r ≡ map (t .a) (section t (pick a 31 32))) (λ o v. refl) (λ o v. refl) refl refl refl refl
 
     refined-own : refined (roleOf t e) ≡ pick (isRefining t e) (refinedBy t e ∷ []) []
-    refined-own = by-role (λ a z o r. refined r ≡ pick (not a && o) (refinedBy t e ∷ []) []) (λ o. refl) (λ o. refl) refl refl refl
+    refined-own = by-role (λ a z o v r. refined r ≡ pick (not a && o) (refinedBy t e ∷ []) []) (λ o v. refl) (λ o v. refl) refl refl refl refl
 
     matching-own : matching (roleOf t e) ≡ pick (isMatched t e) (matchedBy t e ∷ []) []
     matching-own =
-        by-role (λ a z o r. matching r ≡ pick (not a && (z || o)) (pick z 1 (refinedBy t e) ∷ []) []) (λ o. refl) (λ o. refl) refl refl refl
+        by-role (λ a z o v r. matching r ≡ pick (not a && (z || o)) (pick z 1 (refinedBy t e) ∷ []) []) (λ o v. refl) (λ o v. refl) refl refl refl refl
 
+    -- NAT of a convergent event, and VAR of a new one
     variants-own : variantSequents (machineOf t) (roleOf t e) e
-        ≡ pick (isConvergent t e) (nats (machineOf t) (roleOf t e) e) [] ++ pick (isConvergent t e) (vars (machineOf t) (roleOf t e) e) []
+        ≡ pick (isConvergent t e) (nats (machineOf t) (roleOf t e) e) []
+        ++ pick (isNew t e) (vars (machineOf t) (roleOf t e) e (λ r. pick (isConvergent t e) (decreases r) (notIncreased r))) []
     variants-own =
         by-role
-        (λ a z o r. variantSequents (machineOf t) r e
-        ≡ pick (not a && not (z || o)) (nats (machineOf t) r e) [] ++ pick (not a && not (z || o)) (vars (machineOf t) r e) [])
-        (λ o. refl) (λ o. refl) refl refl refl
+        (λ a z o v ro. variantSequents (machineOf t) ro e
+        ≡ pick (not a && v) (nats (machineOf t) ro e) []
+        ++ pick (not a && not (z || o)) (vars (machineOf t) ro e (λ r. pick (not a && v) (decreases r) (notIncreased r))) [])
+        (λ o v. refl) (λ o v. refl) refl refl refl refl
 
   -- the groups of an event
   module _ (e : ℕ) (event : 1 ≤ e) where
@@ -378,17 +392,17 @@ module _ (t : Rows) where
     inv-group = ap (map _) (invariants-own e) ∙ map-kept (tagged t (ownInvariantTag t e)) (t .a) rows _ ∙ sym (there invGroup (Tagged (ownInvariantTag t e)) refl)
 
     -- NAT and VAR alike
-    convergent-rows : (s : ℕ → Sequent) → pick (isConvergent t e) (map s (machineOf t .variants)) []
-        ≡ flatMap (λ i. pick (selects t (when (isConvergent t e) (Tagged 70)) i) (s (t .a i) ∷ []) []) rows
-    convergent-rows s =
-        ap (λ xs. pick (isConvergent t e) xs []) (ap (map s) variants-rows ∙ map-kept (tagged t 70) (t .a) rows s)
-        ∙ flat-when (isConvergent t e) (tagged t 70) (λ i. s (t .a i) ∷ []) rows
-        ∙ when-slots (isConvergent t e) (Tagged 70) _
+    variant-rows : (b : Bool) (s : ℕ → Sequent) → pick b (map s (machineOf t .variants)) []
+        ≡ flatMap (λ i. pick (selects t (when b (Tagged 70)) i) (s (t .a i) ∷ []) []) rows
+    variant-rows b s =
+        ap (λ xs. pick b xs []) (ap (map s) variants-rows ∙ map-kept (tagged t 70) (t .a) rows s)
+        ∙ flat-when b (tagged t 70) (λ i. s (t .a i) ∷ []) rows
+        ∙ when-slots b (Tagged 70) _
 
     pub variant-groups : variantSequents (machineOf t) (roleOf t e) e ≡ groupSlots t e natGroup ++ (groupSlots t e varGroup ++ [])
     unfolding groupAt made
     variant-groups =
         variants-own e
         ∙ ap₂ (λ (xs : List Sequent) (ys : List Sequent). xs ++ ys)
-        (convergent-rows _ ∙ sym (there natGroup (when (isConvergent t e) (Tagged 70)) refl))
-        (convergent-rows _ ∙ sym (there varGroup (when (isConvergent t e) (Tagged 70)) refl) ∙ sym (append-nil (groupSlots t e varGroup)))
+        (variant-rows (isConvergent t e) _ ∙ sym (there natGroup (when (isConvergent t e) (Tagged 70)) refl))
+        (variant-rows (isNew t e) _ ∙ sym (there varGroup (when (isNew t e) (Tagged 70)) refl) ∙ sym (append-nil (groupSlots t e varGroup)))

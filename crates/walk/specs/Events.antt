@@ -3,11 +3,12 @@ use Prim.Native.Nat.{ℕ}
 use mathlib.Core.Bool.{Bool, not, _&&_, _||_}
 use lib.Dec.{eqb}
 use Rattle.lists.specs.Choice.{pick}
-use Rattle.table.specs.Names.{abstractMachine, initialisationClass, ordinaryClass, abstractVariableKind, concreteVariableKind, abstractInvariantTag, concreteInvariantTag}
+use Rattle.table.specs.Names.{abstractMachine, initialisationClass, ordinaryClass, convergentClass}
+use Rattle.table.specs.Names.{abstractVariableKind, concreteVariableKind, abstractInvariantTag, concreteInvariantTag}
 use Rattle.table.specs.Rows.{Rows, machineNumber, classOf, refinedBy}
 
 module _ (t : Rows) where
-  -- "machine: 1 abstract, 2 concrete; class: 0 initialisation, 1 ordinary, 2 convergent"
+  -- "machine: 1 abstract, 2 concrete; class: 0 initialisation, 1 ordinary, 2 convergent", 3 anticipated
   abbrev pub isAbstract : ℕ → Bool
   isAbstract e = eqb (machineNumber t e) abstractMachine
 
@@ -22,7 +23,11 @@ module _ (t : Rows) where
   isMatched e = not (isAbstract e) && (isInitial e || eqb (classOf t e) ordinaryClass)
 
   abbrev pub isConvergent : ℕ → Bool
-  isConvergent e = not (isAbstract e) && not (isInitial e || eqb (classOf t e) ordinaryClass)
+  isConvergent e = not (isAbstract e) && eqb (classOf t e) convergentClass
+
+  -- convergent or anticipated
+  abbrev pub isNew : ℕ → Bool
+  isNew e = not (isAbstract e) && not (isInitial e || eqb (classOf t e) ordinaryClass)
 
   -- the abstract event that a matched event's steps are matched by: the initialisation is event 1
   abbrev pub matchedBy : ℕ → ℕ

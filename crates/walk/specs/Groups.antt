@@ -16,7 +16,7 @@ use Rattle.sequent.specs.Sequent.{WD, INV, FIS, GRD, SIM, WFIS, NAT, VAR}
 use Rattle.walk.specs.declared.Item.{Item}
 use Rattle.walk.specs.declared.Item.the-variants.{A, B, C, Action, Identifier}
 use Rattle.walk.specs.declared.Group.{Group}
-use Rattle.walk.specs.Events.{isRefining, isMatched, isConvergent, ownKind, ownInvariantTag}
+use Rattle.walk.specs.Events.{isRefining, isMatched, isConvergent, isNew, ownKind, ownInvariantTag}
 
 -- the groups by number
 abbrev pub axiomGroup : ℕ
@@ -98,7 +98,7 @@ module _ (t : Rows) where
       ∷ groupOf SIM (ofEvent e (when (isMatched t e) (Identifiers abstractVariableKind))) Identifier
       ∷ groupOf INV (ofEvent e (Tagged (ownInvariantTag t e))) A
       ∷ groupOf NAT (ofEvent e (when (isConvergent t e) (Tagged variantTag))) A
-      ∷ groupOf VAR (ofEvent e (when (isConvergent t e) (Tagged variantTag))) A
+      ∷ groupOf VAR (ofEvent e (when (isNew t e) (Tagged variantTag))) A
       ∷ []
 
   -- a group of an event, by number; another number has no rows

@@ -28,7 +28,7 @@ ghost use Rattle.scan.specs.Spans.{Spanned};
 ghost use Rattle.select.specs.declared.Selection.the-variants.{Tagged, OfEvent, Identifiers, Assigned, SuchThat};
 ghost use Rattle.select.specs.Selection.{selects};
 ghost use Rattle.select.specs.Sought.{Passed};
-ghost use Rattle.walk.specs.Events.{isAbstract, isInitial, isRefining, isMatched, isConvergent, matchedBy, ownKind, ownInvariantTag};
+ghost use Rattle.walk.specs.Events.{isAbstract, isInitial, isRefining, isMatched, isConvergent, isNew, matchedBy, ownKind, ownInvariantTag};
 ghost use Rattle.walk.specs.Groups.{groups, groupOf, when, alone, ofEvent, groupAt, groupRows, itemAt, isWFIS, headerKind, headerItem, each};
 ghost use Rattle.walk.specs.Slots.{slotAt, soughtAt, nextGroup, InWalk, position, SoughtSlot};
 
@@ -40,7 +40,7 @@ pub fn is_abstract(words: &[u64], table: Table, event: u64) -> bool
     event_field(words, table, event, Table::MACHINE) == event::ABSTRACT
 }
 
-// "class: 0 initialisation, 1 ordinary, 2 convergent"
+// "class: 0 initialisation, 1 ordinary, 2 convergent", 3 anticipated
 pub fn is_initial(words: &[u64], table: Table, event: u64) -> bool
     requires { ⌜ table ≡ countsOf (rowsOf (now words)) ⌝ }
     ensures { λ r. ⌜ r ≡ isInitial (rowsOf (now (words .entry))) event ⌝ }
@@ -69,6 +69,15 @@ fn is_matched(words: &[u64], table: Table, event: u64) -> bool
 pub fn is_convergent(words: &[u64], table: Table, event: u64) -> bool
     requires { ⌜ table ≡ countsOf (rowsOf (now words)) ⌝ }
     ensures { λ r. ⌜ r ≡ isConvergent (rowsOf (now (words .entry))) event ⌝ }
+{
+    !is_abstract(words, table, event)
+        & (event_field(words, table, event, Table::CLASS) == event::CONVERGENT)
+}
+
+// A convergent or anticipated event.
+pub fn is_new(words: &[u64], table: Table, event: u64) -> bool
+    requires { ⌜ table ≡ countsOf (rowsOf (now words)) ⌝ }
+    ensures { λ r. ⌜ r ≡ isNew (rowsOf (now (words .entry))) event ⌝ }
 {
     let class = event_field(words, table, event, Table::CLASS);
     !is_abstract(words, table, event)
@@ -277,13 +286,11 @@ fn simulated(words: &[u64], table: Table, event: u64) -> Selection
     of_event(event, when(is_matched(words, table, event), variables))
 }
 
-// The variant, of a convergent event.
-fn decreased(words: &[u64], table: Table, event: u64) -> Selection
-    requires { ⌜ table ≡ countsOf (rowsOf (now words)) ⌝ }
-    ensures { λ r. ⌜ r ≡ ofEvent event (when (isConvergent (rowsOf (now (words .entry))) event) (Tagged variantTag)) ⌝ }
+// The variant, of an event for which a test passes.
+fn variant_when(event: u64, test: bool) -> Selection
+    ensures { λ r. ⌜ r ≡ ofEvent event (when test (Tagged variantTag)) ⌝ }
 {
-    let variant = Selection::Tagged(tag::VARIANT);
-    of_event(event, when(is_convergent(words, table, event), variant))
+    of_event(event, when(test, Selection::Tagged(tag::VARIANT)))
 }
 
 // A group of an event, by number: the table of groups.
@@ -319,8 +326,16 @@ pub fn group_at(words: &[u64], table: Table, event: u64, group: u64) -> Group
         Group::GRD => Group::new(kind::GRD, refined_guards(words, table, event), Item::B),
         Group::SIM => Group::new(kind::SIM, simulated(words, table, event), Item::Identifier),
         Group::INV => Group::new(kind::INV, own_invariants(words, table, event), Item::A),
-        Group::NAT => Group::new(kind::NAT, decreased(words, table, event), Item::A),
-        Group::VAR => Group::new(kind::VAR, decreased(words, table, event), Item::A),
+        Group::NAT => Group::new(
+            kind::NAT,
+            variant_when(event, is_convergent(words, table, event)),
+            Item::A,
+        ),
+        Group::VAR => Group::new(
+            kind::VAR,
+            variant_when(event, is_new(words, table, event)),
+            Item::A,
+        ),
         _ => Group::new(kind::WD, Selection::None, Item::A),
     }
 }

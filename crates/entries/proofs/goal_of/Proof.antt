@@ -48,8 +48,8 @@ goal-of-spec = tie.close (tie.spec
     (λ c. let a = c .before .before .before .args in
     let t = rowsOf (a .words .now) in
     let e : a .kind ≡ 8 = omega arith in
-    c .of-root4 .ensures ∙ ap (λ k. numbersOf (goalOf t k (a .event) (a .item))) (sym e))
+    c .variant-goal .ensures ∙ ap (λ k. numbersOf (goalOf t k (a .event) (a .item))) (sym e))
     (λ c. let a = c .before .before .before .args in
     let t = rowsOf (a .words .now) in
     let o = c .before .match .rest in
-    c .of-root5 .ensures ∙ ap numbersOf (goal-rest t (a .kind) (a .event) (a .item) (λ e. o .0 .0 .0 .0 .0 .0 .1 e) (λ e. o .0 .0 .0 .0 .0 .1 e) (λ e. o .0 .0 .0 .0 .1 e) (λ e. o .0 .0 .0 .1 e) (λ e. o .0 .0 .1 e) (λ e. o .0 .1 e) (λ e. o .1 e))))
+    c .of-root4 .ensures ∙ ap numbersOf (goal-rest t (a .kind) (a .event) (a .item) (λ e. o .0 .0 .0 .0 .0 .0 .1 e) (λ e. o .0 .0 .0 .0 .0 .1 e) (λ e. o .0 .0 .0 .0 .1 e) (λ e. o .0 .0 .0 .1 e) (λ e. o .0 .0 .1 e) (λ e. o .0 .1 e) (λ e. o .1 e))))

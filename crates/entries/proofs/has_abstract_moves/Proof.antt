@@ -6,4 +6,4 @@ use Rattle.entries.proofs.has_abstract_moves.Tie as tie
 pub has-abstract-moves-spec : {M : Type 1} → statement M
 has-abstract-moves-spec = tie.close (tie.spec
     (λ c κs. search needs)
-    (λ c. simp (c .is-convergent .ensures)))
+    (λ c. simp (c .is-new .ensures)))

@@ -6,4 +6,4 @@ use Rattle.entries.proofs.has_witnesses.Tie as tie
 pub has-witnesses-spec : {M : Type 1} → statement M
 has-witnesses-spec = tie.close (tie.spec
     (λ c κs. search needs)
-    (λ c. simp (c .is-convergent .ensures)))
+    (λ c. simp (c .is-new .ensures)))

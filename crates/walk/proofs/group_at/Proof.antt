@@ -6,9 +6,9 @@ use Rattle.lists.specs.Below.{numbers}
 use Rattle.lists.proofs.Range.{table-rest}
 use Rattle.table.specs.Rows.{rowsOf}
 use Rattle.sequent.specs.Sequent.{WD, INV, FIS, GRD, SIM, NAT, VAR}
-use Rattle.select.specs.declared.Selection.the-variants.{None}
+use Rattle.select.specs.declared.Selection.the-variants.{None, Tagged}
 use Rattle.walk.specs.declared.Item.the-variants.{A, B, C, Action, Identifier}
-use Rattle.walk.specs.Groups.{groupOf, groupTable, groupAt}
+use Rattle.walk.specs.Groups.{groupOf, when, ofEvent, groupTable, groupAt}
 use Rattle.walk.proofs.Walk.{at-number}
 use borrow.Author.Needs.{needs}
 use Rattle.walk.proofs.group_at.Statement.{statement}
@@ -17,6 +17,8 @@ use Rattle.walk.proofs.group_at.Tie as tie
 pub group-at-spec : {M : Type 1} → statement M
 unfolding groupAt numbers
 group-at-spec = tie.close (tie.spec
+    (λ c κs. search needs)
+    (λ c κs. search needs)
     (λ c κs. search needs)
     (λ c κs. search needs)
     (λ c κs. search needs)
@@ -66,10 +68,10 @@ group-at-spec = tie.close (tie.spec
     let g : a .group ≡ 9 = omega arith in at-number (rowsOf (a .words .now)) (a .event) 9 g (c .new10 .ensures ∙ ap (λ r. groupOf SIM r Identifier) (c .before .simulated .ensures)))
     (λ c. let a = c .before .before .before .before .args in
     let g : a .group ≡ 10 = omega arith in at-number (rowsOf (a .words .now)) (a .event) 10 g (c .new11 .ensures ∙ ap (λ r. groupOf INV r A) (c .before .own-invariants .ensures)))
-    (λ c. let a = c .before .before .before .before .args in
-    let g : a .group ≡ 11 = omega arith in at-number (rowsOf (a .words .now)) (a .event) 11 g (c .new12 .ensures ∙ ap (λ r. groupOf NAT r A) (c .before .decreased .ensures)))
-    (λ c. let a = c .before .before .before .before .args in
-    let g : a .group ≡ 12 = omega arith in at-number (rowsOf (a .words .now)) (a .event) 12 g (c .new13 .ensures ∙ ap (λ r. groupOf VAR r A) (c .before .decreased2 .ensures)))
+    (λ c. let a = c .before .before .before .before .before .args in
+    let g : a .group ≡ 11 = omega arith in at-number (rowsOf (a .words .now)) (a .event) 11 g (c .new12 .ensures ∙ ap (λ r. groupOf NAT r A) (c .before .variant-when .ensures ∙ ap (λ b. ofEvent (a .event) (when b (Tagged 70))) (c .before .before .is-convergent .ensures))))
+    (λ c. let a = c .before .before .before .before .before .args in
+    let g : a .group ≡ 12 = omega arith in at-number (rowsOf (a .words .now)) (a .event) 12 g (c .new13 .ensures ∙ ap (λ r. groupOf VAR r A) (c .before .variant-when2 .ensures ∙ ap (λ b. ofEvent (a .event) (when b (Tagged 70))) (c .before .before .is-new .ensures))))
     (λ c. let a = c .before .before .before .args in
     let rest = c .before .match .rest in
     c .new14 .ensures ∙ sym (table-rest (groupTable (rowsOf (a .words .now)) (a .event)) (groupOf WD None A) (a .group)

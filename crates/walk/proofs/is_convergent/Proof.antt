@@ -7,4 +7,4 @@ pub is-convergent-spec : {M : Type 1} → statement M
 is-convergent-spec = tie.close (tie.spec
     (λ c κs. search needs)
     (λ c κs. search needs)
-    (λ c. simp (c .is-abstract .ensures, c .before .event-field .ensures)))
+    (λ c. simp (c .event-field .ensures, c .before .is-abstract .ensures)))

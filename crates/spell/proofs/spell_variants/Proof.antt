@@ -1,12 +1,12 @@
--- The row of < and the after side, then the other in what they leave.
+-- The operator's row and the after side, then the other in what they leave.
 use native.Mathlib.Omega.{arith}
 use Rattle.spell.proofs.Written.{spelled-join}
 use borrow.Author.Needs.{needs}
-use Rattle.spell.proofs.spell_decreases.Statement.{statement}
-use Rattle.spell.proofs.spell_decreases.Tie as tie
+use Rattle.spell.proofs.spell_variants.Statement.{statement}
+use Rattle.spell.proofs.spell_variants.Tie as tie
 
-pub spell-decreases-spec : {M : Type 1} → statement M
-spell-decreases-spec = tie.close (tie.spec
+pub spell-variants-spec : {M : Type 1} → statement M
+spell-variants-spec = tie.close (tie.spec
     (λ c κs. search needs)
     (λ c κs. search needs)
     (λ c. search needs)
