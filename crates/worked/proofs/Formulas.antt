@@ -1,16 +1,15 @@
 -- What the entries of the worked table's sequents spell, computed from its nodes.
 use mathlib.Core.Path.{_≡_, refl}
-use lib.Dec.{T}
 use Rattle.lists.specs.Below.{countBelow, first, numbers, keep}
 use Rattle.table.specs.Rows.{section, count, start}
-use Rattle.formula.specs.Values.{ValueType, integer, boolean}
-use Rattle.formula.specs.Tree.{Tree, literal, FALSE, top, logicalNot, minus, equal, less, atMost, quotient, and, constant, identifier, after, unary, binary, division, connective}
+use Rattle.formula.specs.Values.{integer, boolean}
+use Rattle.formula.specs.Tree.{literal, FALSE, top, logicalNot, minus, equal, less, atMost, quotient, and, constant, identifier, after, unary, binary, division, connective}
 use Rattle.formula.specs.Formula.{plain, someValue, someAfterValue}
 use Rattle.formula.specs.AfterValues.{atAfter}
 use Rattle.formula.specs.WellDefined.{wellDefined}
 use Rattle.machine.specs.Operator.{operatorNumbered}
 use Rattle.machine.specs.Described.{typeNumbered, kindNumbered, treeTo, treeOf, actionOf, belonging, machineOf}
-use Rattle.sequent.specs.Entry.{Entry, written, primed, defined, moves, feasible, witnessed, natural, decreases, formula}
+use Rattle.sequent.specs.Entry.{written, primed, defined, moves, feasible, witnessed, natural, decreases, notIncreased, formula}
 use Rattle.worked.proofs.Decoded.{words}
 use Rattle.worked.proofs.Listed.{worked}
 
@@ -83,6 +82,11 @@ written-55 = refl
 pub written-58 : formula worked (written 58) ≡ plain (binary less (constant (literal 0)) (identifier 5))
 unfolding worked words machineOf treeOf treeTo start count countBelow operatorNumbered typeNumbered kindNumbered actionOf first belonging section numbers keep atAfter wellDefined
 written-58 = refl
+
+-- 0 ≤ r
+pub written-65 : formula worked (written 65) ≡ plain (binary atMost (constant (literal 0)) (identifier 8))
+unfolding worked words machineOf treeOf treeTo start count countBelow operatorNumbered typeNumbered kindNumbered actionOf first belonging section numbers keep atAfter wellDefined
+written-65 = refl
 
 -- 0 ≤ a′
 pub primed-6 : formula worked (primed 6) ≡ plain (binary atMost (constant (literal 0)) (after 2))
@@ -159,6 +163,21 @@ pub moves-5-5 : formula worked (moves 5 5) ≡ plain (binary equal (after 5) (bi
 unfolding worked words machineOf treeOf treeTo start count countBelow operatorNumbered typeNumbered kindNumbered actionOf first belonging section numbers keep atAfter wellDefined
 moves-5-5 = refl
 
+-- a′ = a
+pub moves-6-2 : formula worked (moves 6 2) ≡ plain (binary equal (after 2) (identifier 2))
+unfolding worked words machineOf treeOf treeTo start count countBelow operatorNumbered typeNumbered kindNumbered actionOf first belonging section numbers keep atAfter wellDefined
+moves-6-2 = refl
+
+-- k′ = k
+pub moves-6-4 : formula worked (moves 6 4) ≡ plain (binary equal (after 4) (identifier 4))
+unfolding worked words machineOf treeOf treeTo start count countBelow operatorNumbered typeNumbered kindNumbered actionOf first belonging section numbers keep atAfter wellDefined
+moves-6-4 = refl
+
+-- u′ = u − r
+pub moves-6-5 : formula worked (moves 6 5) ≡ plain (binary equal (after 5) (binary minus (identifier 5) (identifier 8)))
+unfolding worked words machineOf treeOf treeTo start count countBelow operatorNumbered typeNumbered kindNumbered actionOf first belonging section numbers keep atAfter wellDefined
+moves-6-5 = refl
+
 -- some a′ with 0 ≤ a′
 pub feasible-2-2 : formula worked (feasible 2 2) ≡ someAfterValue 2 (binary atMost (constant (literal 0)) (after 2))
 unfolding worked words machineOf treeOf treeTo start count countBelow operatorNumbered typeNumbered kindNumbered actionOf first belonging section numbers keep atAfter wellDefined
@@ -198,6 +217,11 @@ natural-62 = refl
 pub decreases-62 : formula worked (decreases 62) ≡ plain (binary less (after 5) (identifier 5))
 unfolding worked words machineOf treeOf treeTo start count countBelow operatorNumbered typeNumbered kindNumbered actionOf first belonging section numbers keep atAfter wellDefined
 decreases-62 = refl
+
+-- u′ ≤ u
+pub notIncreased-62 : formula worked (notIncreased 62) ≡ plain (binary atMost (after 5) (identifier 5))
+unfolding worked words machineOf treeOf treeTo start count countBelow operatorNumbered typeNumbered kindNumbered actionOf first belonging section numbers keep atAfter wellDefined
+notIncreased-62 = refl
 
 pub type-2 : worked .type 2 ≡ integer
 unfolding worked words machineOf typeNumbered start countBelow

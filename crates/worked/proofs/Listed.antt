@@ -1,12 +1,11 @@
 -- The list of the worked table's sequents, computed: first those of axioms, invariants and the variant, then event by event.
-use Prim.Native.Nat.{ℕ}
 use mathlib.Core.Path.{_≡_, refl}
 use mathlib.Core.List.{List, [], _∷_, _++_, flatMap}
 use Rattle.lists.specs.Below.{countBelow, first, numbers, keep}
 use Rattle.table.specs.Rows.{rowsOf, section, count, start}
 use Rattle.machine.specs.Machine.{Machine}
 use Rattle.machine.specs.Described.{kindNumbered, roleNumbered, actionOf, belonging, identifiersOf, machineOf}
-use Rattle.sequent.specs.Entry.{Entry, written, primed, defined, moves, feasible, witnessed, natural, decreases}
+use Rattle.sequent.specs.Entry.{Entry, written, primed, defined, moves, feasible, witnessed, natural, decreases, notIncreased}
 use Rattle.sequent.specs.Sequent.{Sequent, sequent, WD, INV, FIS, GRD, SIM, WFIS, NAT, VAR}
 use Rattle.sequent.specs.Listed.{inOrder, eventSequents, sequents}
 use Rattle.worked.proofs.Decoded.{words}
@@ -33,6 +32,9 @@ guarded4 = written 3 ∷ written 6 ∷ written 9 ∷ written 12 ∷ written 38 �
 abbrev pub guarded5 : List Entry
 guarded5 = written 3 ∷ written 6 ∷ written 9 ∷ written 12 ∷ written 58 ∷ []
 
+abbrev pub guarded6 : List Entry
+guarded6 = written 3 ∷ written 6 ∷ written 9 ∷ written 12 ∷ written 65 ∷ []
+
 abbrev pub moved1 : List Entry
 moved1 = written 3 ∷ moves 1 2 ∷ moves 1 3 ∷ []
 
@@ -47,6 +49,9 @@ moved4 = written 3 ∷ written 6 ∷ written 9 ∷ written 12 ∷ written 38 ∷
 
 abbrev pub moved5 : List Entry
 moved5 = written 3 ∷ written 6 ∷ written 9 ∷ written 12 ∷ written 58 ∷ moves 5 4 ∷ moves 5 5 ∷ []
+
+abbrev pub moved6 : List Entry
+moved6 = written 3 ∷ written 6 ∷ written 9 ∷ written 12 ∷ written 65 ∷ moves 6 4 ∷ moves 6 5 ∷ []
 
 abbrev pub list0 : List Sequent
 list0 =
@@ -115,6 +120,14 @@ list5 =
     ∷ sequent VAR 5 62 moved5 (decreases 62)
     ∷ []
 
-pub listed : sequents worked ≡ list0 ++ (list1 ++ (list2 ++ (list3 ++ (list4 ++ list5))))
+abbrev pub list6 : List Sequent
+list6 =
+    sequent WD 6 65 concreteBase (defined 65)
+    ∷ sequent WD 6 68 guarded6 (defined 68)
+    ∷ sequent INV 6 12 (moved6 ++ (moves 6 2 ∷ moves 6 3 ∷ [])) (primed 12)
+    ∷ sequent VAR 6 62 moved6 (notIncreased 62)
+    ∷ []
+
+pub listed : sequents worked ≡ list0 ++ (list1 ++ (list2 ++ (list3 ++ (list4 ++ (list5 ++ list6)))))
 unfolding worked words machineOf sequents eventSequents inOrder flatMap section count start countBelow first numbers keep kindNumbered roleNumbered actionOf belonging identifiersOf
 listed = refl

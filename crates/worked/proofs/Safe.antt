@@ -2,7 +2,6 @@
 use mathlib.Core.Path.{_≡_, ap, subst⁻¹}
 use Rattle.lists.specs.All.{All}
 use Rattle.table.specs.Rows.{rowsOf}
-use Rattle.machine.specs.Machine.{Machine}
 use Rattle.machine.specs.Described.{machineOf}
 use Rattle.sequent.specs.Sequent.{Valid}
 use Rattle.sequent.specs.Listed.{sequents}
@@ -19,4 +18,4 @@ unfolding worked
 same-machine = ap (λ ws. machineOf (rowsOf ws)) decodes
 
 pub worked-safe : Safe (machine bytes)
-worked-safe = safe-run bytes 43 accepted (subst⁻¹ (λ m. All (Valid m) (sequents m)) same-machine valid)
+worked-safe = safe-run bytes 47 accepted (subst⁻¹ (λ m. All (Valid m) (sequents m)) same-machine valid)

@@ -1,31 +1,31 @@
--- The 43 sequents of the worked table are valid. Those of well-definedness without a division hold by one law; the others follow from one or two
--- of their hypotheses, by putting equals for equals.
+-- The 47 sequents of the worked table are valid. Those of well-definedness without a division hold by one law; the others follow from one to
+-- three of their hypotheses, by putting equals for equals, and those of the variant by the order of the whole numbers.
 use Prim.Native.Nat.{ℕ}
 use mathlib.Core.Path.{_≡_, refl, sym, ap, ap₂, _∙_, subst, subst⁻¹}
-use mathlib.Core.Bool.{Bool, true, false, not}
-use mathlib.Core.List.{List, [], _∷_, _++_}
+use mathlib.Core.Bool.{false, not}
+use mathlib.Core.List.{List}
 use native.Mathlib.Omega.{arith}
 use lib.Dec.{T}
-use lib.IntN.{ℤ, pos, sucℤ, _-ℤ_, -ℤ-+ℤ-cancel, +ℤ-one}
+use lib.IntN.{ℤ, pos, sucℤ, _+ℤ_, _-ℤ_, -ℤ-+ℤ-cancel, +ℤ-idl, +ℤ-one}
 use Rattle.lists.specs.All.{All, all-nil, all-cons}
 use Rattle.lists.specs.Below.{countBelow}
 use Rattle.lists.proofs.All.{all-head, all-tail, all-join}
 use Rattle.table.specs.Rows.{start}
 use Rattle.formula.specs.Values.{ValueType, integer, boolean, Value, AnyValue, number, truth, wrap, asNumber, asValue, equalValue, atMostℤ, lessℤ}
 use Rattle.formula.specs.Tree.{literal, FALSE, equal, atMost, quotient, constant, identifier, after, binary}
-use Rattle.formula.specs.Evaluate.{Env, evaluate, withPresent, withAfter, totalDivision}
+use Rattle.formula.specs.Evaluate.{Env, evaluate, totalDivision}
 use Rattle.formula.specs.Formula.{Formula, someValue, someAfterValue, Holds}
 use Rattle.formula.proofs.Values.{equal-value-eq, eq-equal-value}
-use Rattle.formula.proofs.Order.{suc-less, less-at-most, at-most-refl}
+use Rattle.formula.proofs.Order.{at-most-gap, gap-at-most, suc-less, less-at-most, at-most-refl}
 use Rattle.formula.proofs.Override.{override-same, override-other}
 use Rattle.formula.proofs.NoDivision.{noDivision, no-division-defined}
 use Rattle.machine.specs.Operator.{operatorNumbered}
 use Rattle.machine.specs.Described.{treeTo, treeOf, machineOf}
-use Rattle.sequent.specs.Entry.{Entry, written, primed, defined, moves, feasible, witnessed, natural, decreases, formula}
-use Rattle.sequent.specs.Sequent.{Sequent, Meets, Valid, sequent, WD}
+use Rattle.sequent.specs.Entry.{Entry, written, primed, defined, moves, feasible, witnessed, natural, decreases, notIncreased, formula}
+use Rattle.sequent.specs.Sequent.{Meets, Valid, sequent, WD}
 use Rattle.sequent.specs.Listed.{sequents}
 use Rattle.worked.proofs.Decoded.{words}
-use Rattle.worked.proofs.Listed.{worked, listed, list0, list1, list2, list3, list4, list5}
+use Rattle.worked.proofs.Listed.{worked, listed, list0, list1, list2, list3, list4, list5, list6}
 use Rattle.worked.proofs.Formulas as f
 
 -- no division
@@ -59,6 +59,19 @@ pred-less u =
 
 less-from : (v u : AnyValue) → T (equalValue v (number (asNumber u -ℤ pos 1))) → T (lessℤ (asNumber v) (asNumber u))
 less-from v u e = subst (λ z. T (lessℤ (asNumber z) (asNumber u))) (sym (equal-value-eq v (number (asNumber u -ℤ pos 1)) e)) (pred-less (asNumber u))
+
+minus-at-most : (u r : ℤ) → T (atMostℤ (pos 0) r) → T (atMostℤ (u -ℤ r) u)
+minus-at-most u r h =
+    let (n, e) = at-most-gap (pos 0) r h in
+    let whole : r ≡ pos n = e ∙ +ℤ-idl (pos n) in
+    subst (λ z. T (atMostℤ (u -ℤ r) z)) (ap (λ x. (u -ℤ r) +ℤ x) (sym whole) ∙ -ℤ-+ℤ-cancel u r) (gap-at-most (u -ℤ r) n)
+
+-- from v = u − r and 0 ≤ r
+not-more-from : (v u r : AnyValue) → T (equalValue v (number (asNumber u -ℤ asNumber r))) → T (atMostℤ (pos 0) (asNumber r))
+    → T (atMostℤ (asNumber v) (asNumber u))
+not-more-from v u r e h =
+    let kept = minus-at-most (asNumber u) (asNumber r) h in
+    subst (λ z. T (atMostℤ (asNumber z) (asNumber u))) (sym (equal-value-eq v (number (asNumber u -ℤ asNumber r)) e)) kept
 
 -- a value fits a type
 fits-type : (s t : ValueType) → s ≡ t → (v : Value t) → wrap s (asValue s (wrap t v)) ≡ wrap t v
@@ -222,6 +235,18 @@ valid5 =
     (all-cons (λ ρ h. shown ρ (decreases 62) f.decreases-62 (less-from (next ρ 5) (now ρ 5) (from ρ (moves 5 5) f.moves-5-5 (all-head (all-tail (all-tail (all-tail (all-tail (all-tail (all-tail h))))))))))
     all-nil)))))
 
+-- the anticipated event: guard 0 ≤ r, u := u − r
+valid6 : All (Valid worked) list6
+unfolding Valid evaluate worked words machineOf treeOf treeTo start countBelow operatorNumbered noDivision
+valid6 =
+    (all-cons (defined-anywhere 6 65 _ tt)
+    (all-cons (defined-anywhere 6 68 _ tt)
+    -- INV of 12
+    (all-cons (λ ρ h. shown ρ (primed 12) f.primed-12 (transitive (next ρ 4) (now ρ 4) (next ρ 2) (from ρ (moves 6 4) f.moves-6-4 (all-head (all-tail (all-tail (all-tail (all-tail (all-tail h))))))) (transitive (now ρ 4) (now ρ 2) (next ρ 2) (from ρ (written 12) f.written-12 (all-head (all-tail (all-tail (all-tail h))))) (symmetric (next ρ 2) (now ρ 2) (from ρ (moves 6 2) f.moves-6-2 (all-head (all-tail (all-tail (all-tail (all-tail (all-tail (all-tail (all-tail h)))))))))))))
+    -- VAR of 62
+    (all-cons (λ ρ h. shown ρ (notIncreased 62) f.notIncreased-62 (not-more-from (next ρ 5) (now ρ 5) (now ρ 8) (from ρ (moves 6 5) f.moves-6-5 (all-head (all-tail (all-tail (all-tail (all-tail (all-tail (all-tail h)))))))) (from ρ (written 65) f.written-65 (all-head (all-tail (all-tail (all-tail (all-tail h))))))))
+    all-nil))))
+
 pub valid : All (Valid worked) (sequents worked)
 valid =
-    subst (All (Valid worked)) (sym listed) (all-join valid0 (all-join valid1 (all-join valid2 (all-join valid3 (all-join valid4 valid5)))))
+    subst (All (Valid worked)) (sym listed) (all-join valid0 (all-join valid1 (all-join valid2 (all-join valid3 (all-join valid4 (all-join valid5 valid6))))))

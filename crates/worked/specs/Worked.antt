@@ -1,5 +1,5 @@
 -- A worked table: constants and an axiom, a parameter with its witness, a "becomes such that" action, divisions that need their guards' order, an
--- abstract variable b that the ordinary events leave alone, a refining event and a convergent event.
+-- abstract variable b that the ordinary events leave alone, a refining event, a convergent event and an anticipated event.
 use Prim.Native.Nat.{ℕ}
 use mathlib.Core.List.{List, [], _∷_}
 use Rattle.row.specs.declared.Row.{Row}
@@ -7,8 +7,8 @@ use Rattle.reply.specs.Printed.{row, rowsBytes}
 
 abbrev pub rows : List Row
 rows =
-    -- identifiers 1 to 7: constant N; abstract a, b; concrete k, u; parameter q of event 2; parameter p of event 4
-    row 10 1 1 0 ∷ row 10 2 1 0 ∷ row 10 2 2 0 ∷ row 10 3 1 0 ∷ row 10 3 1 0 ∷ row 10 4 1 2 ∷ row 10 5 1 4
+    -- identifiers 1 to 8: constant N; abstract a, b; concrete k, u; parameter q of event 2; parameter p of event 4; parameter r of event 6
+    row 10 1 1 0 ∷ row 10 2 1 0 ∷ row 10 2 2 0 ∷ row 10 3 1 0 ∷ row 10 3 1 0 ∷ row 10 4 1 2 ∷ row 10 5 1 4 ∷ row 10 5 1 6
     -- nodes 1 to 3: 0 ≤ N
     ∷ row 20 1 0 0 ∷ row 20 2 1 0 ∷ row 20 22 1 2
     -- 4 to 6: 0 ≤ a
@@ -49,14 +49,18 @@ rows =
     ∷ row 20 2 5 0 ∷ row 20 1 1 0 ∷ row 20 11 59 60
     -- 62: u
     ∷ row 20 2 5 0
+    -- 63 to 65: 0 ≤ r
+    ∷ row 20 1 0 0 ∷ row 20 2 8 0 ∷ row 20 22 63 64
+    -- 66 to 68: u − r
+    ∷ row 20 2 5 0 ∷ row 20 2 8 0 ∷ row 20 11 66 67
     -- axiom; abstract invariants; concrete invariant
     ∷ row 30 3 0 0 ∷ row 31 6 0 0 ∷ row 31 9 0 0 ∷ row 32 12 0 0
-    -- events: 1 abstract initialisation, 2 ordinary, 3 concrete initialisation, 4 refines 2, 5 convergent
-    ∷ row 40 1 0 0 ∷ row 40 1 1 0 ∷ row 40 2 0 0 ∷ row 40 2 1 2 ∷ row 40 2 2 0
+    -- events: 1 abstract initialisation, 2 ordinary, 3 concrete initialisation, 4 refines 2, 5 convergent, 6 anticipated
+    ∷ row 40 1 0 0 ∷ row 40 1 1 0 ∷ row 40 2 0 0 ∷ row 40 2 1 2 ∷ row 40 2 2 0 ∷ row 40 2 3 0
     -- guards
-    ∷ row 50 2 18 0 ∷ row 50 2 23 0 ∷ row 50 4 38 0 ∷ row 50 4 43 0 ∷ row 50 5 58 0
-    -- actions: a := N, b := FALSE; k := N, u := N; k := k ÷ p; u := u − 1; a :| 0 ≤ a′
-    ∷ row 51 1 2 13 ∷ row 51 1 3 14 ∷ row 51 3 4 27 ∷ row 51 3 5 28 ∷ row 51 4 4 46 ∷ row 51 5 5 61 ∷ row 52 2 2 26
+    ∷ row 50 2 18 0 ∷ row 50 2 23 0 ∷ row 50 4 38 0 ∷ row 50 4 43 0 ∷ row 50 5 58 0 ∷ row 50 6 65 0
+    -- actions: a := N, b := FALSE; k := N, u := N; k := k ÷ p; u := u − 1; u := u − r; a :| 0 ≤ a′
+    ∷ row 51 1 2 13 ∷ row 51 1 3 14 ∷ row 51 3 4 27 ∷ row 51 3 5 28 ∷ row 51 4 4 46 ∷ row 51 5 5 61 ∷ row 51 6 5 68 ∷ row 52 2 2 26
     -- witnesses: a′, b′ of event 3; q, a′, b′ of event 4
     ∷ row 60 3 2 31 ∷ row 60 3 3 34 ∷ row 60 4 6 49 ∷ row 60 4 2 52 ∷ row 60 4 3 55
     -- variant u
