@@ -5,6 +5,7 @@ use crate::generate;
 use crate::generate::random::Random;
 use crate::rows::ROW_BYTES;
 use crate::shrink::{rows_of, shrink};
+use std::panic::{catch_unwind, AssertUnwindSafe};
 use std::sync::atomic::{AtomicBool, AtomicU64, Ordering};
 use std::sync::Mutex;
 use std::thread;
@@ -41,72 +42,89 @@ pub struct Found {
     pub difference: Difference,
 }
 
-/// The seeds still to be taken, and the first difference.
+/// The seeds still to be taken. All threads stop after a difference or a panic.
 struct Work<'a> {
     services: &'a dyn Services,
     next: AtomicU64,
     end: u64,
-    found: AtomicBool,
+    stop: AtomicBool,
 }
 
 /// Compares the tables of so many seeds from the first on. Stops at a difference, made smaller.
+/// The error names a seed at which making the table or calling the services panicked.
 pub fn compare(
     services: &dyn Services,
     first: u64,
     count: u64,
     threads: usize,
     progress: bool,
-) -> (Summary, Option<Found>) {
+) -> Result<(Summary, Option<Found>), String> {
     let work = Work {
         services,
         next: AtomicU64::new(first),
         end: first + count,
-        found: AtomicBool::new(false),
+        stop: AtomicBool::new(false),
     };
-    let all = Mutex::new((Summary::default(), Vec::new()));
+    let all = Mutex::new(Vec::new());
     thread::scope(|scope| {
         for _ in 0..threads {
             scope.spawn(|| {
-                let (summary, found) = take_seeds(&work);
-                let mut all = all
-                    .lock()
-                    .expect("no thread panics while it holds the sums");
-                all.0.add(&summary);
-                all.1.extend(found);
+                let taken = take_seeds(&work);
+                let mut all = all.lock().expect("no thread panics while it holds this");
+                all.push(taken);
             });
         }
         if progress {
             scope.spawn(|| show_progress(&work, first));
         }
     });
-    let (summary, mut found) = all.into_inner().expect("all threads have ended");
+    let (mut summary, mut found) = (Summary::default(), Vec::new());
+    for taken in all.into_inner().expect("all threads have ended") {
+        let (counted, one) = taken?;
+        summary.add(&counted);
+        found.extend(one);
+    }
     found.sort_by_key(|one: &Found| one.seed);
     let found = found.into_iter().next();
-    (summary, found.map(|one| smaller(services, one)))
+    Ok((summary, found.map(|one| smaller(services, one))))
 }
 
-/// Takes one seed after another, until there are none or a difference is found by any thread.
-fn take_seeds(work: &Work) -> (Summary, Option<Found>) {
+/// Takes one seed after another, until there are none or any thread stops.
+fn take_seeds(work: &Work) -> Result<(Summary, Option<Found>), String> {
     let mut summary = Summary::default();
     loop {
         let seed = work.next.fetch_add(1, Ordering::Relaxed);
-        if seed >= work.end || work.found.load(Ordering::Relaxed) {
-            return (summary, None);
+        if seed >= work.end || work.stop.load(Ordering::Relaxed) {
+            return Ok((summary, None));
         }
-        let table = generate::table(seed);
-        let comparison = compare_table(work.services, &table, seed);
-        summary.count(&comparison);
-        if let Some(difference) = comparison.difference {
-            work.found.store(true, Ordering::Relaxed);
-            let found = Found {
-                seed,
-                rows: table.len() / ROW_BYTES,
-                table,
-                difference,
-            };
-            return (summary, Some(found));
+        // What a panic leaves half done in the summary isn't used.
+        let taken = catch_unwind(AssertUnwindSafe(|| take_seed(work, seed, &mut summary)));
+        match taken {
+            Ok(None) => {}
+            Ok(found) => {
+                work.stop.store(true, Ordering::Relaxed);
+                return Ok((summary, found));
+            }
+            Err(_) => {
+                work.stop.store(true, Ordering::Relaxed);
+                return Err(format!("a panic at seed {seed} ends the comparison"));
+            }
         }
     }
+}
+
+/// Compares the table of one seed.
+fn take_seed(work: &Work, seed: u64, summary: &mut Summary) -> Option<Found> {
+    let table = generate::table(seed);
+    let comparison = compare_table(work.services, &table, seed);
+    summary.count(&comparison);
+    let difference = comparison.difference?;
+    Some(Found {
+        seed,
+        rows: table.len() / ROW_BYTES,
+        table,
+        difference,
+    })
 }
 
 fn compare_table<'a>(services: &'a dyn Services, table: &'a [u8], seed: u64) -> Comparison<'a> {
@@ -136,14 +154,14 @@ fn smaller(services: &dyn Services, mut found: Found) -> Found {
     found
 }
 
-/// Writes a line now and then, until all seeds are taken or a difference is found.
+/// Writes a line now and then, until all seeds are taken or the threads stop.
 fn show_progress(work: &Work, first: u64) {
     let start = Instant::now();
     let mut shown = start;
     loop {
         thread::sleep(Duration::from_millis(100));
         let next = work.next.load(Ordering::Relaxed).min(work.end);
-        if next == work.end || work.found.load(Ordering::Relaxed) {
+        if next == work.end || work.stop.load(Ordering::Relaxed) {
             return;
         }
         if shown.elapsed() >= PAUSE {

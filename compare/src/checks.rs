@@ -127,7 +127,7 @@ fn check_event(table: &Table) -> Option<usize> {
         let class_fits = match (event.machine, event.class) {
             (ABSTRACT | CONCRETE, INITIALISATION) => event.machine != last_machine,
             (ABSTRACT | CONCRETE, ORDINARY) => true,
-            (CONCRETE, CONVERGENT) => true,
+            (CONCRETE, CONVERGENT | ANTICIPATED) => true,
             _ => false,
         };
         if !class_fits || event.machine < last_machine || !refined_fits(table, *event) {
@@ -223,7 +223,7 @@ fn action_refers(table: &Table, action: Formula) -> Option<bool> {
 fn witness_refers(table: &Table, witness: Formula) -> Option<bool> {
     let event = table.event(witness.event)?;
     let target = table.identifier(witness.identifier)?;
-    let event_fits = event.machine == CONCRETE && event.class != CONVERGENT;
+    let event_fits = event.machine == CONCRETE && !is_new(event.class);
     let target_fits = match target.kind {
         ABSTRACT_VARIABLE => true,
         ABSTRACT_PARAMETER => target.owner == event.refined,
@@ -340,15 +340,22 @@ fn check_twice(table: &Table) -> Option<usize> {
     None
 }
 
-/// Check 12: initialisations, initial actions, witnesses, and a variant with convergent events.
+/// Check 12: initialisations, initial actions, witnesses, and variant and new events where one asks for the other.
 fn is_missing(table: &Table) -> bool {
-    let converges = table.events.iter().any(|event| event.class == CONVERGENT);
-    let has_variant = table.tagged(VARIANT).next().is_some();
-    converges != has_variant
+    !variant_fits(table)
         || [ABSTRACT, CONCRETE]
             .into_iter()
             .any(|machine| initial_is_missing(table, machine))
         || (1..=table.events.len() as i32).any(|event| witness_is_missing(table, event))
+}
+
+/// A variant stands with convergent or anticipated events; convergent ones ask for it, anticipated ones alone don't.
+pub fn variant_fits(table: &Table) -> bool {
+    if table.tagged(VARIANT).next().is_some() {
+        table.events.iter().any(|event| is_new(event.class))
+    } else {
+        table.events.iter().all(|event| event.class != CONVERGENT)
+    }
 }
 
 fn initial_is_missing(table: &Table, machine: i32) -> bool {
@@ -363,7 +370,7 @@ fn initial_is_missing(table: &Table, machine: i32) -> bool {
 
 fn witness_is_missing(table: &Table, number: i32) -> bool {
     let event = table.events[number as usize - 1];
-    if event.machine != CONCRETE || event.class == CONVERGENT {
+    if event.machine != CONCRETE || is_new(event.class) {
         return false;
     }
     table.identifiers.iter().enumerate().any(|(place, one)| {

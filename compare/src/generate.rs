@@ -3,6 +3,7 @@
 pub mod damage;
 pub mod draft;
 pub mod near;
+pub mod new_events;
 pub mod plan;
 pub mod random;
 pub mod sections;

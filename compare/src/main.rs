@@ -109,7 +109,7 @@ fn linked() -> Result<&'static dyn Services, String> {
 /// Compares the proved library with this program on the tables of so many seeds.
 fn against_library(count: u64, first: u64) -> Result<Vec<u8>, String> {
     let threads = std::thread::available_parallelism().map_or(1, |threads| threads.get());
-    let (summary, found) = campaign::compare(linked()?, first, count, threads, true);
+    let (summary, found) = campaign::compare(linked()?, first, count, threads, true)?;
     match found {
         None => Ok((summary.report() + "no difference\n").into_bytes()),
         Some(found) => Err(summary.report() + &found.report()),

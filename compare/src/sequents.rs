@@ -146,14 +146,17 @@ fn sequents_of_event(table: &Table, number: i32, list: &mut Vec<Sequent>) {
     wd_of_guards(table, number, &known, list);
     wd_of_actions(table, number, &known, list);
     fis(table, number, &known, list);
-    if event.machine == CONCRETE && event.class != CONVERGENT {
+    if event.machine == CONCRETE && !is_new(event.class) {
         wd_and_wfis_of_witnesses(table, number, &known, list);
         grd(table, number, &known, list);
         sim(table, number, &known, list);
     }
     inv(table, number, &known, list);
     if event.class == CONVERGENT {
-        nat_and_var(table, number, &known, list);
+        nat(table, number, &known, list);
+    }
+    if is_new(event.class) {
+        var(table, number, &known, list);
     }
 }
 
@@ -273,7 +276,7 @@ fn sim(table: &Table, number: i32, known: &Hypotheses, list: &mut Vec<Sequent>) 
 /// Each invariant of the event's own machine.
 fn inv(table: &Table, number: i32, known: &Hypotheses, list: &mut Vec<Sequent>) {
     let event = table.events[number as usize - 1];
-    let last = if event.class == CONVERGENT {
+    let last = if is_new(event.class) {
         moves(table, number, ABSTRACT)
     } else {
         known.witnesses.clone()
@@ -294,7 +297,7 @@ fn inv(table: &Table, number: i32, known: &Hypotheses, list: &mut Vec<Sequent>) 
     }
 }
 
-fn nat_and_var(table: &Table, event: i32, known: &Hypotheses, list: &mut Vec<Sequent>) {
+fn nat(table: &Table, event: i32, known: &Hypotheses, list: &mut Vec<Sequent>) {
     for variant in table.tagged(VARIANT) {
         list.push(Sequent {
             kind: NAT,
@@ -303,12 +306,20 @@ fn nat_and_var(table: &Table, event: i32, known: &Hypotheses, list: &mut Vec<Seq
             hypotheses: known.base_and_guards(),
             goal: entry(7, variant.root, 0),
         });
+    }
+}
+
+/// A convergent event lowers the variant, an anticipated one doesn't raise it. Without a variant there is none.
+fn var(table: &Table, event: i32, known: &Hypotheses, list: &mut Vec<Sequent>) {
+    let converges = table.events[event as usize - 1].class == CONVERGENT;
+    let form = if converges { 8 } else { 9 };
+    for variant in table.tagged(VARIANT) {
         list.push(Sequent {
             kind: VAR,
             event,
             item: variant.root,
             hypotheses: known.and_moves(),
-            goal: entry(8, variant.root, 0),
+            goal: entry(form, variant.root, 0),
         });
     }
 }
@@ -336,13 +347,17 @@ pub fn spell_out(table: &Table, entry: Entry) -> Vec<Symbol> {
             out.push(Symbol::new(LITERAL, 0));
             spell(table, first, &mut out);
         }
-        _ => {
-            out.push(bare(LESS));
-            spell_after(table, first, &mut out);
-            spell(table, first, &mut out);
-        }
+        8 => spell_variant_step(table, LESS, first, &mut out),
+        _ => spell_variant_step(table, AT_MOST, first, &mut out),
     }
     out
+}
+
+/// The variant after the step, compared with the variant before it.
+fn spell_variant_step(table: &Table, operator: i32, root: i32, out: &mut Vec<Symbol>) {
+    out.push(bare(operator));
+    spell_after(table, root, out);
+    spell(table, root, out);
 }
 
 /// The action's equation or predicate, or "after equals before" if unassigned.

@@ -101,7 +101,7 @@ fn shrink_places(
 }
 
 /// The table without the identifiers, events and formulas in a run of rows, and without all that names them.
-/// A last convergent event can only go with the variant, so that is tried too.
+/// A last convergent or anticipated event can only go with the variant, so that is tried too.
 fn without_parts(rows: &[Row], place: usize, run: usize) -> Vec<Vec<Row>> {
     let places = place..(place + run).min(rows.len());
     let parts: Places = places.filter(|&place| rows[place].tag != 20).collect();

@@ -1,5 +1,6 @@
 //! What the tables of many seeds contain and how they are answered.
 
+pub mod anticipated;
 pub mod shapes;
 
 use crate::checks::{accept, Refusal};

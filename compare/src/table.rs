@@ -17,6 +17,7 @@ pub const CONCRETE: i32 = 2;
 pub const INITIALISATION: i32 = 0;
 pub const ORDINARY: i32 = 1;
 pub const CONVERGENT: i32 = 2;
+pub const ANTICIPATED: i32 = 3;
 
 pub const AXIOM: i32 = 30;
 pub const ABSTRACT_INVARIANT: i32 = 31;
@@ -190,6 +191,11 @@ impl Table {
             .iter()
             .find(|row| row.is_action() && row.event == event && row.identifier == variable)
     }
+}
+
+/// Whether events of this class are new in the refinement: convergent or anticipated, matched by no abstract step.
+pub fn is_new(class: i32) -> bool {
+    class == CONVERGENT || class == ANTICIPATED
 }
 
 /// The kind of a machine's variables.

@@ -38,7 +38,7 @@ fn every_round_meets_every_refusal() {
 fn all_kinds_forms_and_operators_occur() {
     let statistics = Statistics::of(0, 300);
     assert!((1..=8).all(|kind| statistics.kinds.contains_key(&kind)));
-    assert!((1..=8).all(|form| statistics.goal_forms.contains_key(&form)));
+    assert!((1..=9).all(|form| statistics.goal_forms.contains_key(&form)));
     let operators = [1..=6, 10..=15, 20..=22, 30..=36, 40..=41];
     for operator in operators.into_iter().flatten() {
         assert!(statistics.operators.contains_key(&operator), "{operator}");
@@ -48,7 +48,7 @@ fn all_kinds_forms_and_operators_occur() {
 /// Rows stand in every way that matters to a program that goes by sections, and tables are near the refusals.
 #[test]
 fn shapes_occur_in_numbers() {
-    let statistics = Statistics::of(0, 1500);
+    let statistics = Statistics::of(0, 3000);
     assert!(3 * statistics.accepted >= statistics.cases);
     assert!(3 * statistics.empty.len() >= 2 * COMBINATIONS);
     let count = |word: &str| statistics.shapes.get(word).copied().unwrap_or(0);
@@ -72,7 +72,7 @@ fn shapes_occur_in_numbers() {
         let above = format!("refused by 4, section {tag}: one above the limit");
         assert!(count(&above) > 0, "{tag}");
     }
-    for (word, least) in SHAPES {
+    for (word, least) in SHAPES.iter().chain(ANTICIPATED) {
         assert!(count(word) >= *least, "{word}: {}", count(word));
     }
 }
@@ -119,7 +119,33 @@ const SHAPES: &[(&str, usize)] = &[
     ("refused by 12, alone: variable witness, ordinary", 1),
     ("refused by 12, alone: parameter witness", 1),
     ("refused by 12, alone: variant", 2),
-    ("refused by 12, alone: convergent event", 2),
+    ("refused by 12, alone: new event", 1),
+];
+
+/// The same of tables in which class 3 matters.
+const ANTICIPATED: &[(&str, usize)] = &[
+    ("accepted, class 3: with class 2 and a variant", 160),
+    ("accepted, class 3: alone, with a variant", 120),
+    ("accepted, class 3: alone, without a variant", 160),
+    ("accepted, class 3: before an ordinary event", 200),
+    ("accepted, class 3: after an ordinary event", 200),
+    ("accepted, class 3: before a convergent event", 120),
+    ("accepted, class 3: after a convergent event", 120),
+    ("accepted, class 3: owner of a parameter", 200),
+    ("accepted, class 3: with a guard", 200),
+    ("accepted, class 3: with an action 51", 160),
+    ("accepted, class 3: with an action 52", 160),
+    ("accepted, class 3: without guards and actions", 200),
+    ("accepted, class 3: INV under many abstract variables", 80),
+    ("refused by 5: class 3, abstract", 4),
+    ("refused by 5: class 3 with a refined event", 10),
+    ("refused by 5: class 4", 2),
+    ("refused by 6: class 3 owns an abstract parameter", 12),
+    ("refused by 7: witness at class 3", 10),
+    ("refused by 7: action at class 3", 8),
+    ("refused by 11: action at class 3", 2),
+    ("refused by 12, alone: variant, with class 3", 2),
+    ("refused by 12, alone: new event, with ordinary ones", 4),
 ];
 
 #[test]

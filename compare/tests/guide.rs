@@ -12,6 +12,7 @@ fn model(name: &str) -> &'static str {
     match name {
         "L" => include_str!("../../models/L.txt"),
         "counter" => include_str!("../../models/counter.txt"),
+        "placing_head" => include_str!("../../models/placing_head.txt"),
         _ => panic!("no model {name}"),
     }
 }
@@ -39,7 +40,7 @@ fn numbers(text: &str) -> Vec<usize> {
 fn title(line: &str) -> Option<(&str, &str, &str)> {
     let (typed, comment) = line.split_once('#')?;
     let (name, rest) = comment.trim().split_once(", ")?;
-    ["L", "counter"]
+    ["L", "counter", "placing_head"]
         .contains(&name)
         .then_some((typed, name, rest))
 }
@@ -102,7 +103,7 @@ fn replies_are_those_given() {
             written += 1;
         }
     }
-    assert_eq!((refused, written), (20, 7));
+    assert_eq!((refused, written), (24, 9));
 }
 
 /// Rows of a block that isn't an example of a reply stand in one of the models.
@@ -110,6 +111,7 @@ fn replies_are_those_given() {
 fn rows_quoted_from_models_stand_there() {
     let free_list = include_str!("../../models/free_list.txt");
     let mut all = rows(model("counter"));
+    all.extend(rows(model("placing_head")));
     all.extend(rows(free_list));
     for block in blocks() {
         // Commands and machines on paper are no rows.
@@ -124,6 +126,8 @@ fn rows_quoted_from_models_stand_there() {
 fn counts_are_right() {
     assert_eq!(rows(model("L")).len(), 12);
     assert_eq!(rows(model("counter")).len(), 140);
+    assert_eq!(rows(model("placing_head")).len(), 114);
     assert_eq!(Answers::of(&table(model("L"))).check(), Ok(5));
     assert_eq!(Answers::of(&table(model("counter"))).check(), Ok(57));
+    assert_eq!(Answers::of(&table(model("placing_head"))).check(), Ok(50));
 }

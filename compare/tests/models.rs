@@ -22,6 +22,10 @@ const FREE_LIST: (&str, &str) = (
     include_str!("../../models/free_list.txt"),
     include_str!("../../models/free_list.out"),
 );
+const PLACING_HEAD: (&str, &str) = (
+    include_str!("../../models/placing_head.txt"),
+    include_str!("../../models/placing_head.out"),
+);
 const REFUSED: (&str, &str) = (
     include_str!("../../models/refused.txt"),
     include_str!("../../models/refused.out"),
@@ -29,7 +33,7 @@ const REFUSED: (&str, &str) = (
 
 #[test]
 fn stored_output_is_printed() {
-    for (text, printed) in [L, COUNTER, FREE_LIST, REFUSED] {
+    for (text, printed) in [L, COUNTER, FREE_LIST, PLACING_HEAD, REFUSED] {
         assert_eq!(print(&table(text)), printed.as_bytes());
     }
     assert_eq!(rows(L.0), rows(common::L));
@@ -49,6 +53,7 @@ fn no_small_values_refute_a_model() {
     assert_eq!(refuted(&rows(L.0), -9..=9), []);
     assert_eq!(refuted(&rows(COUNTER.0), -2..=7), []);
     assert_eq!(refuted(&rows(FREE_LIST.0), -1..=4), []);
+    assert_eq!(refuted(&rows(PLACING_HEAD.0), -4..=6), []);
 }
 
 /// Releasing a block that isn't taken breaks GRD of "free + n ≤ blocks" and INV of the places' sum.
@@ -70,4 +75,23 @@ fn a_carry_without_its_guard_is_refuted() {
     // base ≤ ones becomes ones ≤ ones: node n is row n + 7.
     model[7 + 89 - 1] = Row::new(20, 2, 5, 0);
     assert_eq!(refuted(&model, -2..=7), [57]);
+}
+
+/// Without its guard 0 ≤ d a picture moves the target away: INV of gap ≤ reach and VAR of the anticipated event.
+#[test]
+fn a_target_moved_away_is_refuted() {
+    let mut model = rows(PLACING_HEAD.0);
+    assert!(model.contains(&Row::new(50, 6, 71, 0)));
+    // 0 ≤ d becomes d ≤ d: node n is row n + 6.
+    model[6 + 69 - 1] = Row::new(20, 2, 6, 0);
+    assert_eq!(refuted(&model, -4..=6), [49, 50]);
+}
+
+/// A picture that changes nothing doesn't converge: as a convergent event look has NAT too, and its VAR isn't valid.
+#[test]
+fn an_anticipated_event_need_not_converge() {
+    let mut model = rows(PLACING_HEAD.0);
+    let look = model.iter().position(|row| row.tag == 40 && row.b == 3);
+    model[look.expect("an anticipated event")].b = 2;
+    assert_eq!(refuted(&model, -4..=6), [51]);
 }

@@ -80,9 +80,12 @@ fn extremes_are_accepted() {
 
 #[test]
 fn every_limit_at_once() {
-    let bytes = extreme_table(0);
-    assert_eq!(bytes.len() / 38, 64 + 512 + 48 + 32 + 64 + 128 + 128 + 1);
-    assert!(check(&bytes).is_ok());
+    // Without anticipated events, and with them.
+    for number in [0, 8] {
+        let bytes = extreme_table(number);
+        assert_eq!(bytes.len() / 38, 64 + 512 + 48 + 32 + 64 + 128 + 128 + 1);
+        assert!(check(&bytes).is_ok(), "{number}");
+    }
 }
 
 /// 48 WD, 64 guards, 128 actions with FIS, 120 witnesses with WFIS, 29 × 64 GRD, 120 SIM, 512 INV.
@@ -95,13 +98,13 @@ fn most_sequents() {
 
 #[test]
 fn longest_sequent() {
-    let bytes = extreme_table(2);
-    let read = compare::checks::accept(&bytes).expect("accepted");
-    let longest = sequents(&read)
-        .iter()
-        .map(|one| one.hypotheses.len() + 2)
-        .max();
-    assert_eq!(longest, Some(178));
+    // At an ordinary event, and at an anticipated one.
+    for number in [2, 9] {
+        let read = compare::checks::accept(&extreme_table(number)).expect("accepted");
+        let list = sequents(&read);
+        let longest = list.iter().map(|one| one.hypotheses.len() + 2).max();
+        assert_eq!(longest, Some(178), "{number}");
+    }
 }
 
 #[test]

@@ -250,7 +250,7 @@ fn damage_event(rows: &mut [Row], random: &mut Random) {
     };
     match random.below(5) {
         0 => rows[place].a = random.pick(&[0, 1, 2, 3, -1, i32::MAX]),
-        1 => rows[place].b = random.pick(&[0, 1, 2, 3, -1, i32::MIN]),
+        1 => rows[place].b = random.pick(&[0, 1, 2, 3, 4, -1, i32::MIN]),
         2 => rows[place].c = random.pick(&[0, 1, 2, 3, 5, 33, -1, i32::MAX]),
         3 => rows.swap(place, random.pick(&events)),
         _ => rows[place].c = random.between(1, events.len() + 1) as i32,
@@ -421,7 +421,7 @@ fn second_target(draft: &mut Draft, random: &mut Random) {
     draft.formulas.insert(at, formula);
 }
 
-/// Refusal 12: something is left out, or a variant is without convergent events.
+/// Refusal 12: something is left out, or a variant is without convergent or anticipated events.
 fn leave_out(draft: &mut Draft, random: &mut Random) {
     match random.below(5) {
         0 => drop_formula(draft, random, |one| one.tag == WITNESS),

@@ -3,6 +3,7 @@
 use super::accepted_draft;
 use super::damage::{is_action, places};
 use super::draft::{Draft, DraftFormula};
+use super::new_events::{make_ordinary, near_anticipated};
 use super::plan::{numbers_of, root_sort, sight};
 use super::random::Random;
 use super::sections::{sectioned, TAGS};
@@ -12,7 +13,7 @@ use crate::rows::{bytes_of, Row};
 use crate::table::*;
 
 /// The refusals that tables come near to.
-pub const NEAR: [i32; 5] = [3, 4, 9, 11, 12];
+pub const NEAR: [i32; 8] = [3, 4, 5, 6, 7, 9, 11, 12];
 
 /// Any of them, whatever the table's refusal then is; or whole sections left out.
 pub fn near_miss(random: &mut Random) -> Vec<u8> {
@@ -24,7 +25,11 @@ pub fn near_miss(random: &mut Random) -> Vec<u8> {
     if random.one_in(6) {
         return bytes_of(&without_sections(draft.rows(random), random));
     }
-    let refusal = random.pick(&[3, 4, 4, 9, 9, 11, 11, 12, 12]);
+    let refusal = if random.one_in(6) {
+        random.pick(&[5, 6, 7])
+    } else {
+        random.pick(&[3, 4, 4, 9, 9, 11, 11, 12, 12])
+    };
     bytes_of(&near(refusal, &draft, random))
 }
 
@@ -32,6 +37,7 @@ pub fn near_miss(random: &mut Random) -> Vec<u8> {
 pub fn near(refusal: i32, draft: &Draft, random: &mut Random) -> Vec<Row> {
     let mut draft = draft.clone();
     match refusal {
+        5..=7 => near_anticipated(refusal, &mut draft, random),
         11 => second_target(&mut draft, random),
         12 => leave_one_out(&mut draft, random),
         _ => {}
@@ -287,7 +293,8 @@ enum Missing {
     VariableWitness(i32),
     ParameterWitness,
     Variant,
-    Convergent,
+    /// A convergent or anticipated one, for the variant.
+    NewEvent,
 }
 
 /// One thing that check 12 asks for is left out, nothing else: any of those that the draft has.
@@ -301,13 +308,14 @@ fn leave_one_out(draft: &mut Draft, random: &mut Random) {
         Missing::VariableWitness(ORDINARY),
         Missing::ParameterWitness,
         Missing::Variant,
-        Missing::Convergent,
+        Missing::NewEvent,
     ];
     random.shuffle(&mut all);
     for missing in all {
         match missing {
             Missing::Initialisation(machine) => return remove_initialisation(draft, machine),
-            Missing::Convergent if draft.count(&[VARIANT]) == 0 => return add_variant(draft),
+            Missing::Variant if converge_without_variant(draft, random) => return,
+            Missing::NewEvent if drop_new_events(draft, random) => return,
             _ => {}
         }
         let found = formulas(draft, |one| is_asked_for(draft, one, missing));
@@ -324,13 +332,16 @@ fn is_asked_for(draft: &Draft, formula: &DraftFormula, missing: Missing) -> bool
     let kind = || draft.identifiers[formula.identifier as usize - 1][0];
     let witness = |wanted| formula.tag == WITNESS && kind() == wanted;
     match missing {
-        Missing::Initialisation(_) | Missing::Convergent => false,
+        Missing::Initialisation(_) | Missing::NewEvent => false,
         Missing::InitialAction(machine) => {
             is_action(formula.tag) && event()[..2] == [machine, INITIALISATION]
         }
         Missing::VariableWitness(class) => witness(ABSTRACT_VARIABLE) && event()[1] == class,
         Missing::ParameterWitness => witness(ABSTRACT_PARAMETER),
-        Missing::Variant => formula.tag == VARIANT,
+        Missing::Variant => {
+            let converges = |event: &[i32; 3]| event[1] == CONVERGENT;
+            formula.tag == VARIANT && draft.events.iter().any(converges)
+        }
     }
 }
 
@@ -358,7 +369,31 @@ fn remove_initialisation(draft: &mut Draft, machine: i32) {
         .for_each(|one| lower(&mut one.event));
 }
 
-/// A variant, where no event converges.
+/// An anticipated event becomes convergent where there is no variant. Gives whether one did.
+fn converge_without_variant(draft: &mut Draft, random: &mut Random) -> bool {
+    let found = numbers_of(&draft.events, |event| event[1] == ANTICIPATED);
+    let Some(event) = random.maybe(&found) else {
+        return false;
+    };
+    if draft.count(&[VARIANT]) > 0 {
+        return false;
+    }
+    draft.events[event as usize - 1][1] = CONVERGENT;
+    true
+}
+
+/// A variant without new events: these become ordinary ones, and there is a variant. Gives whether it was done.
+fn drop_new_events(draft: &mut Draft, random: &mut Random) -> bool {
+    let has_new = draft.events.iter().any(|event| is_new(event[1]));
+    if has_new && !make_ordinary(draft, random) {
+        return false;
+    }
+    if draft.count(&[VARIANT]) == 0 {
+        add_variant(draft);
+    }
+    true
+}
+
 fn add_variant(draft: &mut Draft) {
     draft.formulas.push(DraftFormula {
         tag: VARIANT,

@@ -30,7 +30,8 @@ pub enum Acting {
     Last,
 }
 
-/// How many of everything. `guards_at` is one event for all guards, or 0 for any.
+/// How many of everything. `guards_at` is one event for all guards, or 0 for any. Convergent events have a variant,
+/// anticipated ones alone only if `variant` says so.
 /// Rows of one tag stand in any order unless they are `arranged`. `nodes` come on top of one for each formula, `spare_nodes` are left to the limit.
 #[derive(Clone, Debug, Default)]
 pub struct Plan {
@@ -42,6 +43,8 @@ pub struct Plan {
     pub abstract_events: usize,
     pub ordinary: usize,
     pub convergent: usize,
+    pub anticipated: usize,
+    pub variant: bool,
     pub axioms: usize,
     pub abstract_invariants: usize,
     pub concrete_invariants: usize,
@@ -65,7 +68,8 @@ impl Plan {
         let actions = random.below((5 * size).min(Table::MOST_ACTIONS) + 1);
         let guards = random.below((2 * size).min(Table::MOST_GUARDS) + 1);
         let mut most = |limit: usize| random.below(size.min(limit) + 1);
-        let plan = Plan {
+        let new_events = most(10);
+        let mut plan = Plan {
             constants: most(12),
             abstract_variables: most(12),
             concrete_variables: most(16),
@@ -73,7 +77,6 @@ impl Plan {
             concrete_parameters: most(12),
             abstract_events: most(8),
             ordinary: most(12),
-            convergent: most(10),
             axioms: most(16),
             abstract_invariants: most(16),
             concrete_invariants: most(16),
@@ -82,7 +85,25 @@ impl Plan {
             nodes,
             ..Plan::default()
         };
+        plan.share_new_events(new_events, random);
         plan.within_limits()
+    }
+
+    /// So many new events: of either class alone in one case of four, else of both if there are two or more.
+    pub fn share_new_events(&mut self, count: usize, random: &mut Random) {
+        self.convergent = match random.below(4) {
+            0 => 0,
+            1 => count,
+            _ if count < 2 => random.below(count + 1),
+            _ => random.between(1, count - 1),
+        };
+        self.anticipated = count - self.convergent;
+        self.variant = random.one_in(2);
+    }
+
+    /// How many events are convergent or anticipated.
+    pub fn new_events(&self) -> usize {
+        self.convergent + self.anticipated
     }
 
     /// Lowers what wouldn't fit together.
@@ -91,7 +112,7 @@ impl Plan {
             self.ordinary = 0;
             self.abstract_parameters = 0;
         }
-        if self.ordinary + self.convergent == 0 {
+        if self.ordinary + self.new_events() == 0 {
             self.concrete_parameters = 0;
         }
         while self.abstract_variables * (1 + self.ordinary) > Table::MOST_WITNESSES {
@@ -129,7 +150,8 @@ impl Plan {
             let refined = random.between(2, 1 + self.abstract_events);
             others.push([CONCRETE, ORDINARY, refined as i32]);
         }
-        others.resize(self.ordinary + self.convergent, [CONCRETE, CONVERGENT, 0]);
+        others.extend(vec![[CONCRETE, CONVERGENT, 0]; self.convergent]);
+        others.extend(vec![[CONCRETE, ANTICIPATED, 0]; self.anticipated]);
         random.shuffle(&mut others);
         draft.events.extend(others);
     }
@@ -163,7 +185,7 @@ impl Plan {
         places.extend(self.guard_places(draft, random));
         places.extend(self.action_places(draft, random));
         places.extend(witness_places(draft));
-        if draft.events.iter().any(|event| event[1] == CONVERGENT) {
+        if self.convergent > 0 || (self.variant && self.anticipated > 0) {
             places.push((VARIANT, 0, 0));
         }
         places
@@ -289,7 +311,7 @@ fn any_owner(draft: &Draft, kind: i32, random: &mut Random) -> i32 {
 fn witness_places(draft: &Draft) -> Vec<Place> {
     let mut places = Vec::new();
     for (n, event) in draft.events.iter().enumerate() {
-        if event[0] != CONCRETE || event[1] == CONVERGENT {
+        if event[0] != CONCRETE || is_new(event[1]) {
             continue;
         }
         let wanted = |one: &[i32; 3]| {
@@ -382,7 +404,7 @@ fn sees_after(draft: &Draft, (tag, _, target): Place, number: i32) -> bool {
     }
 }
 
-pub const EXTREMES: usize = 9;
+pub const EXTREMES: usize = 11;
 
 /// Tables at the limits. Numbers 1, 2 and 3 have the most sequents, the longest sequent
 /// and the longest spelled entry that were found.
@@ -405,6 +427,8 @@ pub fn extreme(number: usize, random: &mut Random) -> Draft {
         5 => one_formula(random),
         6 => many_witnesses(full, random),
         7 => many_events(random),
+        8 => anticipated_everything(full, random),
+        9 => longest_anticipated(full, random),
         _ => near_limits(full, random),
     };
     plan.draft(random)
@@ -422,6 +446,15 @@ fn everything(full: Plan) -> Plan {
         convergent: 10,
         ..full
     }
+}
+
+/// The same with anticipated events, beside convergent ones or alone.
+fn anticipated_everything(full: Plan, random: &mut Random) -> Plan {
+    let mut plan = everything(full);
+    plan.convergent = random.pick(&[0, 1, 5, 9]);
+    plan.anticipated = 10 - plan.convergent;
+    plan.variant = true;
+    plan
 }
 
 /// So many quarters of a table at every limit.
@@ -470,6 +503,18 @@ fn longest_sequent(full: Plan) -> Plan {
     }
 }
 
+/// The same length at an anticipated event, whose hypotheses end with the abstract variables.
+fn longest_anticipated(full: Plan, random: &mut Random) -> Plan {
+    Plan {
+        abstract_variables: 32,
+        concrete_variables: 32,
+        anticipated: 1,
+        variant: random.one_in(2),
+        guards_at: 3,
+        ..full
+    }
+}
+
 fn longest_entry(random: &mut Random) -> Draft {
     deep(255, random)
 }
@@ -510,11 +555,12 @@ fn one_formula(random: &mut Random) -> Plan {
         nodes: 512,
         ..Plan::default()
     };
-    match random.below(4) {
+    match random.below(5) {
         0 => plan.axioms = 1,
         1 => plan.abstract_invariants = 1,
         2 => plan.concrete_invariants = 1,
-        _ => plan.convergent = 1,
+        3 => plan.convergent = 1,
+        _ => (plan.anticipated, plan.variant) = (1, true),
     }
     plan
 }
@@ -525,6 +571,8 @@ fn many_witnesses(full: Plan, random: &mut Random) -> Plan {
         abstract_variables,
         ordinary,
         abstract_events: 1 + random.below(3),
+        anticipated: random.below(3),
+        variant: random.one_in(2),
         ..full
     }
 }
@@ -532,22 +580,23 @@ fn many_witnesses(full: Plan, random: &mut Random) -> Plan {
 fn many_events(random: &mut Random) -> Plan {
     let abstract_events = random.between(1, 29);
     let ordinary = random.below(31 - abstract_events);
-    Plan {
+    let mut plan = Plan {
         abstract_events,
         ordinary,
-        convergent: 30 - abstract_events - ordinary,
         abstract_variables: random.below(3),
         concrete_variables: random.below(3),
         concrete_invariants: random.below(4),
         ..Plan::default()
-    }
-    .within_limits()
+    };
+    plan.share_new_events(30 - abstract_events - ordinary, random);
+    plan.within_limits()
 }
 
 /// Every part at its limit or a little below.
 fn near_limits(full: Plan, random: &mut Random) -> Plan {
     let mut near = |limit: usize| limit - random.below(3);
-    Plan {
+    let new_events = near(8);
+    let mut plan = Plan {
         constants: near(6),
         abstract_variables: near(6),
         concrete_variables: near(24),
@@ -555,7 +604,6 @@ fn near_limits(full: Plan, random: &mut Random) -> Plan {
         concrete_parameters: near(24),
         abstract_events: near(6),
         ordinary: near(16),
-        convergent: near(8),
         axioms: near(16),
         abstract_invariants: near(16),
         concrete_invariants: near(16),
@@ -563,5 +611,7 @@ fn near_limits(full: Plan, random: &mut Random) -> Plan {
         actions: near(128),
         spare_nodes: 512 - near(512),
         ..full
-    }
+    };
+    plan.share_new_events(new_events, random);
+    plan
 }

@@ -210,6 +210,8 @@ impl Wanted {
         };
         self.set_events(&mut plan, random);
         self.set_identifiers(&mut plan, random);
+        let others = 2 + plan.abstract_events + plan.new_events();
+        plan.ordinary = plan.ordinary.min(Table::MOST_EVENTS - others);
         match self.full {
             NODES => plan.nodes = Table::MOST_NODES,
             BECOMES_EQUAL | BECOMES_SUCH_THAT => {
@@ -235,16 +237,22 @@ impl Wanted {
     }
 
     fn set_events(&self, plan: &mut Plan, random: &mut Random) {
-        plan.convergent = self.size(VARIANT, 3, random);
+        if self.has(VARIANT) {
+            let count = self.size(VARIANT, 3, random);
+            plan.share_new_events(count, random);
+            plan.variant = true;
+        } else {
+            plan.anticipated = random.pick(&[0, 0, 1, 3]);
+        }
         plan.abstract_events = random.below(3);
         if self.full == EVENTS {
-            let left = Table::MOST_EVENTS - 2 - plan.convergent;
+            let left = Table::MOST_EVENTS - 2 - plan.new_events();
             plan.abstract_events = random.between(1, left);
             plan.ordinary = left - plan.abstract_events;
         } else if plan.abstract_events > 0 {
             plan.ordinary = random.below(3);
         }
-        if self.has(GUARD) && plan.abstract_events + plan.convergent == 0 {
+        if self.has(GUARD) && plan.abstract_events + plan.new_events() == 0 {
             plan.abstract_events = 1;
         }
     }
@@ -260,7 +268,7 @@ impl Wanted {
         if plan.ordinary == 0 && plan.abstract_events > 0 {
             plan.abstract_parameters = random.pick(&[0, 0, 1]);
         }
-        if plan.ordinary + plan.convergent > 0 && self.full == 0 {
+        if plan.ordinary + plan.new_events() > 0 && self.full == 0 {
             plan.concrete_parameters = random.pick(&[0, 0, 1, 3]);
         }
         let others = plan.abstract_variables
@@ -282,7 +290,6 @@ impl Wanted {
             plan.abstract_events = 1;
             (plan.concrete_variables, plan.ordinary) =
                 random.pick(&[(63, 2), (43, 2), (32, 3), (16, 7), (4, 29)]);
-            plan.ordinary = plan.ordinary.min(29 - plan.convergent);
         }
         self.set_two(plan);
     }
@@ -304,7 +311,7 @@ impl Wanted {
             random.pick(&[(1, 1), (1, 2), (2, 1), (3, 3)])
         };
         if self.full == EVENTS {
-            plan.ordinary = Table::MOST_EVENTS - 3 - plan.convergent;
+            plan.ordinary = Table::MOST_EVENTS - 3 - plan.new_events();
         }
     }
 
@@ -316,7 +323,6 @@ impl Wanted {
                 plan.abstract_events = 1;
                 (plan.abstract_variables, plan.ordinary) =
                     random.pick(&[(32, 3), (16, 7), (8, 15), (4, 28)]);
-                plan.ordinary = plan.ordinary.min(29 - plan.convergent);
             }
             BECOMES_EQUAL | BECOMES_SUCH_THAT => {
                 plan.abstract_events = 1;

@@ -191,14 +191,13 @@ fn with_deep(mut draft: Draft, wanted: Place, shape: Shape, operator: i32) -> Op
     Some((words, laid_out(&draft)))
 }
 
-/// Both initialisations, and a convergent event for a variant.
-fn bare(convergent: bool) -> Draft {
+/// Both initialisations, and these classes of new events, for a variant.
+fn bare(new_events: &[i32]) -> Draft {
     let mut draft = Draft::default();
     draft.events.push([ABSTRACT, INITIALISATION, 0]);
     draft.events.push([CONCRETE, INITIALISATION, 0]);
-    if convergent {
-        draft.events.push([CONCRETE, CONVERGENT, 0]);
-    }
+    let new_events = new_events.iter().map(|&class| [CONCRETE, class, 0]);
+    draft.events.extend(new_events);
     draft
 }
 
@@ -216,6 +215,7 @@ fn small() -> Draft {
             [CONCRETE, INITIALISATION, 0],
             [CONCRETE, ORDINARY, 2],
             [CONCRETE, CONVERGENT, 0],
+            [CONCRETE, ANTICIPATED, 0],
         ],
         formulas: vec![],
     };
@@ -231,17 +231,20 @@ fn small() -> Draft {
 }
 
 /// Places in the small machine for one formula more, or for one that it has.
-const PLACES: [Place; 13] = [
+const PLACES: [Place; 16] = [
     (AXIOM, 0, 0),
     (ABSTRACT_INVARIANT, 0, 0),
     (CONCRETE_INVARIANT, 0, 0),
     (GUARD, 2, 0),
     (GUARD, 4, 0),
     (GUARD, 5, 0),
+    (GUARD, 6, 0),
     (BECOMES_EQUAL, 1, 1),
     (BECOMES_EQUAL, 4, 2),
+    (BECOMES_EQUAL, 6, 2),
     (BECOMES_SUCH_THAT, 2, 1),
     (BECOMES_SUCH_THAT, 4, 2),
+    (BECOMES_SUCH_THAT, 6, 2),
     (WITNESS, 4, 1),
     (WITNESS, 4, 3),
     (VARIANT, 0, 0),
@@ -251,8 +254,9 @@ const PLACES: [Place; 13] = [
 fn deep(shape: Shape) -> Vec<Named> {
     let mut tables = Vec::new();
     for &operator in shape.operators() {
-        tables.extend(with_deep(bare(false), (AXIOM, 0, 0), shape, operator));
-        tables.extend(with_deep(bare(true), (VARIANT, 0, 0), shape, operator));
+        tables.extend(with_deep(bare(&[]), (AXIOM, 0, 0), shape, operator));
+        let both = bare(&[CONVERGENT, ANTICIPATED]);
+        tables.extend(with_deep(both, (VARIANT, 0, 0), shape, operator));
         let in_place = |place| with_deep(small(), place, shape, operator);
         tables.extend(PLACES.into_iter().filter_map(in_place));
     }
@@ -282,6 +286,7 @@ fn deep_with_events() -> Vec<Named> {
     draft.events[0] = [ABSTRACT, INITIALISATION, 0];
     draft.events[1] = [ABSTRACT, ORDINARY, 0];
     draft.events[2] = [CONCRETE, INITIALISATION, 0];
+    draft.events[Table::MOST_EVENTS - 2] = [CONCRETE, ANTICIPATED, 0];
     draft.events[Table::MOST_EVENTS - 1] = [CONCRETE, CONVERGENT, 0];
     let variable = Table::MOST_IDENTIFIERS as i32;
     let event = Table::MOST_EVENTS as i32;

@@ -1,5 +1,6 @@
 //! Where the rows of a table stand, and how near it is to a refusal: words for what a table has, to be counted.
 
+use super::anticipated;
 use crate::checks::{initialisation, Refusal, FULL, MISSING, TAG, TWICE, USE};
 use crate::formula::operands;
 use crate::generate::sections::TAGS;
@@ -91,6 +92,7 @@ fn accepted(table: &Table) -> Vec<String> {
     ];
     let found = flags.into_iter().filter(|one| one.1);
     words.extend(found.map(|(word, _)| format!("accepted, {word}")));
+    words.extend(anticipated::accepted(table));
     words
 }
 
@@ -164,6 +166,7 @@ fn refused(table: &Table, refusal: Refusal) -> Vec<String> {
         let words_of = |tag| format!("refused after 4, section {tag}: at its limit");
         words.extend(TAGS.into_iter().filter(full).map(words_of));
     }
+    words.extend(anticipated::refused(table, refusal));
     words
 }
 
@@ -245,12 +248,7 @@ fn missing(table: &Table) -> Vec<String> {
     for number in 1..=table.events.len() as i32 {
         found.extend(missing_witnesses(table, number));
     }
-    let converges = table.events.iter().any(|event| event.class == CONVERGENT);
-    match (converges, table.tagged(VARIANT).next().is_some()) {
-        (true, false) => found.push("variant".to_string()),
-        (false, true) => found.push("convergent event".to_string()),
-        _ => {}
-    }
+    found.extend(anticipated::missing(table).map(str::to_string));
     match &found[..] {
         [one] => vec![format!("refused by 12, alone: {one}")],
         _ => vec!["refused by 12: several".to_string()],
@@ -259,7 +257,7 @@ fn missing(table: &Table) -> Vec<String> {
 
 fn missing_witnesses(table: &Table, number: i32) -> Vec<String> {
     let event = table.events[number as usize - 1];
-    if event.machine != CONCRETE || event.class == CONVERGENT {
+    if event.machine != CONCRETE || is_new(event.class) {
         return vec![];
     }
     let mut found = Vec::new();
