@@ -9,6 +9,7 @@ use mathlib.Core.Logic.{_⊎_, inl, inr}
 use native.Mathlib.Omega.{arith}
 use lib.Dec.{T}
 use lib.ListN.{length, take}
+use lib.Seq.{take-append-seam}
 use Rattle.lists.specs.All.{All, all-nil, all-cons, In}
 use Rattle.lists.specs.Below.{keep}
 use Rattle.lists.specs.Choice.{pick}
@@ -77,10 +78,6 @@ module _ (m : Machine) where
   along-stretches c a k (s ∷ before) ss [] h = absurd h
   along-stretches c a k (s ∷ before) ss (t ∷ ts) h = along-stretches c (t .result) (s .result) before ss ts (h .3)
 
-  take-front : (xs ys : List (Taken m)) → take (length xs) (xs ++ ys) ≡ xs
-  take-front [] ys = refl
-  take-front (x ∷ xs) ys = ap {B = List (Taken m)} (λ zs. x ∷ zs) (take-front xs ys)
-
   -- "both classes"
   both-classes : (ro : Role) → (ro ≡ convergent) ⊎ (ro ≡ anticipated) → T (ofStretch m ro)
   both-classes ro (inl e) = subst (λ ro. T (ofStretch m ro)) (sym e) tt
@@ -105,7 +102,7 @@ module _ (m : Machine) where
         → Bounded m c (stateAfter k before) (convergentSteps m stretch)
     stretch-bounded both =
         let (a, ts, _, along) = safe .safe e f i role .1 c axioms .runs k start (before ++ (stretch ++ rest)) follows in
-        let front = take-front stretch rest in
+        let front = take-append-seam stretch rest in
         subst (λ ss. Bounded m c (stateAfter k before) (convergentSteps m ss)) front
         (along-stretches c a k before (stretch ++ rest) ts along (length stretch)
         (subst (Unbroken m) (sym front) (all-imp (λ s h. both-classes (m .role (s .event)) h) both)))
