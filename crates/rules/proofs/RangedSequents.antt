@@ -2,12 +2,10 @@
 -- sequent is made of them (`listed-made`).
 use Prim.Native.Nat.{ℕ, _≤_}
 use mathlib.Core.Path.{sym, subst}
-use mathlib.Core.Bool.{Bool, true, false}
 use mathlib.Core.Logic.{⊎-elim}
 use native.Mathlib.Omega.{arith}
-use lib.Dec.{T, eqb}
+use lib.Dec.{T}
 use Rattle.lists.specs.All.{All, In}
-use Rattle.lists.specs.Choice.{pick}
 use Rattle.lists.specs.Below.{numbers}
 use Rattle.lists.proofs.All.{all-at, all-in, all-imp, all-map}
 use Rattle.lists.proofs.Below.{count-at-most}
@@ -16,6 +14,7 @@ use Rattle.table.proofs.Sections.{named-bounds}
 use Rattle.machine.specs.Machine.{Witness, Machine, Role, abstractInitialisation, abstractOrdinary, concreteInitialisation, refining, convergent, anticipated}
 use Rattle.machine.specs.Described.{roleNumbered, belonging, identifiersOf, machineOf}
 use Rattle.machine.proofs.Described.{action-row, identifier-named, event-named}
+use Rattle.machine.proofs.Roles.{role-cases}
 use Rattle.sequent.specs.Entry.{Entry}
 use Rattle.sequent.specs.Numbers.{numbersOf}
 use Rattle.sequent.specs.Formed.{ActionRoot}
@@ -72,19 +71,8 @@ module _ (t : Rows) (r : RangedRows t) where
   number-ranged k n h = small-ranged n (omega (arith, named-bounds t k n h .1, count-at-most (tagged t k) (t .size), r .few))
 
   role-ranged : (machine class f : ℕ) → Ranged f → RoleRanged (roleNumbered machine class f)
-  unfolding roleNumbered
-  role-ranged machine class f h = go (eqb machine 1) (eqb class 0) (eqb class 1) (eqb class 2)
-    where
-      go : (x y z v : Bool)
-          → RoleRanged
-          (pick x (pick y abstractInitialisation abstractOrdinary)
-          (pick y (concreteInitialisation 1) (pick z (refining f) (pick v convergent anticipated))))
-      go true true z v = tt
-      go true false z v = tt
-      go false true z v = small-ranged 1 (omega arith)
-      go false false true v = h
-      go false false false true = tt
-      go false false false false = tt
+  role-ranged machine class f h =
+      role-cases machine class f (λ a z o v ro. RoleRanged ro) (λ o v. tt) (λ o v. tt) (small-ranged 1 (omega arith)) h tt tt
 
   pub machine-ranged : RangedMachine (machineOf t)
   unfolding machineOf

@@ -1,14 +1,14 @@
 -- Each part of the list is what the slots of one group hold. A part is a list over rows of a tag, or over identifiers of a kind, and the slots are these rows or
 -- identifiers with the selection's test beside them. The role of an event, read from its row, tells which parts are empty.
-use Prim.Native.Nat.{ℕ, zero, suc, _+_, _≤_, _<_}
-use mathlib.Core.Path.{_≡_, refl, sym, ap, ap₂, _∙_, subst, subst₂}
+use Prim.Native.Nat.{ℕ, zero, suc, _+_, _≤_}
+use mathlib.Core.Path.{_≡_, refl, sym, ap, ap₂, _∙_}
 use mathlib.Core.Bool.{Bool, true, false, not, _&&_, _||_}
 use mathlib.Core.List.{List, [], _∷_, _++_, map, flatMap, map-append, append-assoc, append-nil}
 use native.Mathlib.Omega.{arith}
 use native.Mathlib.Numerals.{add-one}
 use lib.Dec.{ltb, eqb}
 use lib.ListN.{getD}
-use borrow.Author.Tests.{eqb-true, ne-eqb}
+use borrow.Author.Tests.{ne-eqb}
 use Rattle.lists.specs.Choice.{pick}
 use Rattle.lists.specs.Below.{numbers, keep}
 use Rattle.lists.proofs.Below.{count-at-most}
@@ -17,7 +17,8 @@ use Rattle.lists.proofs.Flat.{keep-keep, keep-next, numbers-suc}
 use Rattle.table.specs.Rows.{Rows, tagged, section, count, kindOf, machineNumber, classOf, refinedBy}
 use Rattle.machine.specs.Machine.{Action, unassigned, becomesEqual, becomesSuchThat, Witness}
 use Rattle.machine.specs.Machine.{Role, abstractInitialisation, abstractOrdinary, concreteInitialisation, refining, convergent, anticipated}
-use Rattle.machine.specs.Described.{roleNumbered, actionOf, belonging, identifiersOf, machineOf}
+use Rattle.machine.specs.Described.{actionOf, belonging, identifiersOf, machineOf}
+use Rattle.machine.proofs.Roles.{role-cases}
 use Rattle.sequent.specs.Entry.{Entry, written, primed, defined, moves, feasible, natural, decreases, notIncreased}
 use Rattle.sequent.specs.Sequent.{Sequent, sequent, WD, INV, FIS, GRD, SIM, NAT, VAR}
 use Rattle.sequent.specs.Listed.{inOrder, actionWD, actionFIS, matching, refined, allWritten, base, guarded, moved, witnessEntries, parameterWitnesses, invHypotheses}
@@ -108,34 +109,6 @@ module _ (t : Rows) where
   -- the slots of a group, of an event, and all: "event by event", "table order otherwise"
   abbrev pub groupSlots : ℕ → ℕ → List Sequent
   groupSlots e g = flatMap (slot e g) (numbers (t .size) 0)
-
--- a role by the tests that its numbers meet: abstract, class 0, class 1, class 2
-role-cases : (machine class refined : ℕ) (P : Bool → Bool → Bool → Bool → Role → Type 0) → ((o v : Bool) → P true true o v abstractInitialisation)
-    → ((o v : Bool) → P true false o v abstractOrdinary) → P false true false false (concreteInitialisation 1) → P false false true false (refining refined)
-    → P false false false true convergent → P false false false false anticipated
-    → P (eqb machine 1) (eqb class 0) (eqb class 1) (eqb class 2) (roleNumbered machine class refined)
-unfolding roleNumbered
-role-cases machine class refined P ai ao ci re co an = go (eqb machine 1) (eqb class 0) (eqb class 1) (eqb class 2)
-    (λ p. (only 0 p 1 (omega arith), only 0 p 2 (omega arith))) (λ p. only 1 p 2 (omega arith))
-  where
-    -- a class is not also a later one
-    only : (k : ℕ) → eqb class k ≡ true → (l : ℕ) → k < l → eqb class l ≡ false
-    only k p l h = ne-eqb class l (omega (arith, eqb-true class k p))
-
-    initial : (o v : Bool) → o ≡ false → v ≡ false → P false true o v (concreteInitialisation 1)
-    initial o v p q = subst₂ (λ o v. P false true o v (concreteInitialisation 1)) (sym p) (sym q) ci
-
-    ordinary : (v : Bool) → v ≡ false → P false false true v (refining refined)
-    ordinary v q = subst (λ v. P false false true v (refining refined)) (sym q) re
-
-    go : (a z o v : Bool) → (z ≡ true → (o ≡ false) × (v ≡ false)) → (o ≡ true → v ≡ false)
-        → P a z o v (pick a (pick z abstractInitialisation abstractOrdinary) (pick z (concreteInitialisation 1) (pick o (refining refined) (pick v convergent anticipated))))
-    go true true o v h k = ai o v
-    go true false o v h k = ao o v
-    go false true o v h k = initial o v (h refl .0) (h refl .1)
-    go false false true v h k = ordinary v (k refl)
-    go false false false true h k = co
-    go false false false false h k = an
 
 -- formulas that are each defined under those before them, over the rows that pass a test
 before-next : (P : ℕ → Bool) (root : ℕ → ℕ) (i : ℕ) → before P root (suc i) ≡ before P root i ++ pick (P i) (written (root i) ∷ []) []
@@ -392,9 +365,9 @@ module _ (t : Rows) where
     inv-group = ap (map _) (invariants-own e) ∙ map-kept (tagged t (ownInvariantTag t e)) (t .a) rows _ ∙ sym (there invGroup (Tagged (ownInvariantTag t e)) refl)
 
     -- NAT and VAR alike
-    variant-rows : (b : Bool) (s : ℕ → Sequent) → pick b (map s (machineOf t .variants)) []
+    variant-when-rows : (b : Bool) (s : ℕ → Sequent) → pick b (map s (machineOf t .variants)) []
         ≡ flatMap (λ i. pick (selects t (when b (Tagged 70)) i) (s (t .a i) ∷ []) []) rows
-    variant-rows b s =
+    variant-when-rows b s =
         ap (λ xs. pick b xs []) (ap (map s) variants-rows ∙ map-kept (tagged t 70) (t .a) rows s)
         ∙ flat-when b (tagged t 70) (λ i. s (t .a i) ∷ []) rows
         ∙ when-slots b (Tagged 70) _
@@ -404,5 +377,5 @@ module _ (t : Rows) where
     variant-groups =
         variants-own e
         ∙ ap₂ (λ (xs : List Sequent) (ys : List Sequent). xs ++ ys)
-        (variant-rows (isConvergent t e) _ ∙ sym (there natGroup (when (isConvergent t e) (Tagged 70)) refl))
-        (variant-rows (isNew t e) _ ∙ sym (there varGroup (when (isNew t e) (Tagged 70)) refl) ∙ sym (append-nil (groupSlots t e varGroup)))
+        (variant-when-rows (isConvergent t e) _ ∙ sym (there natGroup (when (isConvergent t e) (Tagged 70)) refl))
+        (variant-when-rows (isNew t e) _ ∙ sym (there varGroup (when (isNew t e) (Tagged 70)) refl) ∙ sym (append-nil (groupSlots t e varGroup)))
