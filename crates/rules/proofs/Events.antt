@@ -1,6 +1,6 @@
 -- What check 5 gives of an event, and with it check 12 of the initialisations: the abstract one is event 1, since no event of either machine can stand
 -- before it, and the concrete one is there.
-use Prim.Native.Nat.{ℕ, _≤_, _<_}
+use Prim.Native.Nat.{ℕ, zero, suc, _≤_, _<_}
 use mathlib.Core.Path.{_≡_, sym, ap, _∙_, subst}
 use mathlib.Core.Bool.{false, not, _&&_, _||_}
 use mathlib.Core.Logic.{_⊎_, inl, inr}
@@ -24,6 +24,29 @@ record GoodEvent (t : Rows) (i : ℕ) : Type 0 where
   numbers : EventNumbers (t .a i) (t .b i)
   refined : T (goodRefined t i)
   ordered : outOfOrder t i ≡ false
+
+-- the machines and classes that 01 and 02 name pass the check
+pub good-numbers : (t : Rows) (i : ℕ) → EventNumbers (t .a i) (t .b i) → T (goodMachine t i) × T (goodClass t i)
+good-numbers t i n = either (t .a i) (t .b i) (n .machineIs) (n .abstractClass) (n .concreteClass)
+  where
+    Good : ℕ → ℕ → Type 0
+    Good a b = T (eqb a 1 || eqb a 2) × T (ltb b 2 || ((eqb b 2 || eqb b 3) && eqb a 2))
+
+    abstract : (b : ℕ) → b ≤ 1 → Good 1 b
+    abstract zero h = (tt, tt)
+    abstract (suc zero) h = (tt, tt)
+    abstract (suc (suc b)) h = absurd (omega arith)
+
+    concrete : (b : ℕ) → b ≤ 3 → Good 2 b
+    concrete zero h = (tt, tt)
+    concrete (suc zero) h = (tt, tt)
+    concrete (suc (suc zero)) h = (tt, tt)
+    concrete (suc (suc (suc zero))) h = (tt, tt)
+    concrete (suc (suc (suc (suc b)))) h = absurd (omega arith)
+
+    either : (a b : ℕ) → (a ≡ 1) ⊎ (a ≡ 2) → (a ≡ 1 → b ≤ 1) → b ≤ 3 → Good a b
+    either a b (inl e) f h = subst (λ a. Good a b) (sym e) (abstract b (f e))
+    either a b (inr e) f h = subst (λ a. Good a b) (sym e) (concrete b h)
 
 -- an initialisation's row
 abbrev InitialRow : Rows → ℕ → ℕ → Type 0
