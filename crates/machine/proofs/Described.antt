@@ -11,8 +11,9 @@ use Rattle.lists.proofs.Distinct.{Distinct, Ascending, pairwise-keep, numbers-r
 use Rattle.lists.specs.Choice.{pick}
 use Rattle.lists.specs.Below.{first, numbers}
 use Rattle.lists.proofs.First.{Least, first-least}
-use Rattle.lists.proofs.Below.{numbers-in, in-numbers, in-keep}
+use Rattle.lists.proofs.Below.{numbers-in, in-numbers, keep-in, in-keep}
 use Rattle.table.specs.Rows.{Rows, tagged, section, count, named, kindOf, operatorOf, leftOf, rightOf, isAction}
+use Rattle.table.specs.Names.{isVariableOf}
 use Rattle.table.specs.Lookups.{operandNode}
 use Rattle.table.proofs.Sections.{section-row, section-distinct, named-bounds, bounds-named}
 use Rattle.formula.specs.Tree.{bottom, Tree, constant}
@@ -20,7 +21,7 @@ use Rattle.formula.proofs.Truth.{and-split, test-true, true-test}
 use Rattle.machine.specs.Machine.{Action, unassigned, becomesEqual, becomesSuchThat}
 use Rattle.machine.specs.Operator.{Operator, literalOf, identifierOf, afterOf, constantOf, unaryOf, binaryOf, divisionOf, connectiveOf}
 use Rattle.machine.specs.Operator.{unknown, operatorNumbered}
-use Rattle.machine.specs.Described.{node, earlier, treeTo, treeOf, sets, actionOf, belonging, identifiersOf}
+use Rattle.machine.specs.Described.{node, earlier, treeTo, treeOf, sets, actionOf, belonging, variablesOf}
 
 -- how many trees of operands a node has
 abbrev pub operandsOf : Operator → ℕ
@@ -53,16 +54,22 @@ module _ (t : Rows) where
   pub named-event : (e : ℕ) → T (named t 40 e) → In e (numbers (count t 40) 1)
   named-event e h = let b = named-bounds t 40 e h in numbers-in (count t 40) 1 e (b .0) (omega (arith, b .1))
 
-  pub identifier-named : (kind x : ℕ) → In x (identifiersOf t kind) → T (named t 10 x) × (kindOf t x ≡ kind)
-  unfolding identifiersOf
-  identifier-named kind x i =
-      let k = in-keep (λ x. eqb (kindOf t x) kind) (numbers (count t 10) 1) i in
+  pub variable-named : (own x : ℕ) → In x (variablesOf t own) → T (named t 10 x) × T (isVariableOf own (kindOf t x))
+  unfolding variablesOf
+  variable-named own x i =
+      let k = in-keep (λ x. isVariableOf own (kindOf t x)) (numbers (count t 10) 1) i in
       let r = in-numbers (count t 10) 1 x (k .0) in
-      (bounds-named t 10 x (r .0) (omega (arith, r .1)), eqb→eq (kindOf t x) kind (k .1))
+      (bounds-named t 10 x (r .0) (omega (arith, r .1)), k .1)
 
-  pub identifiers-rise : (kind : ℕ) → Ascending (identifiersOf t kind)
-  unfolding identifiersOf
-  identifiers-rise kind = pairwise-keep (λ x. eqb (kindOf t x) kind) (numbers-rise (count t 10) 1)
+  pub named-variable : (own x : ℕ) → T (named t 10 x) → T (isVariableOf own (kindOf t x)) → In x (variablesOf t own)
+  unfolding variablesOf
+  named-variable own x n k =
+      let b = named-bounds t 10 x n in
+      keep-in (λ x. isVariableOf own (kindOf t x)) (numbers-in (count t 10) 1 x (b .0) (omega (arith, b .1))) k
+
+  pub variables-rise : (own : ℕ) → Ascending (variablesOf t own)
+  unfolding variablesOf
+  variables-rise own = pairwise-keep (λ x. isVariableOf own (kindOf t x)) (numbers-rise (count t 10) 1)
 
   -- the rows of a section that belong to an event
   pub belonging-row : (k e i : ℕ) → In i (belonging t k e) → (i < t .size) × (t .tag i ≡ k) × (t .a i ≡ e)

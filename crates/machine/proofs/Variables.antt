@@ -1,32 +1,87 @@
--- An identifier is a variable by the number of its kind: by cases on the numbers that it is compared with.
-use Prim.Native.Nat.{ℕ}
-use mathlib.Core.Path.{_≡_, refl, sym, ap₂}
-use mathlib.Core.Bool.{Bool, true, false, _||_}
+-- An identifier is a variable, or a shared one, by the number of its kind: by cases on the numbers that it is compared with.
+use Prim.Native.Nat.{ℕ, _<_}
+use mathlib.Core.Path.{_≡_, refl, sym, ap, ap₂, _∙_, fun-ext}
+use mathlib.Core.List.{List}
+use mathlib.Core.Bool.{Bool, true, false, not, _&&_, _||_}
 use native.Mathlib.Omega.{arith}
 use lib.Dec.{eqb}
 use borrow.Author.Tests.{eqb-true, ne-eqb}
 use Rattle.lists.specs.Choice.{pick}
-use Rattle.table.specs.Rows.{Rows, kindOf}
+use Rattle.lists.specs.Below.{numbers, keep}
+use Rattle.lists.proofs.Flat.{keep-keep}
+use Rattle.table.specs.Names.{isVariableOf}
+use Rattle.table.specs.Rows.{Rows, count, kindOf}
 use Rattle.table.specs.Lookups.{isVariableNumber}
-use Rattle.machine.specs.Machine.{Kind, isVariable, constantKind, abstractVariable, concreteVariable, abstractParameter, concreteParameter}
-use Rattle.machine.specs.Described.{kindNumbered, machineOf}
+use Rattle.machine.specs.Machine.{Kind, isVariable, isShared, constantKind, abstractVariable, concreteVariable, abstractParameter, concreteParameter, sharedVariable}
+use Rattle.machine.specs.Machine.{sharedVariables, unsharedVariables}
+use Rattle.machine.specs.Described.{kindNumbered, variablesOf, machineOf}
 
-variable-kind : (n : ℕ) → isVariable (kindNumbered n) ≡ (eqb n 2 || eqb n 3)
+-- a kind by the tests that its number meets
+abbrev by-tests : Bool → Bool → Bool → Bool → Bool → Kind
+by-tests a b c s d =
+    pick a constantKind (pick b abstractVariable (pick c concreteVariable (pick s sharedVariable (pick d abstractParameter concreteParameter))))
+
+-- a number is not also a larger one
+differs : (n j k : ℕ) → j < k → eqb n j ≡ true → eqb n k ≡ false
+differs n j k l p = ne-eqb n k (omega (arith, eqb-true n j p))
+
+variable-kind : (n : ℕ) → isVariable (kindNumbered n) ≡ (eqb n 2 || (eqb n 3 || eqb n 6))
 unfolding kindNumbered
 variable-kind n =
-    go (eqb n 1) (eqb n 2) (eqb n 3) (eqb n 4) (λ p. ne-eqb n 2 (omega (arith, eqb-true n 1 p))) (λ p. ne-eqb n 3 (omega (arith, eqb-true n 1 p)))
+    go (eqb n 1) (eqb n 2) (eqb n 3) (eqb n 6) (eqb n 4) (differs n 1 2 (omega arith)) (differs n 1 3 (omega arith)) (differs n 1 6 (omega arith))
   where
-    by-tests : Bool → Bool → Bool → Bool → Kind
-    by-tests a b c d =
-        pick a constantKind (pick b abstractVariable (pick c concreteVariable (pick d abstractParameter concreteParameter)))
+    go : (a b c s d : Bool) → (a ≡ true → b ≡ false) → (a ≡ true → c ≡ false) → (a ≡ true → s ≡ false) → isVariable (by-tests a b c s d) ≡ (b || (c || s))
+    go true b c s d f g h = sym (ap₂ _||_ (f refl) (ap₂ _||_ (g refl) (h refl)))
+    go false true c s d f g h = refl
+    go false false true s d f g h = refl
+    go false false false true d f g h = refl
+    go false false false false true f g h = refl
+    go false false false false false f g h = refl
 
-    go : (a b c d : Bool) → (a ≡ true → b ≡ false) → (a ≡ true → c ≡ false) → isVariable (by-tests a b c d) ≡ (b || c)
-    go true b c d f g = sym (ap₂ _||_ (f refl) (g refl))
-    go false true c d f g = refl
-    go false false true d f g = refl
-    go false false false true f g = refl
-    go false false false false f g = refl
+shared-kind : (n : ℕ) → isShared (kindNumbered n) ≡ eqb n 6
+unfolding kindNumbered
+shared-kind n =
+    go (eqb n 1) (eqb n 2) (eqb n 3) (eqb n 6) (eqb n 4) (differs n 1 6 (omega arith)) (differs n 2 6 (omega arith)) (differs n 3 6 (omega arith))
+  where
+    go : (a b c s d : Bool) → (a ≡ true → s ≡ false) → (b ≡ true → s ≡ false) → (c ≡ true → s ≡ false) → isShared (by-tests a b c s d) ≡ s
+    go true b c s d f g h = sym (f refl)
+    go false true c s d f g h = sym (g refl)
+    go false false true s d f g h = sym (h refl)
+    go false false false true d f g h = refl
+    go false false false false true f g h = refl
+    go false false false false false f g h = refl
 
 pub variable-numbered : (t : Rows) (x : ℕ) → isVariable (machineOf t .kind x) ≡ isVariableNumber t x
 unfolding machineOf
 variable-numbered t x = variable-kind (kindOf t x)
+
+module _ (t : Rows) where
+  abbrev identifiers : List ℕ
+  identifiers = numbers (count t 10) 1
+
+  -- the shared variables are the identifiers of kind 6, the unshared ones those of kind 2
+  pub shared-numbered : sharedVariables (machineOf t) ≡ keep (λ x. eqb (kindOf t x) 6) identifiers
+  unfolding machineOf variablesOf
+  shared-numbered =
+      keep-keep (λ x. isShared (kindNumbered (kindOf t x))) (λ x. isVariableOf 2 (kindOf t x)) identifiers
+      ∙ ap (λ P. keep P identifiers) (fun-ext (λ x.
+      ap (λ b. isVariableOf 2 (kindOf t x) && b) (shared-kind (kindOf t x)) ∙ go (eqb (kindOf t x) 2) (eqb (kindOf t x) 6)))
+    where
+      go : (b s : Bool) → ((b || s) && s) ≡ s
+      go true true = refl
+      go true false = refl
+      go false true = refl
+      go false false = refl
+
+  pub unshared-numbered : unsharedVariables (machineOf t) ≡ keep (λ x. eqb (kindOf t x) 2) identifiers
+  unfolding machineOf variablesOf
+  unshared-numbered =
+      keep-keep (λ x. not (isShared (kindNumbered (kindOf t x)))) (λ x. isVariableOf 2 (kindOf t x)) identifiers
+      ∙ ap (λ P. keep P identifiers) (fun-ext (λ x.
+      ap (λ b. isVariableOf 2 (kindOf t x) && not b) (shared-kind (kindOf t x))
+      ∙ go (eqb (kindOf t x) 2) (eqb (kindOf t x) 6) (differs (kindOf t x) 2 6 (omega arith))))
+    where
+      go : (b s : Bool) → (b ≡ true → s ≡ false) → ((b || s) && not s) ≡ b
+      go true s f = ap (λ s. not s) (f refl)
+      go false true f = refl
+      go false false f = refl

@@ -7,11 +7,11 @@ use Rattle.lists.specs.Choice.{pick}
 use Rattle.lists.specs.Below.{first, numbers, keep}
 use Rattle.table.specs.Names.{abstractInvariantTag, abstractMachine, abstractParameterKind, abstractVariableKind, axiomTag, becomesEqualTag}
 use Rattle.table.specs.Names.{booleanType, concreteInvariantTag, concreteVariableKind, constantKind as kindOfConstants, eventTag, guardTag}
-use Rattle.table.specs.Names.{identifierTag, convergentClass, initialisationClass, ordinaryClass, variantTag, witnessTag}
+use Rattle.table.specs.Names.{identifierTag, convergentClass, initialisationClass, isVariableOf, ordinaryClass, sharedVariableKind, variantTag, witnessTag}
 use Rattle.table.specs.Rows.{Rows, tagged, section, count, kindOf, typeOf, operatorOf, leftOf, rightOf, machineNumber, classOf, refinedBy, isAction}
 use Rattle.formula.specs.Values.{ValueType, integer, boolean}
 use Rattle.formula.specs.Tree.{literal, bottom, Tree, constant, identifier, after, unary, binary, division, connective}
-use Rattle.machine.specs.Machine.{Kind, constantKind, abstractVariable, concreteVariable, abstractParameter, concreteParameter}
+use Rattle.machine.specs.Machine.{Kind, constantKind, abstractVariable, concreteVariable, abstractParameter, concreteParameter, sharedVariable}
 use Rattle.machine.specs.Machine.{Action, unassigned, becomesEqual, becomesSuchThat, Machine}
 use Rattle.machine.specs.Machine.{Role, abstractInitialisation, abstractOrdinary, concreteInitialisation, refining, convergent, anticipated}
 use Rattle.machine.specs.Operator.{Operator, literalOf, identifierOf, afterOf, constantOf, unaryOf, binaryOf, divisionOf, connectiveOf, unknown, operatorNumbered}
@@ -20,13 +20,14 @@ use Rattle.machine.specs.Operator.{Operator, literalOf, identifierOf, af
 unfoldable pub typeNumbered : ℕ → ValueType
 typeNumbered n = pick (eqb n booleanType) boolean integer
 
--- 01: "kind: 1 constant, 2 abstract variable, 3 concrete variable, 4 abstract parameter, 5 concrete parameter"
+-- 01: "kind: 1 constant, 2 abstract variable, 3 concrete variable, 4 abstract parameter, 5 concrete parameter"; 02, request 2: 6, a variable of both machines
 unfoldable pub kindNumbered : ℕ → Kind
 kindNumbered n =
     pick (eqb n kindOfConstants) constantKind
     (pick (eqb n abstractVariableKind) abstractVariable
     (pick (eqb n concreteVariableKind) concreteVariable
-    (pick (eqb n abstractParameterKind) abstractParameter concreteParameter)))
+    (pick (eqb n sharedVariableKind) sharedVariable
+    (pick (eqb n abstractParameterKind) abstractParameter concreteParameter))))
 
 -- 01: "machine: 1 abstract, 2 concrete; class: 0 initialisation, 1 ordinary, 2 convergent", else 3, anticipated; the abstract initialisation is event 1
 unfoldable pub roleNumbered : ℕ → ℕ → ℕ → Role
@@ -78,16 +79,17 @@ module _ (t : Rows) where
   unfoldable pub belonging : ℕ → ℕ → List ℕ
   belonging k e = keep (λ i. eqb (t .a i) e) (section t k)
 
-  unfoldable pub identifiersOf : ℕ → List ℕ
-  identifiersOf kind = keep (λ x. eqb (kindOf t x) kind) (numbers (count t identifierTag) 1)
+  -- the variables of the machine whose own variables have this kind, its own and the shared ones mixed in identifier order
+  unfoldable pub variablesOf : ℕ → List ℕ
+  variablesOf own = keep (λ x. isVariableOf own (kindOf t x)) (numbers (count t identifierTag) 1)
 
   unfoldable pub machineOf : Machine
   machineOf = record {
     type = λ x. typeNumbered (typeOf t x);
     kind = λ x. kindNumbered (kindOf t x);
     tree = treeOf;
-    abstractVariables = identifiersOf abstractVariableKind;
-    concreteVariables = identifiersOf concreteVariableKind;
+    abstractVariables = variablesOf abstractVariableKind;
+    concreteVariables = variablesOf concreteVariableKind;
     axioms = map (t .a) (section t axiomTag);
     abstractInvariants = map (t .a) (section t abstractInvariantTag);
     concreteInvariants = map (t .a) (section t concreteInvariantTag);

@@ -1,13 +1,15 @@
 -- The abstract machine, its refinement and their constants, as a structure: identifiers, formulas by their root nodes, and events.
-use mathlib.Core.Bool.{Bool, true, false}
+use mathlib.Core.Bool.{Bool, true, false, not}
 use mathlib.Core.List.{List}
 use Prim.Native.Nat.{ℕ}
+use Rattle.lists.specs.Below.{keep}
 use Rattle.formula.specs.Values.{ValueType}
 use Rattle.formula.specs.Tree.{Tree}
 
--- 01, Rows: "kind: 1 constant, 2 abstract variable, 3 concrete variable, 4 abstract parameter, 5 concrete parameter"
+-- 01, Rows: "kind: 1 constant, 2 abstract variable, 3 concrete variable, 4 abstract parameter, 5 concrete parameter"; 02, request 2: "Identifier kind 6 is a
+-- variable of both machines with one value."
 pub data Kind : Type 0 where
-  constantKind abstractVariable concreteVariable abstractParameter concreteParameter : Kind
+  constantKind abstractVariable concreteVariable abstractParameter concreteParameter sharedVariable : Kind
 
 abbrev pub isVariable : Kind → Bool
 isVariable constantKind = false
@@ -15,6 +17,15 @@ isVariable abstractVariable = true
 isVariable concreteVariable = true
 isVariable abstractParameter = false
 isVariable concreteParameter = false
+isVariable sharedVariable = true
+
+abbrev pub isShared : Kind → Bool
+isShared constantKind = false
+isShared abstractVariable = false
+isShared concreteVariable = false
+isShared abstractParameter = false
+isShared concreteParameter = false
+isShared sharedVariable = true
 
 -- what an event does to a variable: nothing, "becomes equal" to the root's value, or "becomes such that" the root is true
 pub data Action : Type 0 where
@@ -37,7 +48,7 @@ pub record Witness : Type 0 where
   pub target : ℕ
   pub root : ℕ
 
--- Identifiers, nodes and events are numbers; lists are in table order, variables in identifier order.
+-- Identifiers, nodes and events are numbers; lists are in table order, variables in identifier order. The variables of each machine include the shared ones.
 pub record Machine : Type 0 where
   pub type : ℕ → ValueType
   pub kind : ℕ → Kind
@@ -53,3 +64,11 @@ pub record Machine : Type 0 where
   pub guards : ℕ → List ℕ
   pub action : ℕ → ℕ → Action
   pub witnesses : ℕ → List Witness
+
+module _ (m : Machine) where
+  -- the shared variables, and the others of the abstract machine, which are of kind 2
+  abbrev pub sharedVariables : List ℕ
+  sharedVariables = keep (λ x. isShared (m .kind x)) (m .abstractVariables)
+
+  abbrev pub unsharedVariables : List ℕ
+  unsharedVariables = keep (λ x. not (isShared (m .kind x))) (m .abstractVariables)

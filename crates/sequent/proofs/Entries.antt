@@ -13,14 +13,15 @@ use Rattle.lists.specs.Choice.{pick}
 use Rattle.lists.proofs.All.{all-left, all-right, all-head, all-join, all-in, all-imp, all-map, in-nil, in-cons, in-either}
 use Rattle.lists.proofs.Choice.{chosen, not-chosen}
 use Rattle.lists.proofs.Keep.{all-keep}
-use Rattle.machine.specs.Machine.{Role, Action, becomesEqual, becomesSuchThat, Witness, Machine}
-use Rattle.sequent.specs.Entry.{Entry, written, primed, defined, moves, feasible, witnessed, natural, decreases, notIncreased, variable}
+use Rattle.lists.proofs.Distinct.{in-kept}
+use Rattle.machine.specs.Machine.{Role, Action, becomesEqual, becomesSuchThat, Witness, Machine, unsharedVariables}
+use Rattle.sequent.specs.Entry.{Entry, written, primed, defined, moves, feasible, witnessed, natural, decreases, notIncreased, unchanged, variable}
 use Rattle.sequent.specs.Formed.{ActionRoot, WitnessFor}
 use Rattle.sequent.specs.Sequent.{Sequent, sequent}
 use Rattle.sequent.specs.Listed.{sequents}
 use Rattle.sequent.specs.Required.{isInitialisation, isConcrete, MatchedBy, asWritten, axiomsInvariants, baseOf, ownVariables, ownInvariants}
 use Rattle.sequent.specs.Required.{baseGuards, movesOf, witnessesOf, Required, wd-formula, wd-variant, wd-guard, wd-action, fis, wd-witness, wfis}
-use Rattle.sequent.specs.Required.{grd, sim, inv, inv-new, nat, var, var-anticipated}
+use Rattle.sequent.specs.Required.{grd, sim, sim-new, inv, inv-new, nat, var, var-anticipated}
 use Rattle.sequent.proofs.Exact.{listed-required}
 
 -- a node that the machine names as a root
@@ -51,6 +52,7 @@ pub data EntryOf (m : Machine) : Entry → Type 0 where
   of-natural : {r : ℕ} → Root m r → EntryOf m (natural r)
   of-decreases : {r : ℕ} → Root m r → EntryOf m (decreases r)
   of-not-increased : {r : ℕ} → Root m r → EntryOf m (notIncreased r)
+  of-unchanged : {x : ℕ} → VariableOf m x → EntryOf m (unchanged x)
 
 -- the item of row 80
 pub data ItemOf (m : Machine) : ℕ → Type 0 where
@@ -160,13 +162,16 @@ module _ (m : Machine) where
       (all-join (guards-of e) (all-map (λ w. written (w .root)) (all-keep _ (witnesses-of e)))) (of-written (guard-root f i))
   required-made (sim {e} at c i) =
       made (omega arith) (inr at) (variable-item (inl i)) (all-join (all-join (guards-of e) (moved-of at)) (roots-of e)) (of-moves (inr (e, c)) (inl i))
+  required-made (sim-new {e} at c i) =
+      let x = inl (in-kept _ (m .abstractVariables) i) in
+      made (omega arith) (inr at) (variable-item x) (all-join (guards-of e) (moved-of at)) (of-unchanged x)
   required-made (inv {e} at c i) =
       let root = own-invariant (m .role e) i in
       made (omega arith) (inr at) (root-item root) (all-join (all-join (guards-of e) (moved-of at)) (roots-of e)) (of-primed root)
   required-made (inv-new {e} at c i) =
       let root = own-invariant (m .role e) i in
       made (omega arith) (inr at) (root-item root)
-      (all-join (all-join (guards-of e) (moved-of at)) (moves-of at (m .abstractVariables) (λ x. inl))) (of-primed root)
+      (all-join (all-join (guards-of e) (moved-of at)) (moves-of at (unsharedVariables m) (λ x i. inl (in-kept _ (m .abstractVariables) i)))) (of-primed root)
   required-made (nat {e} at c i) = made (omega arith) (inr at) (root-item (variant-root i)) (guards-of e) (of-natural (variant-root i))
   required-made (var {e} at c i) =
       made (omega arith) (inr at) (root-item (variant-root i)) (all-join (guards-of e) (moved-of at)) (of-decreases (variant-root i))

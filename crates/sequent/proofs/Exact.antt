@@ -1,7 +1,7 @@
 -- The list has exactly the required sequents, for every machine: each place of the list is traced to a row of the table, and each row to a place.
 -- The hypotheses of both are equal, role by role (`base-same` and the equations after it); the rest follows membership through ++, map and flatMap.
 use mathlib.Core.Path.{_≡_, refl, sym, ap, subst, _∙_}
-use mathlib.Core.Bool.{Bool, true, false}
+use mathlib.Core.Bool.{Bool, true, false, true≢false}
 use mathlib.Core.List.{List, [], _∷_, _++_, map, append-nil, append-assoc}
 use mathlib.Core.Logic.{_⊎_, _↔_, inl, inr, ⊎-elim}
 use Prim.Native.Nat.{ℕ}
@@ -9,19 +9,19 @@ use Rattle.lists.specs.All.{In, here, there}
 use Rattle.lists.specs.Choice.{pick}
 use Rattle.lists.proofs.Choice.{chosen, not-chosen}
 use Rattle.lists.proofs.All.{in-nil, in-cons, in-left, in-right, in-either, in-map, in-unmap, in-flat, in-unflat}
-use Rattle.machine.specs.Machine.{Action, unassigned, becomesEqual, becomesSuchThat, Witness, Machine}
+use Rattle.machine.specs.Machine.{Action, unassigned, becomesEqual, becomesSuchThat, Witness, Machine, sharedVariables, unsharedVariables}
 use Rattle.machine.specs.Machine.{Role, abstractInitialisation, abstractOrdinary, concreteInitialisation, refining, convergent, anticipated}
-use Rattle.sequent.specs.Entry.{Entry, written, primed, defined, moves, feasible, natural, decreases, notIncreased, variable}
-use Rattle.sequent.specs.Sequent.{Sequent, sequent, WD, INV, FIS, NAT, VAR}
-use Rattle.sequent.specs.Listed.{inOrder, actionWD, actionFIS, matching, refined}
+use Rattle.sequent.specs.Entry.{Entry, written, primed, defined, moves, feasible, natural, decreases, notIncreased, unchanged, variable}
+use Rattle.sequent.specs.Sequent.{Sequent, sequent, WD, INV, FIS, SIM, NAT, VAR}
+use Rattle.sequent.specs.Listed.{inOrder, actionWD, actionFIS, refined}
 use Rattle.sequent.specs.Listed.{allWritten, base, guarded, moved, witnessEntries, witnessHypotheses, witnessSequents}
-use Rattle.sequent.specs.Listed.{parameterWitnesses, invHypotheses, variantSequents, eventSequents, formulas, sequents}
-use Rattle.sequent.specs.Listed.{grd as grdOf, sim as simOf, inv as invOf}
-use Rattle.sequent.proofs.Parts.{guardWDs, actionWDs, actionFISs, ofWitnesses, grds, sims, nats, vars}
+use Rattle.sequent.specs.Listed.{parameterWitnesses, simSequents, invHypotheses, variantSequents, eventSequents, formulas, sequents}
+use Rattle.sequent.specs.Listed.{grd as grdOf, inv as invOf}
+use Rattle.sequent.proofs.Parts.{guardWDs, actionWDs, actionFISs, ofWitnesses, grds, nats, vars}
 use Rattle.sequent.proofs.Parts.{fromInvs, fromSims, fromGrds, fromWitnesses, fromFISs, fromActions, eventSequents-parts}
 use Rattle.sequent.specs.Required.{isNew, MatchedBy, by-initialisation, by-refined}
 use Rattle.sequent.specs.Required.{asWritten, baseOf, ownVariables, ownInvariants, baseGuards, movesOf, witnessesOf}
-use Rattle.sequent.specs.Required.{Required, wd-formula, wd-variant, wd-guard, wd-action, fis, wd-witness, wfis, grd, sim, inv, inv-new, nat, var}
+use Rattle.sequent.specs.Required.{Required, wd-formula, wd-variant, wd-guard, wd-action, fis, wd-witness, wfis, grd, sim, sim-new, inv, inv-new, nat, var}
 use Rattle.sequent.specs.Required.{var-anticipated}
 
 -- a property of sequents depends on their hypotheses only as a list
@@ -89,18 +89,6 @@ refined-role anticipated i = absurd (in-nil i)
 refined-at : {ro : Role} {f : ℕ} → ro ≡ refining f → In f (refined ro)
 refined-at {f = f} p = subst (λ ro. In f (refined ro)) (sym p) (here refl)
 
-matching-role : (ro : Role) {f : ℕ} → In f (matching ro) → MatchedBy f ro
-matching-role abstractInitialisation i = absurd (in-nil i)
-matching-role abstractOrdinary i = absurd (in-nil i)
-matching-role (concreteInitialisation f) i = subst (λ g. MatchedBy g (concreteInitialisation f)) (sym (in-one i)) by-initialisation
-matching-role (refining f) i = subst (λ g. MatchedBy g (refining f)) (sym (in-one i)) by-refined
-matching-role convergent i = absurd (in-nil i)
-matching-role anticipated i = absurd (in-nil i)
-
-matching-at : {ro : Role} {f : ℕ} → MatchedBy f ro → In f (matching ro)
-matching-at by-initialisation = here refl
-matching-at by-refined = here refl
-
 module _ (m : Machine) where
   base-same : (ro : Role) → baseOf m ro ≡ base m ro
   base-same abstractInitialisation = append-nil (asWritten (m .axioms))
@@ -111,13 +99,41 @@ module _ (m : Machine) where
   base-same anticipated = refl
 
   inv-hypotheses : (ro : Role) (e : ℕ)
-      → invHypotheses m ro e ≡ moved m ro e ++ pick (isNew ro) (map (moves e) (m .abstractVariables)) (witnessEntries m (m .witnesses e))
+      → invHypotheses m ro e ≡ moved m ro e ++ pick (isNew ro) (map (moves e) (unsharedVariables m)) (witnessEntries m (m .witnesses e))
   inv-hypotheses abstractInitialisation e = refl
   inv-hypotheses abstractOrdinary e = refl
   inv-hypotheses (concreteInitialisation f) e = refl
   inv-hypotheses (refining f) e = refl
   inv-hypotheses convergent e = refl
   inv-hypotheses anticipated e = refl
+
+  -- SIM by an event's role: matched, or new
+  abbrev Simulated : Role → ℕ → Sequent → Type 0
+  Simulated ro e s =
+      ((f : ℕ) × (x : ℕ) × MatchedBy f ro × In x (m .abstractVariables)
+      × (s ≡ sequent SIM e x (moved m ro e ++ witnessEntries m (m .witnesses e)) (moves f x)))
+      ⊎ ((x : ℕ) × (isNew ro ≡ true) × In x (sharedVariables m) × (s ≡ sequent SIM e x (moved m ro e) (unchanged x)))
+
+  sim-role : (ro : Role) {e : ℕ} {s : Sequent} → In s (simSequents m ro e) → Simulated ro e s
+  sim-role abstractInitialisation i = absurd (in-nil i)
+  sim-role abstractOrdinary i = absurd (in-nil i)
+  sim-role (concreteInitialisation f) i = let (x, j, p) = in-unmap _ (m .abstractVariables) i in inl (f, x, by-initialisation, j, p)
+  sim-role (refining f) i = let (x, j, p) = in-unmap _ (m .abstractVariables) i in inl (f, x, by-refined, j, p)
+  sim-role convergent i = let (x, j, p) = in-unmap _ (sharedVariables m) i in inr (x, refl, j, p)
+  sim-role anticipated i = let (x, j, p) = in-unmap _ (sharedVariables m) i in inr (x, refl, j, p)
+
+  sim-at : {ro : Role} {e f x : ℕ} → MatchedBy f ro → In x (m .abstractVariables)
+      → In (sequent SIM e x (moved m ro e ++ witnessEntries m (m .witnesses e)) (moves f x)) (simSequents m ro e)
+  sim-at by-initialisation i = in-map _ i
+  sim-at by-refined i = in-map _ i
+
+  sim-new-at : (ro : Role) {e x : ℕ} → isNew ro ≡ true → In x (sharedVariables m) → In (sequent SIM e x (moved m ro e) (unchanged x)) (simSequents m ro e)
+  sim-new-at abstractInitialisation p i = absurd (true≢false (sym p))
+  sim-new-at abstractOrdinary p i = absurd (true≢false (sym p))
+  sim-new-at (concreteInitialisation f) p i = absurd (true≢false (sym p))
+  sim-new-at (refining f) p i = absurd (true≢false (sym p))
+  sim-new-at convergent p i = in-map _ i
+  sim-new-at anticipated p i = in-map _ i
 
   variant-role : (ro : Role) {e : ℕ} {s : Sequent} → In s (variantSequents m ro e) → (r : ℕ) × In r (m .variants)
       × (((ro ≡ convergent) × ((s ≡ sequent NAT e r (guarded m ro e) (natural r)) ⊎ (s ≡ sequent VAR e r (moved m ro e) (decreases r))))
@@ -191,11 +207,12 @@ module _ (m : Machine) where
         let (r, l, p) = in-unmap _ (m .guards f) k in
         required-as p (ap (λ hs. hs ++ witnessEntries m (parameterWitnesses m e)) (guarded-same e)) (grd at (refined-role (m .role e) j) l)
 
-    sim-required : In s (sims m (m .role e) e) → Required m s
+    sim-required : In s (simSequents m (m .role e) e) → Required m s
     sim-required i =
-        let (f, j, k) = in-unflat (simOf m (m .role e) e) (matching (m .role e)) i in
-        let (x, l, p) = in-unmap _ (m .abstractVariables) k in
-        required-as p (ap (λ hs. hs ++ witnessesOf m e) (moved-same e)) (sim at (matching-role (m .role e) j) l)
+        ⊎-elim
+        (λ k. let (f, x, c, j, p) = k in required-as p (ap (λ hs. hs ++ witnessesOf m e) (moved-same e)) (sim at c j))
+        (λ k. let (x, c, j, p) = k in required-as p (moved-same e) (sim-new at c j))
+        (sim-role (m .role e) i)
 
     inv-required : In s (invOf m (m .role e) e) → Required m s
     inv-required i =
@@ -204,9 +221,9 @@ module _ (m : Machine) where
       where
         by-class : {r : ℕ} → s ≡ sequent INV e r (invHypotheses m (m .role e) e) (primed r) → In r (ownInvariants m (m .role e)) → (b : Bool)
             → isNew (m .role e) ≡ b
-            → invHypotheses m (m .role e) e ≡ moved m (m .role e) e ++ pick b (map (moves e) (m .abstractVariables)) (witnessEntries m (m .witnesses e))
+            → invHypotheses m (m .role e) e ≡ moved m (m .role e) e ++ pick b (map (moves e) (unsharedVariables m)) (witnessEntries m (m .witnesses e))
             → Required m s
-        by-class p j true c h = required-as p (ap (λ hs. hs ++ map (moves e) (m .abstractVariables)) (moved-same e) ∙ sym h) (inv-new at c j)
+        by-class p j true c h = required-as p (ap (λ hs. hs ++ map (moves e) (unsharedVariables m)) (moved-same e) ∙ sym h) (inv-new at c j)
         by-class p j false c h = required-as p (ap (λ hs. hs ++ witnessesOf m e) (moved-same e) ∙ sym h) (inv at c j)
 
     variant-required : In s (variantSequents m (m .role e) e) → Required m s
@@ -221,7 +238,7 @@ module _ (m : Machine) where
     event-required i =
         ⊎-elim guard-required (λ i. ⊎-elim action-required (λ i. ⊎-elim feasible-required (λ i. ⊎-elim witness-required
         (λ i. ⊎-elim grd-required (λ i. ⊎-elim sim-required (λ i. ⊎-elim inv-required variant-required
-        (in-either (invOf m (m .role e) e) i)) (in-either (sims m (m .role e) e) i)) (in-either (grds m (m .role e) e) i))
+        (in-either (invOf m (m .role e) e) i)) (in-either (simSequents m (m .role e) e) i)) (in-either (grds m (m .role e) e) i))
         (in-either (ofWitnesses m (m .role e) e) i)) (in-either (actionFISs m (m .role e) e) i)) (in-either (actionWDs m (m .role e) e) i))
         (in-either (guardWDs m (m .role e) e) (subst (In s) (eventSequents-parts m (m .role e) e) i))
 
@@ -263,7 +280,7 @@ module _ (m : Machine) where
     sims-listed i = grds-listed (in-right (grds m (m .role e) e) i)
 
     invs-listed : In s (fromInvs m (m .role e) e) → In s (sequents m)
-    invs-listed i = sims-listed (in-right (sims m (m .role e) e) i)
+    invs-listed i = sims-listed (in-right (simSequents m (m .role e) e) i)
 
     variants-listed : In s (variantSequents m (m .role e) e) → In s (sequents m)
     variants-listed i = invs-listed (in-right (invOf m (m .role e) e) i)
@@ -297,14 +314,16 @@ module _ (m : Machine) where
       (grds-listed at (in-left _ (in-flat (grdOf m (m .role e) e) (refined-at c) (in-map _ i))))
   required-listed (sim {e} at c i) =
       listed-as (ap (λ hs. hs ++ witnessesOf m e) (moved-same e))
-      (sims-listed at (in-left _ (in-flat (simOf m (m .role e) e) (matching-at c) (in-map _ i))))
+      (sims-listed at (in-left _ (sim-at c i)))
+  required-listed (sim-new {e} at c i) =
+      listed-as (moved-same e) (sims-listed at (in-left _ (sim-new-at (m .role e) c i)))
   required-listed (inv {e} {r} at c i) =
       listed-as
       (ap (λ hs. hs ++ witnessesOf m e) (moved-same e) ∙ sym (inv-hypotheses (m .role e) e ∙ ap (λ hs. moved m (m .role e) e ++ hs) (not-chosen (isNew (m .role e)) _ _ c)))
       (invs-listed at (in-left _ (in-map _ i)))
   required-listed (inv-new {e} {r} at c i) =
       listed-as
-      (ap (λ hs. hs ++ map (moves e) (m .abstractVariables)) (moved-same e)
+      (ap (λ hs. hs ++ map (moves e) (unsharedVariables m)) (moved-same e)
       ∙ sym (inv-hypotheses (m .role e) e ∙ ap (λ hs. moved m (m .role e) e ++ hs) (chosen (isNew (m .role e)) _ _ c)))
       (invs-listed at (in-left _ (in-map _ i)))
   required-listed (nat {e} at c i) =

@@ -16,18 +16,18 @@ use Rattle.lists.specs.Pairwise.{Pairwise, pairwise-nil, pairwise-cons}
 use Rattle.lists.proofs.Choice.{chosen, not-chosen}
 use Rattle.lists.proofs.All.{all-at, in-cons, in-left, in-right, in-either, in-map, in-unmap, in-flat, in-unflat}
 use Rattle.lists.proofs.Distinct.{pairwise-head, pairwise-tail, pairwise-left, pairwise-right, pairwise-across, pairwise-join, pairwise-one, pairwise-imp}
-use Rattle.lists.proofs.Distinct.{pairwise-once, pairwise-unmap, pairwise-flat}
+use Rattle.lists.proofs.Distinct.{pairwise-once, pairwise-unmap, pairwise-flat, pairwise-keep}
 use Rattle.lists.proofs.Sorted.{sorted-same}
-use Rattle.machine.specs.Machine.{Action, unassigned, becomesEqual, becomesSuchThat, Witness, Machine}
+use Rattle.machine.specs.Machine.{Action, unassigned, becomesEqual, becomesSuchThat, Witness, Machine, isShared, sharedVariables}
 use Rattle.machine.specs.Machine.{Role, abstractInitialisation, abstractOrdinary, concreteInitialisation, refining, convergent, anticipated}
-use Rattle.sequent.specs.Entry.{Entry, written, primed, defined, moves, natural, decreases, notIncreased}
+use Rattle.sequent.specs.Entry.{Entry, written, primed, defined, moves, natural, decreases, notIncreased, unchanged}
 use Rattle.sequent.specs.Sequent.{Sequent, sequent, WD, INV, FIS, GRD, SIM, WFIS, NAT, VAR}
-use Rattle.sequent.specs.Listed.{inOrder, actionWD, actionFIS, matching, refined, allWritten, base, guarded}
-use Rattle.sequent.specs.Listed.{witnessSequents, grd, sim, inv, invHypotheses, variantSequents, eventSequents, sequents}
+use Rattle.sequent.specs.Listed.{inOrder, actionWD, actionFIS, refined, allWritten, base, guarded}
+use Rattle.sequent.specs.Listed.{witnessSequents, grd, simSequents, inv, invHypotheses, variantSequents, eventSequents, sequents}
 use Rattle.sequent.specs.Required.{axiomsInvariants, isConcrete, ownVariables, ownInvariants, Required, SameHeader}
 use Rattle.sequent.specs.Order.{placeIn, isIn, group, actionRoots, actionRootsOf, refinedGuards, key, keyOf, Before}
 use Rattle.sequent.proofs.Exact.{in-one, inOrder-split, actionWD-root, actionFIS-such, refined-role, listed-required, required-listed}
-use Rattle.sequent.proofs.Parts.{guardWDs, actionWDs, actionFISs, ofWitnesses, grds, sims, fromFISs, eventSequents-parts}
+use Rattle.sequent.proofs.Parts.{guardWDs, actionWDs, actionFISs, ofWitnesses, grds, fromFISs, eventSequents-parts}
 use Rattle.sequent.proofs.Places.{places-rise, places-agree, isIn-member, isIn-other, variable-found}
 use Rattle.sequent.proofs.Blocks.{less-asymmetric, less-by, Block, blocks-apart, block-join, block-up, item-block, flat-block, map-block, one-block}
 use Rattle.sequent.proofs.Blocks.{nil-block}
@@ -60,7 +60,7 @@ pub record Separate (m : Machine) : Type 0 where
   pub concreteVariables : Ascending (m .concreteVariables)
   pub events : Ascending (0 ∷ m .events)
 
--- at most one abstract event is refined, and one matched
+-- at most one abstract event is refined
 refined-one : (ro : Role) → Pairwise (λ f g. ⊥) (refined ro)
 refined-one abstractInitialisation = pairwise-nil
 refined-one abstractOrdinary = pairwise-nil
@@ -68,14 +68,6 @@ refined-one (concreteInitialisation f) = pairwise-nil
 refined-one (refining f) = pairwise-one f
 refined-one convergent = pairwise-nil
 refined-one anticipated = pairwise-nil
-
-matching-one : (ro : Role) → Pairwise (λ f g. ⊥) (matching ro)
-matching-one abstractInitialisation = pairwise-nil
-matching-one abstractOrdinary = pairwise-nil
-matching-one (concreteInitialisation f) = pairwise-one f
-matching-one (refining f) = pairwise-one f
-matching-one convergent = pairwise-nil
-matching-one anticipated = pairwise-nil
 
 inOrder-items : (e : ℕ) (hs : List Entry) (rs : List ℕ) → map (λ s. s .item) (inOrder e hs rs) ≡ rs
 unfolding inOrder
@@ -102,6 +94,9 @@ module _ (m : Machine) (separate : Separate m) where
 
   variables-rise : (ro : Role) → Ascending (ownVariables m ro)
   variables-rise = own-either Ascending (separate .concreteVariables) (separate .abstractVariables)
+
+  shared-rise : Ascending (sharedVariables m)
+  shared-rise = pairwise-keep (λ x. isShared (m .kind x)) (separate .abstractVariables)
 
   variants-distinct : Distinct (m .variants)
   variants-distinct = pairwise-right (axiomsInvariants m) (separate .formulaRoots)
@@ -207,9 +202,14 @@ module _ (m : Machine) (separate : Separate m) where
         (λ f i. map-block m (placeIn (m .guards f)) GRD _ written (places-rise (guards-distinct f))
         (λ r. ap {B = List ℕ} (λ ro. e ∷ group GRD ∷ placeIn (refinedGuards m ro) r ∷ []) (refined-role role i)))
 
-    sim-block : Of SIM (sims m role e)
+    sim-block : (ro : Role) → Of SIM (simSequents m ro e)
     unfolding key
-    sim-block = one-block m (sim m role e) (matching-one role) (λ f i. map-block m (λ x. x) SIM _ (moves f) (separate .abstractVariables) (λ x. refl))
+    sim-block abstractInitialisation = nil-block m
+    sim-block abstractOrdinary = nil-block m
+    sim-block (concreteInitialisation f) = map-block m (λ x. x) SIM _ (moves f) (separate .abstractVariables) (λ x. refl)
+    sim-block (refining f) = map-block m (λ x. x) SIM _ (moves f) (separate .abstractVariables) (λ x. refl)
+    sim-block convergent = map-block m (λ x. x) SIM _ unchanged shared-rise (λ x. refl)
+    sim-block anticipated = map-block m (λ x. x) SIM _ unchanged shared-rise (λ x. refl)
 
     inv-block : Of INV (inv m role e)
     unfolding key
@@ -239,7 +239,7 @@ module _ (m : Machine) (separate : Separate m) where
         (block-join m (omega arith) fis-block
         (block-join m (omega arith) witness-block
         (block-join m (omega arith) grd-block
-        (block-join m (omega arith) sim-block
+        (block-join m (omega arith) (sim-block role)
         (block-join m (omega arith) inv-block (variant-block role))))))
 
     event-block : Block m [] e (suc e) (eventSequents m e role)

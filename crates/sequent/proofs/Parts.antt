@@ -5,8 +5,8 @@ use Prim.Native.Nat.{ℕ}
 use Rattle.machine.specs.Machine.{Role, Machine}
 use Rattle.sequent.specs.Entry.{Entry, written, defined, natural}
 use Rattle.sequent.specs.Sequent.{Sequent, sequent, WD, NAT, VAR}
-use Rattle.sequent.specs.Listed.{inOrder, actionWD, actionFIS, matching, refined, base, guarded, moved}
-use Rattle.sequent.specs.Listed.{witnessSequents, grd, sim, inv, variantSequents, eventSequents}
+use Rattle.sequent.specs.Listed.{inOrder, actionWD, actionFIS, refined, base, guarded, moved}
+use Rattle.sequent.specs.Listed.{witnessSequents, grd, simSequents, inv, variantSequents, eventSequents}
 use Rattle.sequent.specs.Required.{ownVariables}
 
 module _ (m : Machine) (ro : Role) (e : ℕ) where
@@ -25,9 +25,6 @@ module _ (m : Machine) (ro : Role) (e : ℕ) where
   abbrev pub grds : List Sequent
   grds = flatMap (grd m ro e) (refined ro)
 
-  abbrev pub sims : List Sequent
-  sims = flatMap (sim m ro e) (matching ro)
-
   abbrev pub nats : List Sequent
   nats = map (λ r. sequent NAT e r (guarded m ro e) (natural r)) (m .variants)
 
@@ -40,7 +37,7 @@ module _ (m : Machine) (ro : Role) (e : ℕ) where
   fromInvs = inv m ro e ++ variantSequents m ro e
 
   abbrev pub fromSims : List Sequent
-  fromSims = sims ++ fromInvs
+  fromSims = simSequents m ro e ++ fromInvs
 
   abbrev pub fromGrds : List Sequent
   fromGrds = grds ++ fromSims

@@ -13,8 +13,8 @@ use Rattle.formula.proofs.Order.{at-most-refl, at-most-antisym, at-most-or-less
 use Rattle.machine.specs.Machine.{Role, convergent, anticipated, Machine}
 use Rattle.sequent.specs.Entry.{decreases, notIncreased, variable}
 use Rattle.sequent.specs.Sequent.{Sequent, Meets}
-use Rattle.sequent.specs.Listed.{inv, variantSequents, eventSequents}
-use Rattle.sequent.proofs.Parts.{guardWDs, actionWDs, actionFISs, ofWitnesses, grds, sims, nats, vars, eventSequents-parts}
+use Rattle.sequent.specs.Listed.{simSequents, inv, variantSequents, eventSequents}
+use Rattle.sequent.proofs.Parts.{guardWDs, actionWDs, actionFISs, ofWitnesses, grds, nats, vars, eventSequents-parts}
 
 module _ (m : Machine) (ρ : Env (m .type)) (r : ℕ) where
   -- the variant's value after a step, and before it
@@ -43,7 +43,7 @@ module _ (m : Machine) (ρ : Env (m .type)) (r : ℕ) where
 module _ (m : Machine) (e : ℕ) where
   -- all sequents but NAT and VAR
   abbrev pub others : Role → List Sequent
-  others ro = guardWDs m ro e ++ (actionWDs m ro e ++ (actionFISs m ro e ++ (ofWitnesses m ro e ++ (grds m ro e ++ (sims m ro e ++ inv m ro e)))))
+  others ro = guardWDs m ro e ++ (actionWDs m ro e ++ (actionFISs m ro e ++ (ofWitnesses m ro e ++ (grds m ro e ++ (simSequents m ro e ++ inv m ro e)))))
 
   others-then : (ro : Role) → eventSequents m e ro ≡ others ro ++ variantSequents m ro e
   others-then ro = eventSequents-parts m ro e ∙ simp append-assoc

@@ -10,7 +10,7 @@ use Rattle.formula.specs.AfterValues.{atAfter}
 use Rattle.formula.specs.Formula.{Formula, plain, someValue, someAfterValue}
 use Rattle.machine.specs.Machine.{isVariable, Action, unassigned, becomesEqual, becomesSuchThat, Witness, Machine}
 
--- forms 1 to 9
+-- forms 1 to 10
 pub data Entry : Type 0 where
   -- "1 node as written"
   written : ℕ → Entry
@@ -30,6 +30,8 @@ pub data Entry : Type 0 where
   decreases : ℕ → Entry
   -- 02, request 1: "variant after ≤ variant (form 9, root, 0)"
   notIncreased : ℕ → Entry
+  -- 02, request 2: "form 10 (variable, 0), after equals before"
+  unchanged : ℕ → Entry
 
 -- the root of the witness for a target; 0, which is no node, where there is none
 abbrev pub witnessRoot : List Witness → ℕ → ℕ
@@ -40,7 +42,7 @@ module _ (m : Machine) where
   abbrev pub variable : ℕ → Bool
   variable x = isVariable (m .kind x)
 
-  -- "Forms 4 and 8 put the after side first.", and so does 9
+  -- "Forms 4 and 8 put the after side first.", and so do 9 and 10
   abbrev pub actionTree : Action → ℕ → Tree
   actionTree unassigned x = binary equal (after x) (identifier x)
   actionTree (becomesEqual r) x = binary equal (after x) (m .tree r)
@@ -59,3 +61,4 @@ module _ (m : Machine) where
   formula (natural r) = plain (binary atMost (constant (literal 0)) (m .tree r))
   formula (decreases r) = plain (binary less (atAfter variable (m .tree r)) (m .tree r))
   formula (notIncreased r) = plain (binary atMost (atAfter variable (m .tree r)) (m .tree r))
+  formula (unchanged x) = plain (actionTree unassigned x)

@@ -7,7 +7,7 @@ use Rattle.lists.specs.All.{In}
 use Rattle.table.specs.Rows.{Rows}
 use Rattle.machine.specs.Machine.{Action, unassigned, becomesEqual, becomesSuchThat, Witness, Machine}
 use Rattle.machine.specs.Node.{Formed}
-use Rattle.sequent.specs.Entry.{Entry, written, primed, defined, moves, feasible, witnessed, natural, decreases, notIncreased, witnessRoot}
+use Rattle.sequent.specs.Entry.{Entry, written, primed, defined, moves, feasible, witnessed, natural, decreases, notIncreased, unchanged, witnessRoot}
 
 -- a property of the root of an action, where it has one
 abbrev pub ActionRoot : (ℕ → Type 0) → Action → Type 0
@@ -36,3 +36,4 @@ module _ (t : Rows) (m : Machine) where
   EntryFormed (natural r) = HasFormula r
   EntryFormed (decreases r) = HasFormula r
   EntryFormed (notIncreased r) = HasFormula r
+  EntryFormed (unchanged x) = Unit {0}

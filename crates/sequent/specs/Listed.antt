@@ -4,9 +4,9 @@ use mathlib.Core.List.{List, [], _∷_, _++_, map, flatMap}
 use Prim.Native.Nat.{ℕ}
 use Rattle.lists.specs.Choice.{pick}
 use Rattle.lists.specs.Below.{keep}
-use Rattle.machine.specs.Machine.{Action, unassigned, becomesEqual, becomesSuchThat, Witness, Machine}
+use Rattle.machine.specs.Machine.{Action, unassigned, becomesEqual, becomesSuchThat, Witness, Machine, sharedVariables, unsharedVariables}
 use Rattle.machine.specs.Machine.{Role, abstractInitialisation, abstractOrdinary, concreteInitialisation, refining, convergent, anticipated}
-use Rattle.sequent.specs.Entry.{Entry, written, primed, defined, moves, feasible, witnessed, natural, decreases, notIncreased, variable}
+use Rattle.sequent.specs.Entry.{Entry, written, primed, defined, moves, feasible, witnessed, natural, decreases, notIncreased, unchanged, variable}
 use Rattle.sequent.specs.Required.{ownVariables, ownInvariants}
 use Rattle.sequent.specs.Sequent.{Sequent, sequent, WD, INV, FIS, GRD, SIM, WFIS, NAT, VAR}
 
@@ -27,15 +27,7 @@ actionFIS e x hs unassigned = []
 actionFIS e x hs (becomesEqual r) = []
 actionFIS e x hs (becomesSuchThat r) = sequent FIS e x hs (feasible e x) ∷ []
 
--- the abstract event that an event's steps are matched by, and the one that it refines
-abbrev pub matching : Role → List ℕ
-matching abstractInitialisation = []
-matching abstractOrdinary = []
-matching (concreteInitialisation f) = f ∷ []
-matching (refining f) = f ∷ []
-matching convergent = []
-matching anticipated = []
-
+-- the abstract event that an event refines
 abbrev pub refined : Role → List ℕ
 refined abstractInitialisation = []
 refined abstractOrdinary = []
@@ -89,14 +81,26 @@ module _ (m : Machine) where
   abbrev pub sim : Role → ℕ → ℕ → List Sequent
   sim ro e f = map (λ x. sequent SIM e x (moved ro e ++ witnessEntries (m .witnesses e)) (moves f x)) (m .abstractVariables)
 
-  -- "INV: base, guards, moves, witnesses; for a convergent event form 4 of each abstract variable instead of witnesses"
+  -- 02, request 2: "SIM is made for it also at convergent and anticipated events, .. with base, guards and moves; its goal there is form 10"
+  abbrev pub simNew : Role → ℕ → List Sequent
+  simNew ro e = map (λ x. sequent SIM e x (moved ro e) (unchanged x)) (sharedVariables m)
+
+  abbrev pub simSequents : Role → ℕ → List Sequent
+  simSequents abstractInitialisation e = []
+  simSequents abstractOrdinary e = []
+  simSequents (concreteInitialisation f) e = sim (concreteInitialisation f) e f
+  simSequents (refining f) e = sim (refining f) e f
+  simSequents convergent e = simNew convergent e
+  simSequents anticipated e = simNew anticipated e
+
+  -- "INV: base, guards, moves, witnesses; for a convergent event form 4 of each abstract variable instead of witnesses", but of a shared one
   abbrev pub invHypotheses : Role → ℕ → List Entry
   invHypotheses abstractInitialisation e = moved abstractInitialisation e ++ witnessEntries (m .witnesses e)
   invHypotheses abstractOrdinary e = moved abstractOrdinary e ++ witnessEntries (m .witnesses e)
   invHypotheses (concreteInitialisation f) e = moved (concreteInitialisation f) e ++ witnessEntries (m .witnesses e)
   invHypotheses (refining f) e = moved (refining f) e ++ witnessEntries (m .witnesses e)
-  invHypotheses convergent e = moved convergent e ++ map (moves e) (m .abstractVariables)
-  invHypotheses anticipated e = moved anticipated e ++ map (moves e) (m .abstractVariables)
+  invHypotheses convergent e = moved convergent e ++ map (moves e) (unsharedVariables m)
+  invHypotheses anticipated e = moved anticipated e ++ map (moves e) (unsharedVariables m)
 
   abbrev pub inv : Role → ℕ → List Sequent
   inv ro e = map (λ r. sequent INV e r (invHypotheses ro e) (primed r)) (ownInvariants m ro)
@@ -120,7 +124,7 @@ module _ (m : Machine) where
       ++ (flatMap (λ x. actionFIS e x (guarded ro e) (m .action e x)) (ownVariables m ro)
       ++ (flatMap (witnessSequents ro e) (m .witnesses e)
       ++ (flatMap (grd ro e) (refined ro)
-      ++ (flatMap (sim ro e) (matching ro)
+      ++ (simSequents ro e
       ++ (inv ro e
       ++ variantSequents ro e))))))
 

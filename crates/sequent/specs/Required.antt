@@ -1,6 +1,6 @@
 -- The sequents that the published obligations require of a machine and its refinement: 01's table "Sequents" row by row, with the hypotheses and goals of
--- document 004, and 02's anticipated events (request 1). A relation: it says which sequents there are, of which events, and nothing of how a list of them is
--- made.
+-- document 004, 02's anticipated events (request 1) and shared variables (request 2). A relation: it says which sequents there are, of which events, and
+-- nothing of how a list of them is made.
 use mathlib.Core.Path.{_≡_}
 use mathlib.Core.Bool.{Bool, true, false, not}
 use mathlib.Core.List.{List, [], _∷_, _++_, map}
@@ -9,9 +9,9 @@ use Prim.Native.Nat.{ℕ}
 use Rattle.lists.specs.All.{In}
 use Rattle.lists.specs.Choice.{pick}
 use Rattle.lists.specs.Below.{keep}
-use Rattle.machine.specs.Machine.{becomesEqual, becomesSuchThat, Witness, Machine}
+use Rattle.machine.specs.Machine.{becomesEqual, becomesSuchThat, Witness, Machine, sharedVariables, unsharedVariables}
 use Rattle.machine.specs.Machine.{Role, abstractInitialisation, abstractOrdinary, concreteInitialisation, refining, convergent, anticipated}
-use Rattle.sequent.specs.Entry.{Entry, written, primed, defined, moves, feasible, witnessed, natural, decreases, notIncreased, variable}
+use Rattle.sequent.specs.Entry.{Entry, written, primed, defined, moves, feasible, witnessed, natural, decreases, notIncreased, unchanged, variable}
 use Rattle.sequent.specs.Sequent.{Sequent, sequent, WD, INV, FIS, GRD, SIM, WFIS, NAT, VAR}
 
 abbrev pub isInitialisation : Role → Bool
@@ -58,6 +58,7 @@ module _ (m : Machine) where
       asWritten (m .axioms)
       ++ pick (isInitialisation ro) [] (asWritten (m .abstractInvariants) ++ pick (isConcrete ro) (asWritten (m .concreteInvariants)) [])
 
+  -- the variables of the event's machine, the shared ones among them
   abbrev pub ownVariables : Role → List ℕ
   ownVariables ro = pick (isConcrete ro) (m .concreteVariables) (m .abstractVariables)
 
@@ -104,15 +105,19 @@ pub data Required (m : Machine) : Sequent → Type 0 where
   -- "4 GRD, each abstract guard | base, guards, parameter witnesses | 1 | root"
   grd : {e f r : ℕ} → In e (m .events) → m .role e ≡ refining f → In r (m .guards f)
       → Required m (sequent GRD e r (baseGuards m e ++ parameterWitnessesOf m e) (written r))
-  -- "5 SIM, each abstract variable | base, guards, moves, witnesses | 4 of the abstract event | variable"
+  -- "5 SIM, each abstract variable | base, guards, moves, witnesses | 4 of the abstract event | variable", each shared one too
   sim : {e f x : ℕ} → In e (m .events) → MatchedBy f (m .role e) → In x (m .abstractVariables)
       → Required m (sequent SIM e x ((baseGuards m e ++ movesOf m e) ++ witnessesOf m e) (moves f x))
+  -- 02, request 2: "SIM is made for it also at convergent and anticipated events, before INV, with base, guards and moves; its goal there is form 10"
+  sim-new : {e x : ℕ} → In e (m .events) → isNew (m .role e) ≡ true → In x (sharedVariables m)
+      → Required m (sequent SIM e x (baseGuards m e ++ movesOf m e) (unchanged x))
   -- "2 INV, own machine's invariants | base, guards, moves, witnesses | 2 | root"
   inv : {e r : ℕ} → In e (m .events) → isNew (m .role e) ≡ false → In r (ownInvariants m (m .role e))
       → Required m (sequent INV e r ((baseGuards m e ++ movesOf m e) ++ witnessesOf m e) (primed r))
-  -- "for a convergent event form 4 of each abstract variable instead of witnesses"; an anticipated one "has all sequents of a convergent event except NAT"
+  -- "for a convergent event form 4 of each abstract variable instead of witnesses"; an anticipated one "has all sequents of a convergent event except NAT"; 02,
+  -- request 2: "Form 4 of it stands once among hypotheses, that of the concrete event": a shared variable's is among the moves
   inv-new : {e r : ℕ} → In e (m .events) → isNew (m .role e) ≡ true → In r (ownInvariants m (m .role e))
-      → Required m (sequent INV e r ((baseGuards m e ++ movesOf m e) ++ map (moves e) (m .abstractVariables)) (primed r))
+      → Required m (sequent INV e r ((baseGuards m e ++ movesOf m e) ++ map (moves e) (unsharedVariables m)) (primed r))
   -- "7 NAT (convergent) | base, guards | 7 | root"
   nat : {e r : ℕ} → In e (m .events) → m .role e ≡ convergent → In r (m .variants)
       → Required m (sequent NAT e r (baseGuards m e) (natural r))

@@ -16,3 +16,5 @@ pub const NATURAL: u64 = 7;
 pub const DECREASES: u64 = 8;
 
 pub const NOT_INCREASED: u64 = 9;
+
+pub const UNCHANGED: u64 = 10;

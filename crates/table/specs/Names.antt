@@ -1,5 +1,7 @@
 -- 01, Rows: "A tag is one of 10, 20, 30 to 32, 40, 50 to 52, 60, 70", by name.
 use Prim.Native.Nat.{ℕ}
+use mathlib.Core.Bool.{Bool, _||_}
+use lib.Dec.{eqb}
 
 abbrev pub identifierTag : ℕ
 identifierTag = 10
@@ -34,7 +36,7 @@ witnessTag = 60
 abbrev pub variantTag : ℕ
 variantTag = 70
 
--- "kind: 1 constant, 2 abstract variable, 3 concrete variable, 4 abstract parameter, 5 concrete parameter"
+-- "kind: 1 constant, 2 abstract variable, 3 concrete variable, 4 abstract parameter, 5 concrete parameter"; 02, request 2: kind 6, a shared variable
 abbrev pub constantKind : ℕ
 constantKind = 1
 
@@ -49,6 +51,13 @@ abstractParameterKind = 4
 
 abbrev pub concreteParameterKind : ℕ
 concreteParameterKind = 5
+
+abbrev pub sharedVariableKind : ℕ
+sharedVariableKind = 6
+
+-- 02, request 2: "Identifier kind 6 is a variable of both machines": the variables of a machine are those of its own kind, 2 or 3, and the shared ones
+abbrev pub isVariableOf : ℕ → ℕ → Bool
+isVariableOf own kind = eqb kind own || eqb kind sharedVariableKind
 
 -- "machine: 1 abstract, 2 concrete"
 abbrev pub abstractMachine : ℕ

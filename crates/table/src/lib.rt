@@ -11,6 +11,7 @@ ghost use mathlib.Core.Bool.{_&&_};
 ghost use lib.Dec.{eqb, leb};
 ghost use lib.ListN.{length, getD};
 ghost use Rattle.lists.specs.Below.{oneIf};
+ghost use Rattle.table.specs.Names.{isVariableOf};
 ghost use Rattle.table.specs.Rows.{rowsOf, named, rowOf};
 ghost use Rattle.table.specs.Lookups.{isVariableNumber, operandNode};
 ghost use Rattle.table.specs.Counts.{emptyCounts, countedRow, countsOf, Small};
@@ -207,13 +208,20 @@ pub fn identifier_field(words: &[u64], table: Table, x: u64, column: usize) -> u
     field(words, table.identifiers_start, x, column)
 }
 
+// Whether identifiers of a kind are variables of the machine whose own variables have another: they are its own, or shared.
+pub fn is_variable_of(own: u64, kind: u64) -> bool
+    ensures { λ r. ⌜ r ≡ isVariableOf own kind ⌝ }
+{
+    (kind == own) | (kind == identifier::SHARED_VARIABLE)
+}
+
 // Whether an identifier is a variable of one of the machines.
 pub fn is_variable(words: &[u64], table: Table, x: u64) -> bool
     requires { ⌜ table ≡ countsOf (rowsOf (now words)) ⌝ }
     ensures { λ r. ⌜ r ≡ isVariableNumber (rowsOf (now (words .entry))) x ⌝ }
 {
     let kind = identifier_field(words, table, x, Table::KIND);
-    (kind == identifier::ABSTRACT_VARIABLE) | (kind == identifier::CONCRETE_VARIABLE)
+    (kind == identifier::ABSTRACT_VARIABLE) | is_variable_of(identifier::CONCRETE_VARIABLE, kind)
 }
 
 // A column of a node: 1 operator, 2 and 3 operands.
