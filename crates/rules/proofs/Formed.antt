@@ -25,7 +25,7 @@ use Rattle.sequent.specs.Formed.{ActionRoot, HasFormula, EntryFormed}
 use Rattle.sequent.specs.Sequent.{Sequent}
 use Rattle.sequent.specs.Listed.{sequents}
 use Rattle.sequent.proofs.Entries.{Root, axiom-root, abstract-invariant-root, concrete-invariant-root, variant-root, guard-root, action-root, witness-root}
-use Rattle.sequent.proofs.Entries.{EntryOf, of-written, of-primed, of-defined, of-moves, of-feasible, of-witnessed, of-natural, of-decreases, of-not-increased}
+use Rattle.sequent.proofs.Entries.{EntryOf, of-written, of-primed, of-defined, of-moves, of-feasible, of-witnessed, of-natural, of-decreases, of-not-increased, of-unchanged}
 use Rattle.sequent.proofs.Entries.{action-root-has, witness-for, listed-made}
 use Rattle.rules.specs.declared.Verdict.the-variants.{Accepted}
 use Rattle.rules.specs.Decoded.{decoded}
@@ -135,6 +135,7 @@ module _ (t : Rows) (ok : Obeys t) where
   entry-formed h (of-natural q) = root-has-formula q
   entry-formed h (of-decreases q) = root-has-formula q
   entry-formed h (of-not-increased q) = root-has-formula q
+  entry-formed h (of-unchanged v) = tt
 
   pub entries-formed : {s : Sequent} → In s (sequents (machineOf t)) → All (EntryFormed t (machineOf t)) (s .hypotheses ++ (s .goal ∷ []))
   entries-formed i =

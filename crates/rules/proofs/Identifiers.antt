@@ -1,4 +1,4 @@
--- What check 6 gives of an identifier: its kind is one of the five and its type one of the two, and a parameter belongs to an event of its machine that is no initialisation.
+-- What check 6 gives of an identifier: its kind is one of the six and its type one of the two, and a parameter belongs to an event of its machine that is no initialisation.
 use Prim.Native.Nat.{ℕ, _+_, _≤_}
 use mathlib.Core.Path.{_≡_, subst₂}
 use mathlib.Core.Bool.{Bool, true, false, not, _&&_, _||_}
@@ -17,9 +17,9 @@ use Rattle.rules.proofs.Tags.{tagged-test, tags-rising}
 abbrev pub isType : ℕ → Bool
 isType s = eqb s 1 || eqb s 2
 
--- 01: "kind: 1 constant .. 5 concrete parameter"
+-- 01: "kind: 1 constant .. 5 concrete parameter"; 02, request 2: 6
 abbrev isKind : ℕ → Bool
-isKind k = leb 1 k && leb k 5
+isKind k = leb 1 k && leb k 6
 
 module _ (t : Rows) (ok : Obeys t) where
   identifier-row : (x : ℕ) → T (named t 10 x) → T (isKind (kindOf t x)) × T (isType (typeOf t x)) × T (goodOwner t (rowOf t 10 x))
@@ -32,10 +32,10 @@ module _ (t : Rows) (ok : Obeys t) where
       let u = and-split (isType (t .b i)) (goodOwner t i) (s .1) in
       (s .0, u .0, u .1)
 
-  pub identifier-kind : (x : ℕ) → T (named t 10 x) → (1 ≤ kindOf t x) × (kindOf t x ≤ 5)
+  pub identifier-kind : (x : ℕ) → T (named t 10 x) → (1 ≤ kindOf t x) × (kindOf t x ≤ 6)
   identifier-kind x h =
-      let s = and-split (leb 1 (kindOf t x)) (leb (kindOf t x) 5) (identifier-row x h .0) in
-      (leb→le 1 (kindOf t x) (s .0), leb→le (kindOf t x) 5 (s .1))
+      let s = and-split (leb 1 (kindOf t x)) (leb (kindOf t x) 6) (identifier-row x h .0) in
+      (leb→le 1 (kindOf t x) (s .0), leb→le (kindOf t x) 6 (s .1))
 
   pub identifier-type : (x : ℕ) → T (named t 10 x) → T (isType (typeOf t x))
   identifier-type x h = identifier-row x h .1

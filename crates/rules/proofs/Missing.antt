@@ -8,8 +8,10 @@ use lib.Dec.{T, eqb, eqb→eq, not-T}
 use Rattle.lists.specs.Below.{someBelow}
 use Rattle.lists.proofs.Below.{some-found, some-shown}
 use Rattle.formula.proofs.Truth.{eq→eqb, and-join, or-left, or-neither, not-false-test, false-refutes}
-use Rattle.table.specs.Rows.{Rows, tagged, named, rowOf, numberIn, kindOf, machineNumber, classOf}
+use Rattle.table.specs.Names.{isVariableOf}
+use Rattle.table.specs.Rows.{Rows, tagged, named, rowOf, numberIn, machineNumber, classOf}
 use Rattle.table.proofs.Sections.{named-row, number-of-row}
+use Rattle.rules.specs.Sight.{variableOf}
 use Rattle.rules.specs.Rules.{initialises, assigned, lacksAction, lacksWitness, eventLacks, ofClass, someOfClass, someVariant, lacksVariant, lacksNewEvent, missing}
 use Rattle.rules.proofs.Obeys.{Obeys}
 use Rattle.rules.proofs.Tags.{tagged-test, tags-rising}
@@ -71,7 +73,7 @@ module _ (t : Rows) (ok : Obeys t) where
       }
 
   -- "an initial action for a variable"
-  pub initial-action : (e x : ℕ) → T (named t 40 e) → classOf t e ≡ 0 → T (named t 10 x) → kindOf t x ≡ 1 + machineNumber t e → T (assigned t e x)
+  pub initial-action : (e x : ℕ) → T (named t 40 e) → classOf t e ≡ 0 → T (named t 10 x) → T (variableOf t (1 + machineNumber t e) x) → T (assigned t e x)
   initial-action e x n c m k =
       let up = tags-rising t ok in
       let i = rowOf t 40 e in
@@ -79,14 +81,14 @@ module _ (t : Rows) (ok : Obeys t) where
       let p = named-row t up 40 e n in
       let q = named-row t up 10 x m in
       let at = assigned t (numberIn t 40 i) (numberIn t 10 j) in
-      let wanted = and-join (eqb (t .b i) 0) (eqb (t .a j) (1 + t .a i)) (eq→eqb (t .b i) 0 c) (eq→eqb (t .a j) (1 + t .a i) k) in
+      let wanted = and-join (eqb (t .b i) 0) (isVariableOf (1 + t .a i) (t .a j)) (eq→eqb (t .b i) 0 c) k in
       let lacks : T (not at) → ⊥ = λ f.
       false-refutes (some (eventLacks t)) (nothing-missing .nothingLacking)
       (some-shown (eventLacks t) (t .size) i (p .0)
       (and-join (tagged t 40 i) (someBelow (λ j. tagged t 10 j && (lacksAction t i j || lacksWitness t i j)) (t .size)) (tagged-test t 40 i (p .1))
       (some-shown (λ j. tagged t 10 j && (lacksAction t i j || lacksWitness t i j)) (t .size) j (q .0)
       (and-join (tagged t 10 j) (lacksAction t i j || lacksWitness t i j) (tagged-test t 10 j (q .1))
-      (or-left (lacksAction t i j) (lacksWitness t i j) (and-join (eqb (t .b i) 0 && eqb (t .a j) (1 + t .a i)) (not at) wanted f)))))) in
+      (or-left (lacksAction t i j) (lacksWitness t i j) (and-join (eqb (t .b i) 0 && isVariableOf (1 + t .a i) (t .a j)) (not at) wanted f)))))) in
       subst₂ (λ e x. T (assigned t e x)) (number-of-row t up 40 e n) (number-of-row t up 10 x m) (twice-not at (not-T (not at) lacks))
     where
       twice-not : (b : Bool) → T (not (not b)) → T b

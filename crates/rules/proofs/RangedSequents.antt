@@ -12,8 +12,8 @@ use Rattle.lists.proofs.Below.{count-at-most}
 use Rattle.table.specs.Rows.{Rows, tagged, section, count, named, rowOf, machineNumber, classOf, refinedBy}
 use Rattle.table.proofs.Sections.{named-bounds}
 use Rattle.machine.specs.Machine.{Witness, Machine, Role, abstractInitialisation, abstractOrdinary, concreteInitialisation, refining, convergent, anticipated}
-use Rattle.machine.specs.Described.{roleNumbered, belonging, identifiersOf, machineOf}
-use Rattle.machine.proofs.Described.{action-row, identifier-named, event-named}
+use Rattle.machine.specs.Described.{roleNumbered, belonging, variablesOf, machineOf}
+use Rattle.machine.proofs.Described.{action-row, variable-named, event-named}
 use Rattle.machine.proofs.Roles.{role-cases}
 use Rattle.sequent.specs.Entry.{Entry}
 use Rattle.sequent.specs.Numbers.{numbersOf}
@@ -23,7 +23,7 @@ use Rattle.sequent.specs.Listed.{sequents}
 use Rattle.sequent.specs.Required.{MatchedBy, by-initialisation, by-refined}
 use Rattle.sequent.proofs.Entries.{Root, axiom-root, abstract-invariant-root, concrete-invariant-root, variant-root, guard-root, action-root, witness-root}
 use Rattle.sequent.proofs.Entries.{VariableOf, EventOf, EntryOf, of-written, of-primed, of-defined, of-moves, of-feasible, of-witnessed, of-natural, of-decreases}
-use Rattle.sequent.proofs.Entries.{of-not-increased}
+use Rattle.sequent.proofs.Entries.{of-not-increased, of-unchanged}
 use Rattle.sequent.proofs.Entries.{ItemOf, root-item, variable-item, target-item, action-root-has, listed-made}
 use Rattle.rules.proofs.Range.{Ranged, small-ranged, zero-ranged, RangedRows}
 
@@ -77,8 +77,8 @@ module _ (t : Rows) (r : RangedRows t) where
   pub machine-ranged : RangedMachine (machineOf t)
   unfolding machineOf
   machine-ranged = record {
-    abstractVariables = all-in (identifiersOf t 2) (λ x i. number-ranged 10 x (identifier-named t 2 x i .0));
-    concreteVariables = all-in (identifiersOf t 3) (λ x i. number-ranged 10 x (identifier-named t 3 x i .0));
+    abstractVariables = all-in (variablesOf t 2) (λ x i. number-ranged 10 x (variable-named t 2 x i .0));
+    concreteVariables = all-in (variablesOf t 3) (λ x i. number-ranged 10 x (variable-named t 3 x i .0));
     axioms = all-map (t .a) (all-in (section t 30) (λ i j. r .a i));
     abstractInvariants = all-map (t .a) (all-in (section t 31) (λ i j. r .a i));
     concreteInvariants = all-map (t .a) (all-in (section t 32) (λ i j. r .a i));
@@ -121,6 +121,7 @@ module _ (m : Machine) (r : RangedMachine m) where
   entry-ranged h (of-natural q) = (root-ranged q, zero-ranged)
   entry-ranged h (of-decreases q) = (root-ranged q, zero-ranged)
   entry-ranged h (of-not-increased q) = (root-ranged q, zero-ranged)
+  entry-ranged h (of-unchanged x) = (variable-ranged x, zero-ranged)
 
   item-ranged : {x : ℕ} → ItemOf m x → Ranged x
   item-ranged (root-item q) = root-ranged q

@@ -14,7 +14,7 @@ use Rattle.table.specs.Rows.{Rows, section, count}
 use Rattle.table.proofs.Sections.{section-row, section-distinct}
 use Rattle.machine.specs.Machine.{Witness}
 use Rattle.machine.specs.Described.{actionOf, belonging, machineOf}
-use Rattle.machine.proofs.Described.{identifiers-rise, belonging-row, belonging-distinct, SetBy, action-row}
+use Rattle.machine.proofs.Described.{variables-rise, belonging-row, belonging-distinct, SetBy, action-row}
 use Rattle.sequent.proofs.Exact.{in-one}
 use Rattle.sequent.specs.Order.{actionRoots, actionRootsOf}
 use Rattle.sequent.proofs.Ordered.{actionRoots-distinct, own-either, Separate}
@@ -111,8 +111,8 @@ obeys-separate t ok = record {
   formulaRoots = formula-roots .apart;
   eventRoots = λ e. event-roots e .apart;
   targets = targets-apart;
-  abstractVariables = identifiers-rise t 2;
-  concreteVariables = identifiers-rise t 3;
+  abstractVariables = variables-rise t 2;
+  concreteVariables = variables-rise t 3;
   events = numbers-rise (suc (count t 40)) 0;
 }
   where
@@ -131,7 +131,7 @@ obeys-separate t ok = record {
     event-roots e =
         roots-join t ok {mid = 51} (omega arith) (belonging-roots t ok 50 e tt (omega arith))
         (roots-join t ok {mid = 60} (omega arith)
-        (action-roots t ok e (own-either Distinct (rising-distinct (identifiers-rise t 3)) (rising-distinct (identifiers-rise t 2)) (machineOf t .role e)))
+        (action-roots t ok e (own-either Distinct (rising-distinct (variables-rise t 3)) (rising-distinct (variables-rise t 2)) (machineOf t .role e)))
         (rw map-map (belonging-roots t ok 60 e tt (omega arith))))
 
     targets-apart : (e : ℕ) → Distinct (map (λ w. w .target) (map witness (belonging t 60 e)))

@@ -6,13 +6,13 @@ use Rattle.lists.specs.Choice.{pick}
 use Rattle.lists.specs.Below.{oneIf, countBelow, someBelow}
 use Rattle.table.specs.Names.{abstractInvariantTag, abstractMachine, abstractParameterKind, abstractVariableKind, anticipatedClass, axiomTag, becomesEqualTag}
 use Rattle.table.specs.Names.{booleanType, concreteInvariantTag, concreteMachine, concreteParameterKind, concreteVariableKind, constantKind}
-use Rattle.table.specs.Names.{convergentClass, eventTag, guardTag, identifierTag, initialisationClass, integerType}
-use Rattle.table.specs.Names.{nodeTag, ordinaryClass, predicateSort, variantTag, witnessTag}
+use Rattle.table.specs.Names.{convergentClass, eventTag, guardTag, identifierTag, initialisationClass, integerType, isVariableOf}
+use Rattle.table.specs.Names.{nodeTag, ordinaryClass, predicateSort, sharedVariableKind, variantTag, witnessTag}
 use Rattle.table.specs.Rows.{Rows, tagged, named, numberIn, isAction, typeOf, ownerOf, machineNumber, classOf, refinedBy}
 use Rattle.machine.specs.Operator.{equalNumber, operandSort}
 use Rattle.rules.specs.Tags.{columnsUsed, rowLimit}
 use Rattle.rules.specs.Sorts.{Shape, value, anIdentifier, aVariable, none, one, two, unknown, shapeOf, operandCount, sortOf, fitting}
-use Rattle.rules.specs.Sight.{hasKind, seesOnly}
+use Rattle.rules.specs.Sight.{hasKind, variableOf, seesOnly}
 
 module _ (t : Rows) where
   -- 3 tag: "unknown, falling, or unused column not 0"
@@ -56,7 +56,7 @@ module _ (t : Rows) where
   unfoldable pub eventOffends : ℕ → Bool
   eventOffends i = tagged t eventTag i && not (goodMachine i && (goodClass i && (goodRefined i && not (outOfOrder i))))
 
-  -- 6 identifier: "bad kind, type or owner (owner: own machine, class not 0)"
+  -- 6 identifier: "bad kind, type or owner (owner: own machine, class not 0)"; kinds are 1 to 6
   abbrev pub ownerEvent : ℕ → ℕ → Bool
   ownerEvent machine e = named t eventTag e && (eqb (machineNumber t e) machine && not (eqb (classOf t e) initialisationClass))
 
@@ -66,7 +66,7 @@ module _ (t : Rows) where
 
   unfoldable pub identifierOffends : ℕ → Bool
   identifierOffends i =
-      tagged t identifierTag i && not ((leb constantKind (t .a i) && leb (t .a i) concreteParameterKind) && ((eqb (t .b i) integerType || eqb (t .b i) booleanType) && goodOwner i))
+      tagged t identifierTag i && not ((leb constantKind (t .a i) && leb (t .a i) sharedVariableKind) && ((eqb (t .b i) integerType || eqb (t .b i) booleanType) && goodOwner i))
 
   -- 7 reference: "unknown operator, nonzero unused node column, or a number that names nothing fitting"
   -- "operands: an earlier node"
@@ -74,7 +74,7 @@ module _ (t : Rows) where
   earlierNode i n = leb 1 n && ltb n (numberIn t nodeTag i)
 
   abbrev pub namedVariable : ℕ → Bool
-  namedVariable x = named t identifierTag x && (hasKind t abstractVariableKind x || hasKind t concreteVariableKind x)
+  namedVariable x = named t identifierTag x && (hasKind t abstractVariableKind x || variableOf t concreteVariableKind x)
 
   abbrev pub goodColumns : Shape → ℕ → Bool
   goodColumns value i = eqb (t .c i) 0
@@ -89,9 +89,9 @@ module _ (t : Rows) where
   abbrev pub guardEvent : ℕ → Bool
   guardEvent e = named t eventTag e && not (eqb (classOf t e) initialisationClass)
 
-  -- actions: "event, variable of its machine"
+  -- actions: "event, variable of its machine"; 02, request 2: "both machines' events may assign it"
   abbrev pub actionTarget : ℕ → ℕ → Bool
-  actionTarget e x = named t eventTag e && (named t identifierTag x && hasKind t (1 + machineNumber t e) x)
+  actionTarget e x = named t eventTag e && (named t identifierTag x && variableOf t (1 + machineNumber t e) x)
 
   -- "witnesses: class 0 or 1, with an abstract variable or a parameter of the refined event"
   abbrev pub witnessTarget : ℕ → ℕ → Bool
@@ -185,9 +185,10 @@ module _ (t : Rows) where
   abbrev pub hasWitness : ℕ → ℕ → Bool
   hasWitness e x = someBelow (λ i. tagged t witnessTag i && (eqb (t .a i) e && eqb (t .b i) x)) (t .size)
 
-  -- "an initial action for a variable": the event at row i initialises the machine whose variable is at row j, and has no action for it
+  -- "an initial action for a variable": the event at row i initialises the machine whose variable is at row j, and has no action for it; 02, request 2: "both
+  -- initialisations must" assign a shared one
   abbrev pub actionWanted : ℕ → ℕ → Bool
-  actionWanted i j = eqb (t .b i) initialisationClass && eqb (t .a j) (1 + t .a i)
+  actionWanted i j = eqb (t .b i) initialisationClass && isVariableOf (1 + t .a i) (t .a j)
 
   abbrev pub lacksAction : ℕ → ℕ → Bool
   lacksAction i j = actionWanted i j && not (assigned (numberIn t eventTag i) (numberIn t identifierTag j))
