@@ -1,17 +1,21 @@
 -- An identifier is a variable, or a shared one, by the number of its kind: by cases on the numbers that it is compared with.
 use Prim.Native.Nat.{ℕ, _<_}
-use mathlib.Core.Path.{_≡_, refl, sym, ap, ap₂, _∙_, fun-ext}
+use mathlib.Core.Path.{_≡_, refl, sym, ap, ap₂, _∙_, subst, fun-ext}
 use mathlib.Core.List.{List}
 use mathlib.Core.Bool.{Bool, true, false, not, _&&_, _||_}
 use native.Mathlib.Omega.{arith}
-use lib.Dec.{eqb}
+use lib.Dec.{T, eqb, eqb→eq}
 use borrow.Author.Tests.{eqb-true, ne-eqb}
 use Rattle.lists.specs.Choice.{pick}
+use Rattle.lists.specs.All.{In}
 use Rattle.lists.specs.Below.{numbers, keep}
+use Rattle.lists.proofs.Below.{numbers-in, keep-in, in-keep}
 use Rattle.lists.proofs.Flat.{keep-keep}
 use Rattle.table.specs.Names.{isVariableOf}
-use Rattle.table.specs.Rows.{Rows, count, kindOf}
+use Rattle.table.specs.Rows.{Rows, count, named, kindOf}
 use Rattle.table.specs.Lookups.{isVariableNumber}
+use Rattle.table.proofs.Sections.{named-bounds}
+use Rattle.formula.proofs.Truth.{eq→eqb}
 use Rattle.machine.specs.Machine.{Kind, isVariable, isShared, constantKind, abstractVariable, concreteVariable, abstractParameter, concreteParameter, sharedVariable}
 use Rattle.machine.specs.Machine.{sharedVariables, unsharedVariables}
 use Rattle.machine.specs.Described.{kindNumbered, variablesOf, machineOf}
@@ -38,7 +42,7 @@ variable-kind n =
     go false false false false true f g h = refl
     go false false false false false f g h = refl
 
-shared-kind : (n : ℕ) → isShared (kindNumbered n) ≡ eqb n 6
+pub shared-kind : (n : ℕ) → isShared (kindNumbered n) ≡ eqb n 6
 unfolding kindNumbered
 shared-kind n =
     go (eqb n 1) (eqb n 2) (eqb n 3) (eqb n 6) (eqb n 4) (differs n 1 6 (omega arith)) (differs n 2 6 (omega arith)) (differs n 3 6 (omega arith))
@@ -50,6 +54,14 @@ shared-kind n =
     go false false false true d f g h = refl
     go false false false false true f g h = refl
     go false false false false false f g h = refl
+
+pub is-shared : (K : Kind) → T (isShared K) → K ≡ sharedVariable
+is-shared constantKind h = absurd h
+is-shared abstractVariable h = absurd h
+is-shared concreteVariable h = absurd h
+is-shared abstractParameter h = absurd h
+is-shared concreteParameter h = absurd h
+is-shared sharedVariable h = refl
 
 pub variable-numbered : (t : Rows) (x : ℕ) → isVariable (machineOf t .kind x) ≡ isVariableNumber t x
 unfolding machineOf
@@ -85,3 +97,13 @@ module _ (t : Rows) where
       go true s f = ap (λ s. not s) (f refl)
       go false true f = refl
       go false false f = refl
+
+  -- an identifier of kind 6 is one of them, one of kind 2 is none
+  pub named-shared : (x : ℕ) → T (named t 10 x) → kindOf t x ≡ 6 → In x (sharedVariables (machineOf t))
+  named-shared x n k =
+      let b = named-bounds t 10 x n in
+      subst (In x) (sym shared-numbered)
+      (keep-in (λ x. eqb (kindOf t x) 6) (numbers-in (count t 10) 1 x (b .0) (omega (arith, b .1))) (eq→eqb (kindOf t x) 6 k))
+
+  pub unshared-kind : (x : ℕ) → In x (unsharedVariables (machineOf t)) → kindOf t x ≡ 2
+  unshared-kind x i = eqb→eq (kindOf t x) 2 (in-keep (λ x. eqb (kindOf t x) 2) identifiers (subst (In x) unshared-numbered i) .1)

@@ -15,13 +15,15 @@ use Rattle.table.proofs.Sections.{section-row, row-section, named-bounds}
 use Rattle.formula.specs.Values.{integer}
 use Rattle.formula.proofs.Sort.{treeType}
 use Rattle.formula.proofs.Truth.{and-split, or-cases, true-test}
+use Rattle.machine.specs.Machine.{sharedVariables, unsharedVariables}
 use Rattle.machine.specs.Machine.{Witness, unassigned, Role, abstractInitialisation, abstractOrdinary, concreteInitialisation, refining, convergent, anticipated}
-use Rattle.machine.specs.Described.{typeNumbered, kindNumbered, roleNumbered, treeOf, actionOf, belonging, identifiersOf, machineOf}
-use Rattle.machine.proofs.Described.{SetBy, action-row, belonging-row, identifier-named, event-named, named-event}
+use Rattle.machine.specs.Described.{typeNumbered, kindNumbered, roleNumbered, treeOf, actionOf, belonging, variablesOf, machineOf}
+use Rattle.machine.proofs.Described.{SetBy, action-row, belonging-row, variable-named, event-named, named-event}
 use Rattle.machine.proofs.Roles.{RoleSays}
+use Rattle.machine.proofs.Variables.{named-shared, unshared-kind}
 use Rattle.sequent.specs.Entry.{witnessRoot}
 use Rattle.sequent.specs.Required.{isNew, ownVariables}
-use Rattle.rules.specs.Sight.{hasKind}
+use Rattle.rules.specs.Sight.{hasKind, variableOf}
 use Rattle.rules.specs.Rules.{guardEvent, actionTarget}
 use Rattle.rules.proofs.Obeys.{Obeys}
 use Rattle.rules.proofs.Events.{event-says, event-refines, first-event, concrete-initialisation}
@@ -30,8 +32,8 @@ use Rattle.rules.proofs.References.{rootTag, targetTest, root-row}
 use Rattle.rules.proofs.Sorts.{sort-type, root-sort}
 use Rattle.rules.proofs.Twice.{witness-once}
 use Rattle.rules.proofs.Missing.{convergent-variant}
-use Rattle.run.proofs.WellFormed.{kinds, WellFormed}
-use Rattle.run.proofs.AcceptedSight.{roleIn, kind-seen, formulas-see, guards-see, variable-kind, action-sees, witness-target, witness-hidden, witness-sees}
+use Rattle.run.proofs.WellFormed.{constants, abstractState, concreteState, bothStates, WellFormed}
+use Rattle.run.proofs.AcceptedSight.{roleIn, kind-seen, variable-seen, formulas-see, guards-see, variable-kind, action-sees, witness-target, witness-hidden, witness-sees}
 
 -- the root of a witness whose target no other witness has
 witness-root : (ws : List Witness) (w : Witness) → In w ws → ((v : Witness) → In v ws → v .target ≡ w .target → v .root ≡ w .root)
@@ -59,6 +61,13 @@ module _ (t : Rows) where
   -- the role of an event with known numbers
   role-is : (e machine class : ℕ) → machineNumber t e ≡ machine → classOf t e ≡ class → roleIn t e ≡ roleNumbered machine class (refinedBy t e)
   role-is e machine class p q = ap₂ (λ m c. roleNumbered m c (refinedBy t e)) p q
+
+  -- a variable of a machine is of its own kind or shared
+  variable-either : (own x : ℕ) → T (named t 10 x) → T (variableOf t own x)
+      → (kindNumbered (kindOf t x) ≡ kindNumbered own) ⊎ ((kindNumbered (kindOf t x) ≡ kindNumbered 6) × In x (sharedVariables (machineOf t)))
+  variable-either own x n h =
+      or-cases (eqb (kindOf t x) own) (eqb (kindOf t x) 6) h (λ p. inl (ap kindNumbered (eqb→eq (kindOf t x) own p)))
+      (λ p. let q = eqb→eq (kindOf t x) 6 p in inr (ap kindNumbered q, named-shared t x n q))
 
   abbrev EventSays : ℕ → Role → Type 0
   EventSays e ro = RoleSays (machineNumber t e) (classOf t e) (refinedBy t e) ro
@@ -103,17 +112,18 @@ module _ (t : Rows) (ok : Obeys t) where
           let same : r .0 ≡ i = witness-once t ok (r .0) i (q .0) (p .0) (q .1) (p .1) (q .2 ∙ sym (p .2)) (sym (ap (λ u. u .target) (r .2)) ∙ e′) in
           ap (λ u. u .root) (r .2) ∙ ap (t .c) same
 
-  -- a concrete event sets no abstract variable
-  abstract-stays : (e x : ℕ) → machineNumber t e ≡ 2 → In x (identifiersOf t 2) → actionOf t e x ≡ unassigned
+  -- a concrete event sets no abstract variable but the shared ones
+  abstract-stays : (e x : ℕ) → machineNumber t e ≡ 2 → kindOf t x ≡ 2 → actionOf t e x ≡ unassigned
   abstract-stays e x m j =
       action-row t e x (λ a. a ≡ unassigned) (λ i by. absurd (never-set 51 i by tt (λ h. h))) (λ i by. absurd (never-set 52 i by tt (λ h. h))) (λ none. refl)
     where
       never-set : (k i : ℕ) → SetBy t k e x i → T (rootTag k) → (T (targetTest t k i) → T (actionTarget t (t .a i) (t .b i))) → ⊥
       never-set k i by r f =
           let h = subst₂ (λ e x. T (actionTarget t e x)) (by .eventIs) (by .variableIs) (f (root-row t ok k i (by .inside) (by .tagIs) r .0)) in
-          let own = hasKind t (1 + machineNumber t e) x in
-          let p = eqb→eq (kindOf t x) (1 + machineNumber t e) (and-split (named t 10 x) own (and-split (named t 40 e) (named t 10 x && own) h .1) .1) in
-          omega (arith, identifier-named t 2 x j .1)
+          let own = variableOf t (1 + machineNumber t e) x in
+          let p = and-split (named t 10 x) own (and-split (named t 40 e) (named t 10 x && own) h .1) .1 in
+          or-cases (eqb (kindOf t x) (1 + machineNumber t e)) (eqb (kindOf t x) 6) p
+          (λ q. omega (arith, eqb→eq (kindOf t x) (1 + machineNumber t e) q)) (λ q. omega (arith, eqb→eq (kindOf t x) 6 q))
 
   -- what a concrete initialisation is matched by, and what a refining event refines
   initialisation-matched : (e f : ℕ) → EventSays t e (concreteInitialisation f)
@@ -139,16 +149,18 @@ module _ (t : Rows) (ok : Obeys t) where
 pub accepted-well-formed : (t : Rows) → Obeys t → WellFormed (machineOf t)
 unfolding machineOf kindNumbered
 accepted-well-formed t ok = record {
-  axiomsSee = (let S = kinds true false false false false in formulas-see t ok 30 S tt (λ i. refl) (λ i x s. kind-seen t S 1 x tt s) (λ i x s. s));
-  abstractInvariantsSee = (let S = kinds true true false false false in
-      formulas-see t ok 31 S tt (λ i. refl) (λ i x s. or-cases (hasKind t 1 x) (hasKind t 2 x) s (kind-seen t S 1 x tt) (kind-seen t S 2 x tt)) (λ i x s. s));
-  concreteInvariantsSee = (let S = kinds true true true false false in
-      formulas-see t ok 32 S tt (λ i. refl)
-      (λ i x s. or-cases (hasKind t 1 x) (hasKind t 2 x || hasKind t 3 x) s (kind-seen t S 1 x tt)
-      (λ s. or-cases (hasKind t 2 x) (hasKind t 3 x) s (kind-seen t S 2 x tt) (kind-seen t S 3 x tt)))
-      (λ i x s. s));
-  variantsSee = (let S = kinds true false true false false in
-      formulas-see t ok 70 S tt (λ i. refl) (λ i x s. or-cases (hasKind t 1 x) (hasKind t 3 x) s (kind-seen t S 1 x tt) (kind-seen t S 3 x tt)) (λ i x s. s));
+  axiomsSee = formulas-see t ok 30 constants tt (λ i. refl) (λ i x s. kind-seen t constants 1 x tt s) (λ i x s. s);
+  abstractInvariantsSee =
+      formulas-see t ok 31 abstractState tt (λ i. refl)
+      (λ i x s. or-cases (hasKind t 1 x) (variableOf t 2 x) s (kind-seen t abstractState 1 x tt) (variable-seen t abstractState 2 x tt tt)) (λ i x s. s);
+  concreteInvariantsSee =
+      formulas-see t ok 32 bothStates tt (λ i. refl)
+      (λ i x s. or-cases (hasKind t 1 x) (hasKind t 2 x || variableOf t 3 x) s (kind-seen t bothStates 1 x tt)
+      (λ s. or-cases (hasKind t 2 x) (variableOf t 3 x) s (kind-seen t bothStates 2 x tt) (variable-seen t bothStates 3 x tt tt)))
+      (λ i x s. s);
+  variantsSee =
+      formulas-see t ok 70 concreteState tt (λ i. refl)
+      (λ i x s. or-cases (hasKind t 1 x) (variableOf t 3 x) s (kind-seen t concreteState 1 x tt) (variable-seen t concreteState 3 x tt tt)) (λ i x s. s);
   variantsInteger = all-map (t .a) (all-in (section t 70) (λ i j. let q = section-row t 70 i j in variant-type t ok i (q .0) (q .1)));
   guardsSee = λ e i. guards-see t ok e (event-named t e i);
   actionsSee = λ e i. all-in (ownVariables (machineOf t) (roleIn t e)) (λ x j.
@@ -157,8 +169,8 @@ accepted-well-formed t ok = record {
       action-sees t ok e x n (p .0) (p .1));
   witnessesSee = λ e i. all-map (witnessAt t) (all-in (belonging t 60 e) (λ i j.
       record { hidden = witness-hidden t ok e i j; mentioned = witness-sees t ok e i j; found = witness-found t ok e i j }));
-  abstractVariablesKind = all-in (identifiersOf t 2) (λ x i. ap kindNumbered (identifier-named t 2 x i .1));
-  concreteVariablesKind = all-in (identifiersOf t 3) (λ x i. ap kindNumbered (identifier-named t 3 x i .1));
+  abstractVariablesKind = all-in (variablesOf t 2) (λ x i. let p = variable-named t 2 x i in variable-either t 2 x (p .0) (p .1));
+  concreteVariablesKind = all-in (variablesOf t 3) (λ x i. let p = variable-named t 3 x i in variable-either t 3 x (p .0) (p .1));
   initialised = (let r = initialisation-there t ok in (r .0, r .1, named-event t (r .0) (r .2), r .3));
   initialises = λ e f i q.
       let r = initialisation-matched t ok e f (event-says t ok e (concreteInitialisation f) (event-named t e i) q) in
@@ -167,8 +179,8 @@ accepted-well-formed t ok = record {
       let n = event-named t e i in
       let r = refined-ordinary t ok e f n (event-says t ok e (refining f) n q) in
       (named-event t f (r .0), r .1, r .2);
-  newStays = λ e i new. all-in (identifiersOf t 2) (λ x j.
-      abstract-stays t ok e x (new-concrete t e (roleIn t e) (event-says t ok e (roleIn t e) (event-named t e i) refl) new) j);
+  newStays = λ e i new. all-in (unsharedVariables (machineOf t)) (λ x j.
+      abstract-stays t ok e x (new-concrete t e (roleIn t e) (event-says t ok e (roleIn t e) (event-named t e i) refl) new) (unshared-kind t x j));
   convergentVariant = λ e i q.
       let n = event-named t e i in
       let r = convergent-variant t ok e n (event-says t ok e convergent n q .1) in

@@ -7,23 +7,29 @@ use mathlib.Core.List.{map}
 use mathlib.Core.Logic.{_⊎_, inl, inr}
 use native.Mathlib.Omega.{arith}
 use lib.Dec.{T, ltb, eqb, eqb→eq, not-T}
+use borrow.Author.Tests.{eqb-true}
 use Rattle.lists.specs.All.{All, In}
 use Rattle.lists.proofs.All.{all-in, all-map}
 use Rattle.lists.proofs.Below.{some-found}
+use Rattle.table.specs.Names.{isVariableOf}
 use Rattle.table.specs.Rows.{Rows, named, section, kindOf, typeOf, ownerOf, machineNumber, classOf, refinedBy}
 use Rattle.table.proofs.Sections.{section-row, named-bounds}
 use Rattle.formula.specs.Mentions.{mentions}
 use Rattle.formula.proofs.Sort.{treeType}
 use Rattle.formula.proofs.Mentions.{mentions-imp}
-use Rattle.formula.proofs.Truth.{eq→eqb, and-split, or-left, or-right, or-cases}
-use Rattle.machine.specs.Machine.{Kind, constantKind, abstractVariable, concreteVariable, abstractParameter, concreteParameter}
+use Rattle.formula.proofs.Truth.{eq→eqb, and-split, and-join, true-test, or-left, or-right, or-cases}
+use Rattle.machine.specs.Machine.{Kind, constantKind, abstractVariable, concreteVariable, abstractParameter, concreteParameter, sharedVariable}
+use Rattle.machine.specs.Machine.{isShared, sharedVariables}
 use Rattle.machine.specs.Machine.{Role, abstractInitialisation, abstractOrdinary, concreteInitialisation, refining, convergent, anticipated}
-use Rattle.machine.specs.Described.{typeNumbered, kindNumbered, roleNumbered, treeOf, sets, actionOf, belonging, identifiersOf, machineOf}
-use Rattle.machine.proofs.Described.{SetBy, action-row, belonging-row, identifier-named}
+use Rattle.machine.specs.Described.{typeNumbered, kindNumbered, roleNumbered, treeOf, sets, actionOf, belonging, variablesOf, machineOf}
+use Rattle.machine.proofs.Described.{SetBy, action-row, belonging-row, variable-named}
 use Rattle.machine.proofs.Roles.{RoleSays}
+use Rattle.machine.proofs.Variables.{shared-kind, named-shared}
+use Rattle.sequent.specs.Order.{isIn}
 use Rattle.sequent.specs.Required.{ownVariables}
+use Rattle.sequent.proofs.Places.{isIn-member}
 use Rattle.rules.specs.Sorts.{sortOf}
-use Rattle.rules.specs.Sight.{hasKind, presentVariable, ownParameter, eventSees}
+use Rattle.rules.specs.Sight.{hasKind, variableOf, presentVariable, ownParameter, eventSees}
 use Rattle.rules.specs.Rules.{namedVariable, witnessTarget}
 use Rattle.rules.proofs.Obeys.{Obeys}
 use Rattle.rules.proofs.Events.{event-says}
@@ -32,25 +38,33 @@ use Rattle.rules.proofs.References.{rootTag, rootOf, root-row}
 use Rattle.rules.proofs.Sorts.{sort-type, root-sort}
 use Rattle.rules.proofs.Sight.{seen, seenAfter, root-seen}
 use Rattle.rules.proofs.Missing.{initial-action}
-use Rattle.run.proofs.WellFormed.{kinds, ownKinds, never, ActionSees}
+use Rattle.run.proofs.WellFormed.{constants, abstractMachine, concreteMachine, concreteVariables, hiddenKinds, ownKinds, never, among, ActionSees}
 
-at-kind : (ro : Role) (k j : ℕ) → k ≡ j → T (ownKinds ro (kindNumbered j)) → T (ownKinds ro (kindNumbered k))
-at-kind ro k j e h = subst (λ k. T (ownKinds ro (kindNumbered k))) (sym e) h
+-- the kinds of a machine's variables and of its parameters
+abbrev OwnKind : ℕ → ℕ → Type 0
+OwnKind machine k = T (isVariableOf (1 + machine) k) ⊎ (k ≡ 3 + machine)
+
+kind-in : (S : Kind → Bool) (k j : ℕ) → k ≡ j → T (S (kindNumbered j)) → T (S (kindNumbered k))
+kind-in S k j e h = subst (λ k. T (S (kindNumbered k))) (sym e) h
+
+variable-in : (S : Kind → Bool) (own k : ℕ) → T (S (kindNumbered own)) → T (S (kindNumbered 6)) → T (isVariableOf own k) → T (S (kindNumbered k))
+variable-in S own k v z h = or-cases (eqb k own) (eqb k 6) h (λ p. kind-in S k own (eqb→eq k own p) v) (λ p. kind-in S k 6 (eqb→eq k 6 p) z)
+
+machine-in : (S : Kind → Bool) (n machine k : ℕ) → machine ≡ n → T (S (kindNumbered (1 + n))) → T (S (kindNumbered 6)) → T (S (kindNumbered (3 + n)))
+    → OwnKind machine k → T (S (kindNumbered k))
+machine-in S n machine k e v z p (inl h) = variable-in S (1 + n) k v z (subst (λ n. T (isVariableOf (1 + n) k)) e h)
+machine-in S n machine k e v z p (inr h) = kind-in S k (3 + n) (omega (arith, e)) p
 
 -- an event that is no initialisation sees its machine's variables and parameters, and every event sees constants
-own-seen : (ro : Role) (machine class refined k : ℕ) → RoleSays machine class refined ro → T (not (eqb class 0)) → (k ≡ 1 + machine) ⊎ (k ≡ 3 + machine)
+own-seen : (ro : Role) (machine class refined k : ℕ) → RoleSays machine class refined ro → T (not (eqb class 0)) → OwnKind machine k
     → T (ownKinds ro (kindNumbered k))
 unfolding kindNumbered
 own-seen abstractInitialisation machine class refined k s n d = absurd (subst (λ c. T (not (eqb c 0))) (s .1) n)
-own-seen abstractOrdinary machine class refined k s n (inl e) = at-kind abstractOrdinary k 2 (omega (arith, s .0)) tt
-own-seen abstractOrdinary machine class refined k s n (inr e) = at-kind abstractOrdinary k 4 (omega (arith, s .0)) tt
+own-seen abstractOrdinary machine class refined k s n d = machine-in abstractMachine 1 machine k (s .0) tt tt tt d
 own-seen (concreteInitialisation f) machine class refined k s n d = absurd (subst (λ c. T (not (eqb c 0))) (s .1) n)
-own-seen (refining f) machine class refined k s n (inl e) = at-kind (refining f) k 3 (omega (arith, s .0)) tt
-own-seen (refining f) machine class refined k s n (inr e) = at-kind (refining f) k 5 (omega (arith, s .0)) tt
-own-seen convergent machine class refined k s n (inl e) = at-kind convergent k 3 (omega (arith, s .0)) tt
-own-seen convergent machine class refined k s n (inr e) = at-kind convergent k 5 (omega (arith, s .0)) tt
-own-seen anticipated machine class refined k s n (inl e) = at-kind anticipated k 3 (omega (arith, s .0)) tt
-own-seen anticipated machine class refined k s n (inr e) = at-kind anticipated k 5 (omega (arith, s .0)) tt
+own-seen (refining f) machine class refined k s n d = machine-in concreteMachine 2 machine k (s .0) tt tt tt d
+own-seen convergent machine class refined k s n d = machine-in concreteMachine 2 machine k (s .0) tt tt tt d
+own-seen anticipated machine class refined k s n d = machine-in concreteMachine 2 machine k (s .0) tt tt tt d
 
 constant-seen : (ro : Role) → T (ownKinds ro constantKind)
 constant-seen abstractInitialisation = tt
@@ -67,11 +81,23 @@ module _ (t : Rows) where
   abbrev pub roleIn : ℕ → Role
   roleIn e = roleNumbered (machineNumber t e) (classOf t e) (refinedBy t e)
 
-  abbrev MentionsKinds : (Kind → Bool) → (ℕ → Bool) → ℕ → Type 0
-  MentionsKinds S S′ r = T (mentions (λ x. S (kindIn x)) S′ (treeOf t r))
+  abbrev Seen : (Kind → Bool) → (ℕ → Bool) → ℕ → Type 0
+  Seen S S′ r = T (mentions (among (machineOf t) S) S′ (treeOf t r))
 
   pub kind-seen : (S : Kind → Bool) (k x : ℕ) → T (S (kindNumbered k)) → T (hasKind t k x) → T (S (kindIn x))
-  kind-seen S k x s h = subst (λ k. T (S (kindNumbered k))) (sym (eqb→eq (kindOf t x) k h)) s
+  kind-seen S k x s h = kind-in S (kindOf t x) k (eqb→eq (kindOf t x) k h) s
+
+  pub variable-seen : (S : Kind → Bool) (own x : ℕ) → T (S (kindNumbered own)) → T (S (kindNumbered 6)) → T (variableOf t own x) → T (S (kindIn x))
+  variable-seen S own x v z h = variable-in S own (kindOf t x) v z h
+
+  -- what is named and of a set of kinds is among them: a shared variable that is named is one of the machine's
+  pub named-among : (S : Kind → Bool) (x : ℕ) → T (named t 10 x) → T (S (kindIn x)) → T (among (machineOf t) S x)
+  unfolding machineOf
+  named-among S x n s = and-join (S (kindIn x)) _ s (go (isShared (kindIn x)) refl)
+    where
+      go : (b : Bool) → isShared (kindIn x) ≡ b → T (not b || isIn (sharedVariables (machineOf t)) x)
+      go true e = true-test _ (isIn-member (named-shared t x n (eqb-true (kindOf t x) 6 (sym (shared-kind (kindOf t x)) ∙ e))))
+      go false e = tt
 
   module _ (ok : Obeys t) where
     -- the formula of a row, from what its tag lets it mention
@@ -86,11 +112,12 @@ module _ (t : Rows) where
     -- axioms, invariants and the variant, which name their roots in column a
     pub formulas-see : (k : ℕ) (S : Kind → Bool) → T (rootTag k) → ((i : ℕ) → rootOf t k i ≡ t .a i)
         → ((i x : ℕ) → T (seen t k i x) → T (S (kindIn x))) → ((i x : ℕ) → T (seenAfter t k i x) → ⊥)
-        → All (λ r. T (mentions (λ x. S (kindNumbered (kindOf t x))) never (treeOf t r))) (map (t .a) (section t k))
+        → All (λ r. T (mentions (among (machineOf t) S) never (treeOf t r))) (map (t .a) (section t k))
     formulas-see k S r root f g =
         all-map (t .a) (all-in (section t k) (λ i j.
         let q = section-row t k i j in
-        subst (MentionsKinds S never) (root i) (row-sees k i (λ x. S (kindIn x)) never (q .0) (q .1) r (λ x n s. f i x s) (λ x s. g i x s))))
+        subst (Seen S never) (root i)
+        (row-sees k i (among (machineOf t) S) never (q .0) (q .1) r (λ x n s. named-among S x n (f i x s)) (λ x s. g i x s))))
 
     -- "guard and action, constants, the event's own parameters and its machine's variables"
     pub event-sees : (e x : ℕ) → T (named t 40 e) → T (named t 10 x) → T (eventSees t e x) → T (ownKinds (roleIn e) (kindIn x))
@@ -99,8 +126,8 @@ module _ (t : Rows) where
         or-cases (hasKind t 1 x) (ownParameter t e x || presentVariable t e x) s (kind-seen (ownKinds (roleIn e)) 1 x (constant-seen (roleIn e)))
         (λ s. or-cases (ownParameter t e x) (presentVariable t e x) s
         (λ s. let p = parameter-owner t ok e x m s in own-seen (roleIn e) (machineNumber t e) (classOf t e) (refinedBy t e) (kindOf t x) says (p .1) (inr (p .0)))
-        (λ s. let p = and-split (hasKind t (1 + machineNumber t e) x) (not (eqb (classOf t e) 0)) s in
-        own-seen (roleIn e) (machineNumber t e) (classOf t e) (refinedBy t e) (kindOf t x) says (p .1) (inl (eqb→eq (kindOf t x) (1 + machineNumber t e) (p .0)))))
+        (λ s. let p = and-split (variableOf t (1 + machineNumber t e) x) (not (eqb (classOf t e) 0)) s in
+        own-seen (roleIn e) (machineNumber t e) (classOf t e) (refinedBy t e) (kindOf t x) says (p .1) (inl (p .0))))
       where
         says : RoleSays (machineNumber t e) (classOf t e) (refinedBy t e) (roleIn e)
         says = event-says t ok e (roleIn e) n refl
@@ -108,26 +135,27 @@ module _ (t : Rows) where
     -- a guard or an action of an event
     own-row-sees : (k e i : ℕ) (Q : ℕ → Bool) → T (named t 40 e) → i < t .size → t .tag i ≡ k → t .a i ≡ e → T (rootTag k)
         → ((x : ℕ) → T (seen t k i x) → T (eventSees t (t .a i) x)) → ((x : ℕ) → T (seenAfter t k i x) → T (Q x))
-        → T (mentions (λ x. ownKinds (roleIn e) (kindIn x)) Q (treeOf t (rootOf t k i)))
+        → T (mentions (among (machineOf t) (ownKinds (roleIn e))) Q (treeOf t (rootOf t k i)))
     own-row-sees k e i Q n h p q r f g =
-        row-sees k i (λ x. ownKinds (roleIn e) (kindIn x)) Q h p r (λ x m s. event-sees e x n m (subst (λ e. T (eventSees t e x)) q (f x s))) g
+        row-sees k i (among (machineOf t) (ownKinds (roleIn e))) Q h p r
+        (λ x m s. named-among (ownKinds (roleIn e)) x m (event-sees e x n m (subst (λ e. T (eventSees t e x)) q (f x s)))) g
 
     pub guards-see : (e : ℕ) → T (named t 40 e)
-        → All (λ r. T (mentions (λ x. ownKinds (roleIn e) (kindNumbered (kindOf t x))) never (treeOf t r))) (map (t .b) (belonging t 50 e))
+        → All (λ r. T (mentions (among (machineOf t) (ownKinds (roleIn e))) never (treeOf t r))) (map (t .b) (belonging t 50 e))
     guards-see e n =
         all-map (t .b) (all-in (belonging t 50 e) (λ i j.
         let q = belonging-row t 50 e i j in own-row-sees 50 e i never n (q .0) (q .1) (q .2) tt (λ x s. s) (λ x s. s)))
 
     -- the variables of an event's machine
-    pub variable-kind : (e x : ℕ) → T (named t 40 e) → In x (ownVariables (machineOf t) (roleIn e)) → T (named t 10 x) × (kindOf t x ≡ 1 + machineNumber t e)
+    pub variable-kind : (e x : ℕ) → T (named t 40 e) → In x (ownVariables (machineOf t) (roleIn e)) → T (named t 10 x) × T (variableOf t (1 + machineNumber t e) x)
     unfolding machineOf
     variable-kind e x n = go (roleIn e) (event-says t ok e (roleIn e) n refl)
       where
-        of : (kind : ℕ) → kind ≡ 1 + machineNumber t e → In x (identifiersOf t kind) → T (named t 10 x) × (kindOf t x ≡ 1 + machineNumber t e)
-        of kind q i = let p = identifier-named t kind x i in (p .0, p .1 ∙ q)
+        of : (own : ℕ) → own ≡ 1 + machineNumber t e → In x (variablesOf t own) → T (named t 10 x) × T (variableOf t (1 + machineNumber t e) x)
+        of own q i = let p = variable-named t own x i in (p .0, subst (λ own. T (variableOf t own x)) q (p .1))
 
         go : (ro : Role) → RoleSays (machineNumber t e) (classOf t e) (refinedBy t e) ro → In x (ownVariables (machineOf t) ro)
-            → T (named t 10 x) × (kindOf t x ≡ 1 + machineNumber t e)
+            → T (named t 10 x) × T (variableOf t (1 + machineNumber t e) x)
         go abstractInitialisation s i = of 2 (omega (arith, s .0)) i
         go abstractOrdinary s i = of 2 (omega (arith, s .0)) i
         go (concreteInitialisation f) s i = of 3 (omega (arith, s .0)) i
@@ -143,8 +171,8 @@ module _ (t : Rows) where
         sort-type t (t .c i) (named-bounds t 20 (t .c i) root .0) (subst (λ s. T (isType s)) (sym q) (identifier-type t ok x m)) ∙ ap typeNumbered q
 
     -- a variable that its event leaves alone is seen: the event is no initialisation, which assigns all
-    unassigned-seen : (e x : ℕ) → T (named t 40 e) → T (named t 10 x) → kindOf t x ≡ 1 + machineNumber t e → ((i : ℕ) → i < t .size → T (sets t e x i) → ⊥)
-        → T (ownKinds (roleIn e) (kindIn x))
+    unassigned-seen : (e x : ℕ) → T (named t 40 e) → T (named t 10 x) → T (variableOf t (1 + machineNumber t e) x)
+        → ((i : ℕ) → i < t .size → T (sets t e x i) → ⊥) → T (ownKinds (roleIn e) (kindIn x))
     unassigned-seen e x n m k none =
         own-seen (roleIn e) (machineNumber t e) (classOf t e) (refinedBy t e) (kindOf t x) (event-says t ok e (roleIn e) n refl)
         (not-T (eqb (classOf t e) 0) initial) (inl k)
@@ -154,7 +182,7 @@ module _ (t : Rows) where
             let r = some-found (sets t e x) (t .size) (initial-action t ok e x n (eqb→eq (classOf t e) 0 c) m k) in
             none (r .0) (r .1) (r .2)
 
-    pub action-sees : (e x : ℕ) → T (named t 40 e) → T (named t 10 x) → kindOf t x ≡ 1 + machineNumber t e
+    pub action-sees : (e x : ℕ) → T (named t 40 e) → T (named t 10 x) → T (variableOf t (1 + machineNumber t e) x)
         → ActionSees (machineOf t) (ownKinds (roleIn e)) x (actionOf t e x)
     unfolding machineOf
     action-sees e x n m k =
@@ -162,22 +190,23 @@ module _ (t : Rows) where
         (λ i by. (own-row-sees 51 e i never n (by .inside) (by .tagIs) (by .eventIs) tt (λ y s. s) (λ y s. s), equal-type e x i m by))
         (λ i by. own-row-sees 52 e i (eqb x) n (by .inside) (by .tagIs) (by .eventIs) tt (λ y s. s)
         (λ y s. eq→eqb x y (sym (eqb→eq y (t .b i) s ∙ by .variableIs))))
-        (λ none. unassigned-seen e x n m k none)
+        (λ none. named-among (ownKinds (roleIn e)) x m (unassigned-seen e x n m k none))
 
     -- "parameter witness, constants, concrete variables, the concrete event's parameters and its own identifier; variable witness, the same with concrete
     -- after values, and its own after value in place of the identifier"
-    concrete-seen : (e x : ℕ) → T (named t 40 e) → T (named t 10 x) → machineNumber t e ≡ 2 → T (eventSees t e x) → T (kinds true false true false true (kindIn x))
+    concrete-seen : (e x : ℕ) → T (named t 40 e) → T (named t 10 x) → machineNumber t e ≡ 2 → T (eventSees t e x) → T (concreteMachine (kindIn x))
     concrete-seen e x n m q s = go (roleIn e) (event-says t ok e (roleIn e) n refl) (event-sees e x n m s)
       where
-        only : (K : Kind) → T (kinds true false false false false K) → T (kinds true false true false true K)
+        only : (K : Kind) → T (constants K) → T (concreteMachine K)
         only constantKind h = tt
         only abstractVariable h = absurd h
         only concreteVariable h = tt
         only abstractParameter h = absurd h
         only concreteParameter h = tt
+        only sharedVariable h = tt
 
         go : (ro : Role) → RoleSays (machineNumber t e) (classOf t e) (refinedBy t e) ro → T (ownKinds ro (kindIn x))
-            → T (kinds true false true false true (kindIn x))
+            → T (concreteMachine (kindIn x))
         go abstractInitialisation s h = only (kindIn x) h
         go abstractOrdinary s h = absurd (omega (arith, s .0))
         go (concreteInitialisation f) s h = only (kindIn x) h
@@ -202,15 +231,15 @@ module _ (t : Rows) where
               (λ p. or-right (hasKind t 2 x) (hasKind t 4 x) (and-split (hasKind t 4 x) (eqb (ownerOf t x) (refinedBy t e)) p .0)),
         )
 
-    pub witness-hidden : (e i : ℕ) → In i (belonging t 60 e) → T (kinds false true false true false (kindNumbered (kindOf t (t .b i))))
+    pub witness-hidden : (e i : ℕ) → In i (belonging t 60 e) → T (hiddenKinds (kindNumbered (kindOf t (t .b i))))
     unfolding kindNumbered
     witness-hidden e i j =
         or-cases (hasKind t 2 (t .b i)) (hasKind t 4 (t .b i)) (witness-target e i j .2)
-        (kind-seen (kinds false true false true false) 2 (t .b i) tt) (kind-seen (kinds false true false true false) 4 (t .b i) tt)
+        (kind-seen hiddenKinds 2 (t .b i) tt) (kind-seen hiddenKinds 4 (t .b i) tt)
 
     pub witness-sees : (e i : ℕ) → In i (belonging t 60 e)
-        → T (mentions (λ y. kinds true false true false true (kindNumbered (kindOf t y)) || eqb y (t .b i))
-        (λ y. kinds false false true false false (kindNumbered (kindOf t y)) || eqb y (t .b i)) (treeOf t (t .c i)))
+        → T (mentions (λ y. concreteMachine (kindNumbered (kindOf t y)) || eqb y (t .b i))
+        (λ y. concreteVariables (kindNumbered (kindOf t y)) || eqb y (t .b i)) (treeOf t (t .c i)))
     unfolding kindNumbered
     witness-sees e i j = row-sees 60 i _ _ (q .0) (q .1) tt present after
       where
@@ -220,15 +249,15 @@ module _ (t : Rows) where
         w : T (named t 40 e) × (machineNumber t e ≡ 2) × T (hasKind t 2 (t .b i) || hasKind t 4 (t .b i))
         w = witness-target e i j
 
-        present : (y : ℕ) → T (named t 10 y) → T (seen t 60 i y) → T (kinds true false true false true (kindIn y) || eqb y (t .b i))
+        present : (y : ℕ) → T (named t 10 y) → T (seen t 60 i y) → T (concreteMachine (kindIn y) || eqb y (t .b i))
         present y m s =
             or-cases (eventSees t (t .a i) y) (hasKind t 4 y && eqb y (t .b i)) s
-            (λ p. or-left (kinds true false true false true (kindIn y)) (eqb y (t .b i))
+            (λ p. or-left (concreteMachine (kindIn y)) (eqb y (t .b i))
             (concrete-seen e y (w .0) m (w .1) (subst (λ e. T (eventSees t e y)) (q .2) p)))
-            (λ p. or-right (kinds true false true false true (kindIn y)) (eqb y (t .b i)) (and-split (hasKind t 4 y) (eqb y (t .b i)) p .1))
+            (λ p. or-right (concreteMachine (kindIn y)) (eqb y (t .b i)) (and-split (hasKind t 4 y) (eqb y (t .b i)) p .1))
 
-        after : (y : ℕ) → T (seenAfter t 60 i y) → T (kinds false false true false false (kindIn y) || eqb y (t .b i))
+        after : (y : ℕ) → T (seenAfter t 60 i y) → T (concreteVariables (kindIn y) || eqb y (t .b i))
         after y s =
-            or-cases (hasKind t 3 y) (eqb y (t .b i)) (and-split (hasKind t 2 (t .b i)) (hasKind t 3 y || eqb y (t .b i)) s .1)
-            (λ p. or-left (kinds false false true false false (kindIn y)) (eqb y (t .b i)) (kind-seen (kinds false false true false false) 3 y tt p))
-            (or-right (kinds false false true false false (kindIn y)) (eqb y (t .b i)))
+            or-cases (variableOf t 3 y) (eqb y (t .b i)) (and-split (hasKind t 2 (t .b i)) (variableOf t 3 y || eqb y (t .b i)) s .1)
+            (λ p. or-left (concreteVariables (kindIn y)) (eqb y (t .b i)) (variable-seen concreteVariables 3 y tt tt p))
+            (or-right (concreteVariables (kindIn y)) (eqb y (t .b i)))

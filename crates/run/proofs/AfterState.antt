@@ -11,33 +11,35 @@ use Rattle.formula.specs.Values.{asTruth}
 use Rattle.formula.specs.Evaluate.{Env, evaluate}
 use Rattle.formula.specs.AfterValues.{atAfter}
 use Rattle.formula.proofs.Mentions.{Agree, evaluate-agree}
+use Rattle.formula.proofs.Truth.{and-split}
 use Rattle.formula.proofs.AfterValues.{advance, evaluate-at-after}
-use Rattle.machine.specs.Machine.{Kind, constantKind, abstractVariable, concreteVariable, abstractParameter, concreteParameter, isVariable, Machine}
+use Rattle.machine.specs.Machine.{Kind, constantKind, abstractVariable, concreteVariable, abstractParameter, concreteParameter, sharedVariable, isVariable, Machine}
 use Rattle.sequent.specs.Entry.{primed, variable}
 use Rattle.sequent.specs.Sequent.{Meets}
 use Rattle.run.specs.Run.{byKind, blankValue, State, blank, world}
-use Rattle.run.proofs.WellFormed.{never, Sees}
+use Rattle.run.proofs.WellFormed.{never, among, Sees}
 use Rattle.run.proofs.Reading.{AllTrue}
 
-by-kind-after : {A : Type 0} (S : Kind → Bool) (K : Kind) (z c a k q p a′ k′ a₂ k₂ : A) →
-    (T (S abstractVariable) → a′ ≡ a₂) → (T (S concreteVariable) → k′ ≡ k₂) → (T (S abstractParameter) → ⊥) → (T (S concreteParameter) → ⊥) →
-    T (S K) → pick (isVariable K) (byKind K z a′ k′ z z) (byKind K c a k q p) ≡ byKind K c a₂ k₂ z z
-by-kind-after S constantKind z c a k q p a′ k′ a₂ k₂ ha hk nq np t = refl
-by-kind-after S abstractVariable z c a k q p a′ k′ a₂ k₂ ha hk nq np t = ha t
-by-kind-after S concreteVariable z c a k q p a′ k′ a₂ k₂ ha hk nq np t = hk t
-by-kind-after S abstractParameter z c a k q p a′ k′ a₂ k₂ ha hk nq np t = absurd (nq t)
-by-kind-after S concreteParameter z c a k q p a′ k′ a₂ k₂ ha hk nq np t = absurd (np t)
+by-kind-after : {A : Type 0} (S : Kind → Bool) (K : Kind) (z c a k q p a′ k′ a₂ : A) →
+    (T (S abstractVariable) → a′ ≡ a₂) → (T (S abstractParameter) → ⊥) → (T (S concreteParameter) → ⊥) →
+    T (S K) → pick (isVariable K) (byKind K z a′ k′ z z k′) (byKind K c a k q p k) ≡ byKind K c a₂ k′ z z k′
+by-kind-after S constantKind z c a k q p a′ k′ a₂ ha nq np t = refl
+by-kind-after S abstractVariable z c a k q p a′ k′ a₂ ha nq np t = ha t
+by-kind-after S concreteVariable z c a k q p a′ k′ a₂ ha nq np t = refl
+by-kind-after S abstractParameter z c a k q p a′ k′ a₂ ha nq np t = absurd (nq t)
+by-kind-after S concreteParameter z c a k q p a′ k′ a₂ ha nq np t = absurd (np t)
+by-kind-after S sharedVariable z c a k q p a′ k′ a₂ ha nq np t = refl
 
--- S holds no parameters; where it holds a machine's variables, a₂ or k₂ is that machine's state after the step
-module _ (m : Machine) (S : Kind → Bool) (nq : T (S abstractParameter) → ⊥) (np : T (S concreteParameter) → ⊥) (c a k q p a′ k′ a₂ k₂ : State m)
-    (ha : T (S abstractVariable) → a′ ≡ a₂) (hk : T (S concreteVariable) → k′ ≡ k₂) where
+-- S holds no parameters; where it holds the abstract machine's variables, a₂ is that machine's state after the step
+module _ (m : Machine) (S : Kind → Bool) (nq : T (S abstractParameter) → ⊥) (np : T (S concreteParameter) → ⊥) (c a k q p a′ k′ a₂ : State m)
+    (ha : T (S abstractVariable) → a′ ≡ a₂) where
   abbrev result : Env (m .type)
-  result = world m c a₂ k₂ (blank m) (blank m) (blank m) (blank m)
+  result = world m c a₂ k′ (blank m) (blank m) (blank m) (blank m)
 
-  advance-agree : Agree (λ x. S (m .kind x)) never (advance (variable m) (world m c a k q p a′ k′)) result
+  advance-agree : Agree (among m S) never (advance (variable m) (world m c a k q p a′ k′)) result
   advance-agree = record {
-    present = λ x t. by-kind-after S (m .kind x) (blankValue (m .type x)) (c x) (a x) (k x) (q x) (p x) (a′ x) (k′ x) (a₂ x) (k₂ x)
-        (λ s. ap (λ f. f x) (ha s)) (λ s. ap (λ f. f x) (hk s)) nq np t;
+    present = λ x t. by-kind-after S (m .kind x) (blankValue (m .type x)) (c x) (a x) (k x) (q x) (p x) (a′ x) (k′ x) (a₂ x)
+        (λ s. ap (λ f. f x) (ha s)) nq np (and-split (S (m .kind x)) _ t .0);
     after = λ x t. absurd t;
   }
 

@@ -14,7 +14,7 @@ use Rattle.formula.proofs.Mentions.{Agree, evaluate-agree, read-agree}
 use Rattle.machine.specs.Machine.{Kind, Action, unassigned, becomesEqual, becomesSuchThat, Machine}
 use Rattle.sequent.specs.Entry.{actionTree}
 use Rattle.run.specs.Run.{Defined, AllReadTrue, NoneUndefined, ActionDefined}
-use Rattle.run.proofs.WellFormed.{never, ActionSees}
+use Rattle.run.proofs.WellFormed.{never, among, ActionSees}
 use Rattle.run.proofs.Reading.{AllTrue}
 
 module _ (m : Machine) {P Q : ℕ → Bool} (ρ σ : Env (m .type)) (h : Agree P Q ρ σ) where
@@ -41,8 +41,8 @@ module _ (m : Machine) {P Q : ℕ → Bool} (ρ σ : Env (m .type)) (h : Agree P
       (defined-agree r s (t .0), λ e. none-undefined-agree ss (t .1 (read-agree ρ σ h (m .tree r) s ∙ e)))
 
 -- an action of the variable x, whose after value it may mention
-module _ (m : Machine) (S : Kind → Bool) (x : ℕ) (ρ σ : Env (m .type)) (h : Agree (λ y. S (m .kind y)) (eqb x) ρ σ) where
-  present-agree : Agree (λ y. S (m .kind y)) never ρ σ
+module _ (m : Machine) (S : Kind → Bool) (x : ℕ) (ρ σ : Env (m .type)) (h : Agree (among m S) (eqb x) ρ σ) where
+  present-agree : Agree (among m S) never ρ σ
   present-agree = record { present = h .present; after = λ y t. absurd t }
 
   pub action-true-agree : (A : Action) → ActionSees m S x A → True ρ (actionTree m A x) → True σ (actionTree m A x)

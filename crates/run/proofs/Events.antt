@@ -7,18 +7,18 @@ use Rattle.lists.proofs.All.{all-left, all-right, all-at, all-imp, all-unmap, a
 use Rattle.machine.specs.Machine.{Machine, Role, abstractInitialisation, abstractOrdinary, concreteInitialisation, refining, convergent, anticipated}
 use Rattle.sequent.specs.Entry.{written, primed, defined, moves}
 use Rattle.sequent.specs.Sequent.{Valid, sequent, WD, INV, GRD, SIM}
-use Rattle.sequent.specs.Listed.{inOrder, actionWD, actionFIS, matching, refined, allWritten, base, guarded, moved}
-use Rattle.sequent.specs.Listed.{witnessEntries, witnessSequents, parameterWitnesses, grd, sim, invHypotheses, inv, variantSequents, eventSequents}
+use Rattle.sequent.specs.Listed.{inOrder, actionWD, actionFIS, refined, allWritten, base, guarded, moved}
+use Rattle.sequent.specs.Listed.{witnessEntries, witnessSequents, parameterWitnesses, grd, simSequents, invHypotheses, inv, variantSequents, eventSequents}
 use Rattle.sequent.specs.Listed.{formulas, sequents}
 use Rattle.sequent.specs.Required.{ownInvariants, ownVariables}
-use Rattle.run.proofs.WellFormed.{ownKinds, never, variableKind, Sees, ActionSees, WellFormed}
+use Rattle.run.proofs.WellFormed.{ownKinds, never, variableKind, Variable, Sees, ActionSees, WellFormed}
 
 module _ (m : Machine) (ro : Role) (e : ℕ) where
   -- what the formulas of an event with this role mention
   pub record EventSees : Type 0 where
     pub guards : All (Sees m (ownKinds ro) never) (m .guards e)
     pub actions : All (λ x. ActionSees m (ownKinds ro) x (m .action e x)) (ownVariables m ro)
-    pub kind : All (λ x. m .kind x ≡ variableKind ro) (ownVariables m ro)
+    pub kind : All (Variable m (variableKind ro)) (ownVariables m ro)
 
   -- the event's sequents are valid, kind by kind
   pub record EventValid : Type 0 where
@@ -28,8 +28,7 @@ module _ (m : Machine) (ro : Role) (e : ℕ) where
     pub witnesses : All (λ w. All (Valid m) (witnessSequents m ro e w)) (m .witnesses e)
     pub strengthened : All (λ f. All (λ r. Valid m (sequent GRD e r (guarded m ro e ++ witnessEntries m (parameterWitnesses m e)) (written r))) (m .guards f))
         (refined ro)
-    pub simulated : All (λ f. All (λ x. Valid m (sequent SIM e x (moved m ro e ++ witnessEntries m (m .witnesses e)) (moves f x))) (m .abstractVariables))
-        (matching ro)
+    pub simulated : All (Valid m) (simSequents m ro e)
     pub invariant : All (λ r. Valid m (sequent INV e r (invHypotheses m ro e) (primed r))) (ownInvariants m ro)
     pub variant : All (Valid m) (variantSequents m ro e)
 
@@ -41,20 +40,20 @@ module _ (m : Machine) (ro : Role) (e : ℕ) where
       let v₄ = all-right (flatMap (λ x. actionFIS e x (guarded m ro e) (m .action e x)) (ownVariables m ro)) v₃ in
       let v₅ = all-right (flatMap (witnessSequents m ro e) (m .witnesses e)) v₄ in
       let v₆ = all-right (flatMap (grd m ro e) (refined ro)) v₅ in
-      let v₇ = all-right (flatMap (sim m ro e) (matching ro)) v₆ in
+      let v₇ = all-right (simSequents m ro e) v₆ in
       record {
         guards = all-left _ _ v₁;
         actions = all-unflat _ (ownVariables m ro) (all-left _ _ v₂);
         feasible = all-unflat _ (ownVariables m ro) (all-left _ _ v₃);
         witnesses = all-unflat _ (m .witnesses e) (all-left _ _ v₄);
         strengthened = all-imp (λ f v. all-unmap _ (m .guards f) v) (all-unflat _ (refined ro) (all-left _ _ v₅));
-        simulated = all-imp (λ f v. all-unmap _ (m .abstractVariables) v) (all-unflat _ (matching ro) (all-left _ _ v₆));
+        simulated = all-left _ _ v₆;
         invariant = all-unmap _ (ownInvariants m ro) (all-left _ _ v₇);
         variant = all-right (inv m ro e) v₇;
       }
 
 module _ (m : Machine) (wf : WellFormed m) where
-  variables-kind : (ro : Role) → All (λ x. m .kind x ≡ variableKind ro) (ownVariables m ro)
+  variables-kind : (ro : Role) → All (Variable m (variableKind ro)) (ownVariables m ro)
   variables-kind abstractInitialisation = wf .abstractVariablesKind
   variables-kind abstractOrdinary = wf .abstractVariablesKind
   variables-kind (concreteInitialisation f) = wf .concreteVariablesKind

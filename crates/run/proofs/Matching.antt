@@ -1,27 +1,33 @@
 -- One concrete step is matched and leaves a pair of states at which the invariants are true. With the hidden values that meet the witnesses, GRD and SIM
 -- make the abstract event's guards and moves true, so that it has a step there, and INV of both events holds in the same world.
-use mathlib.Core.Path.{_≡_, refl, sym, ap, subst}
+use mathlib.Core.Path.{_≡_, refl, sym, ap, subst, _∙_}
+use mathlib.Core.Bool.{not}
+use mathlib.Core.Logic.{⊎-elim}
 use mathlib.Core.List.{[], _++_, map}
 use Prim.Native.Nat.{ℕ, suc}
 use lib.Dec.{T}
 use Rattle.lists.specs.Choice.{pick}
 use Rattle.lists.specs.All.{All, all-nil, In, here}
 use Rattle.lists.proofs.All.{all-left, all-right, all-join, all-at, all-in, all-imp, all-map, all-unmap}
+use Rattle.lists.proofs.Below.{in-keep}
 use Rattle.formula.specs.Values.{wrap}
 use Rattle.formula.specs.Evaluate.{Env, evaluate, True}
 use Rattle.formula.proofs.Values.{eq-equal-value}
-use Rattle.machine.specs.Machine.{Machine, Role, abstractInitialisation, abstractOrdinary, concreteInitialisation, refining, convergent, anticipated}
-use Rattle.sequent.specs.Entry.{written, primed, moves, natural, decreases, notIncreased, actionTree}
+use Rattle.machine.specs.Machine.{Machine, abstractVariable, sharedVariable, isShared, sharedVariables, unsharedVariables, unassigned}
+use Rattle.machine.specs.Machine.{Role, abstractInitialisation, abstractOrdinary, concreteInitialisation, refining, convergent, anticipated}
+use Rattle.machine.proofs.Variables.{is-shared}
+use Rattle.sequent.specs.Entry.{written, primed, moves, natural, decreases, notIncreased, unchanged, actionTree}
 use Rattle.sequent.specs.Sequent.{Meets, Valid, sequent, NAT, VAR}
-use Rattle.sequent.specs.Listed.{matching, refined, base, guarded, moved, witnessEntries, invHypotheses, sequents}
+use Rattle.sequent.specs.Listed.{refined, base, guarded, moved, witnessEntries, sim, simNew, simSequents, invHypotheses, sequents}
 use Rattle.sequent.specs.Required.{isNew, ownInvariants}
-use Rattle.run.specs.Run.{State, blank, world, Step, ofRun, Match, Matches}
+use Rattle.run.specs.Run.{State, blank, world, Step, ofRun, Match, Matches, AgreeOnShared}
 use Rattle.run.specs.SafeRun.{isConvergent, ownState, notInitial, ofStretch, Bounded}
 use Rattle.run.proofs.WellFormed.{WitnessSees, WellFormed}
-use Rattle.run.proofs.Reading.{AllTrue}
+use Rattle.run.proofs.Reading.{AllTrue, true-allows}
+use Rattle.run.proofs.Views.{same-shared, Shares}
 use Rattle.run.proofs.Events.{EventValid, event-sees, events-valid}
 use Rattle.run.proofs.Steps.{step-moved, moved-step}
-use Rattle.run.proofs.Witnesses.{matched, hiddenValues, entries-true, parameter-entries-true}
+use Rattle.run.proofs.Witnesses.{matched, hiddenValues, shared-values, entries-true, parameter-entries-true}
 use Rattle.run.proofs.Pair.{AxiomsTrue, PairTrue, axioms-world, abstract-world, base-true, abstract-after, concrete-after, pair-safe}
 use Rattle.run.proofs.Variant.{convergent-bounded, anticipated-bounded}
 
@@ -47,9 +53,14 @@ module _ (m : Machine) (ro : Role) (e : ℕ) (ws : All (WitnessSees m e) (m .wit
       all-join (mv abstractValues abstractValues)
       (entries-true m c a k p k′ ro e ws valid (all-left _ _ (mv (blank m) (blank m))) (mv (blank m) (blank m)))
 
-  simulated-true : {f : ℕ} → In f (matching ro) → All (λ x. Meets m W (moves f x)) (m .abstractVariables)
+  simulated-true : (f : ℕ) → simSequents m ro e ≡ sim m ro e f → All (λ x. Meets m W (moves f x)) (m .abstractVariables)
   unfolding Valid
-  simulated-true i = all-imp (λ x v. v W witnessed-true) (all-at (valid .simulated) i)
+  simulated-true f p = all-imp (λ x v. v W witnessed-true) (all-unmap _ (m .abstractVariables) (subst (All (Valid m)) p (valid .simulated)))
+
+  -- they agree with the concrete machine's on the shared variables
+  agree-after : AgreeOnShared m abstractValues k′
+  unfolding abstractValues
+  agree-after = shared-values m c a k p k′ ro e ws valid (all-left _ _ (mv (blank m) (blank m))) (mv (blank m) (blank m))
 
   strengthened-true : {f : ℕ} → In f (refined ro) → AllTrue m W (m .guards f)
   unfolding Valid abstractValues
@@ -76,9 +87,9 @@ module _ (m : Machine) where
 module _ (m : Machine) (wf : WellFormed m) (vs : All (Valid m) (sequents m)) where
   -- the guards and moves of a step from the pair are true, beside whatever the other machine does
   moved-true : (e : ℕ) → In e (m .events) → {ro : Role} → m .role e ≡ ro → T (notInitial m ro) → (c a k q p a′ k′ : State m) → PairTrue m c a k
-      → Step m ro e c (ownState m ro a k) (ownState m ro q p) (ownState m ro a′ k′) → All (Meets m (world m c a k q p a′ k′)) (moved m ro e)
-  moved-true e i {ro} role l c a k q p a′ k′ h s =
-      step-moved m ro e (event-sees m wf e i role) c a k q p a′ k′ (ownState m ro q p) (λ t. refl) (base-true m wf c a k h q p a′ k′ ro l) s
+      → Shares m ro a′ k′ → Step m ro e c (ownState m ro a k) (ownState m ro q p) (ownState m ro a′ k′) → All (Meets m (world m c a k q p a′ k′)) (moved m ro e)
+  moved-true e i {ro} role l c a k q p a′ k′ h z s =
+      step-moved m ro e (event-sees m wf e i role) c a k q p a′ k′ (ownState m ro q p) (λ t. refl) (λ t. h .shared) z (base-true m wf c a k h q p a′ k′ ro l) s
 
   refining-matched : (e f : ℕ) → In e (m .events) → m .role e ≡ refining f → (c a k p k′ : State m) → PairTrue m c a k → Step m (refining f) e c k p k′
       → Matched m (refining f) c a k k′
@@ -87,23 +98,25 @@ module _ (m : Machine) (wf : WellFormed m) (vs : All (Valid m) (sequents m)) whe
       let ws = wf .witnessesSee e i in
       let valid = events-valid m vs e i role in
       let valid′ = events-valid m vs f j abstract in
-      let mv : (q a′ : State m) → All (Meets m (world m c a k q p a′ k′)) (moved m (refining f) e) = λ q a′. moved-true e i role tt c a k q p a′ k′ h s in
+      let mv : (q a′ : State m) → All (Meets m (world m c a k q p a′ k′)) (moved m (refining f) e) = λ q a′. moved-true e i role tt c a k q p a′ k′ h (λ t. absurd t) s in
       let w : State m = abstractValues m (refining f) e ws valid c a k p k′ mv in
       let ρ : Env (m .type) = matched m c a k p k′ w in
+      let same : AgreeOnShared m w k′ = agree-after m (refining f) e ws valid c a k p k′ mv in
       let b : All (Meets m ρ) (base m abstractOrdinary) = base-true m wf c a k h w p w k′ abstractOrdinary tt in
       let g : AllTrue m ρ (m .guards f) = strengthened-true m (refining f) e ws valid c a k p k′ mv (here refl) in
-      let ts : All (λ x. Meets m ρ (moves f x)) (m .abstractVariables) = simulated-true m (refining f) e ws valid c a k p k′ mv (here refl) in
+      let ts : All (λ x. Meets m ρ (moves f x)) (m .abstractVariables) = simulated-true m (refining f) e ws valid c a k p k′ mv f refl in
       let known : All (Meets m ρ) (moved m abstractOrdinary f) = all-join (all-join b (all-map written g)) (all-map (moves f) ts) in
       record {
         match = record { parameters = w; result = w };
         pair = record {
+          shared = same;
           axioms = h .axioms;
           abstractInvariants =
               abstract-after m wf c a k w p w k′ (invariants-true m abstractOrdinary f valid′ ρ (unwitnessed-true m abstractOrdinary f ρ none known));
           concreteInvariants =
               concrete-after m wf c a k w p w k′ (invariants-true m (refining f) e valid ρ (witnessed-true m (refining f) e ws valid c a k p k′ mv));
         };
-        matches = (j, abstract, moved-step m abstractOrdinary f (event-sees m wf f j abstract) c a k w p w k′ w (λ t. refl) valid′ b g ts);
+        matches = (j, abstract, moved-step m abstractOrdinary f (event-sees m wf f j abstract) c a k w p w k′ w (λ t. refl) (λ t. h .shared) (λ t. same) valid′ b g ts);
         bounded = λ t. absurd t;
       }
 
@@ -118,16 +131,18 @@ module _ (m : Machine) (wf : WellFormed m) (vs : All (Valid m) (sequents m)) whe
       let valid = events-valid m vs e i role in
       let valid′ = events-valid m vs f j abstract in
       let mv : (q a′ : State m) → All (Meets m (world m c z z q z a′ k′)) (moved m (concreteInitialisation f) e) =
-      λ q a′. step-moved m (concreteInitialisation f) e (event-sees m wf e i role) c z z q z a′ k′ z (λ t. absurd t)
+      λ q a′. step-moved m (concreteInitialisation f) e (event-sees m wf e i role) c z z q z a′ k′ z (λ t. absurd t) (λ t. absurd t) (λ t. absurd t)
       (all-map written (axioms-world m wf c x z z q z a′ k′)) s in
       let w : State m = abstractValues m (concreteInitialisation f) e ws valid c z z z k′ mv in
       let ρ : Env (m .type) = matched m c z z z k′ w in
+      let same : AgreeOnShared m w k′ = agree-after m (concreteInitialisation f) e ws valid c z z z k′ mv in
       let b : All (Meets m ρ) (base m abstractInitialisation) = all-map written (axioms-world m wf c x z z w z w k′) in
       let g : AllTrue m ρ (m .guards f) = subst (AllTrue m ρ) (sym free) all-nil in
-      let ts : All (λ x. Meets m ρ (moves f x)) (m .abstractVariables) = simulated-true m (concreteInitialisation f) e ws valid c z z z k′ mv (here refl) in
+      let ts : All (λ x. Meets m ρ (moves f x)) (m .abstractVariables) = simulated-true m (concreteInitialisation f) e ws valid c z z z k′ mv f refl in
       let known : All (Meets m ρ) (moved m abstractInitialisation f) = all-join (all-join b (all-map written g)) (all-map (moves f) ts) in (
         w,
         record {
+          shared = same;
           axioms = x;
           abstractInvariants =
               abstract-after m wf c z z w z w k′
@@ -136,31 +151,66 @@ module _ (m : Machine) (wf : WellFormed m) (vs : All (Valid m) (sequents m)) whe
               concrete-after m wf c z z w z w k′
               (invariants-true m (concreteInitialisation f) e valid ρ (witnessed-true m (concreteInitialisation f) e ws valid c z z z k′ mv));
         },
-        moved-step m abstractInitialisation f (event-sees m wf f j abstract) c z z w z w k′ z (λ t. absurd t) valid′ b g ts,
+        moved-step m abstractInitialisation f (event-sees m wf f j abstract) c z z w z w k′ z (λ t. absurd t) (λ t. same-shared m z) (λ t. same) valid′ b g ts,
       )
+
+  -- a variable of the abstract machine that is not shared is of its own kind
+  unshared-kind : (x : ℕ) → In x (unsharedVariables m) → m .kind x ≡ abstractVariable
+  unshared-kind x i =
+      let (j, other) = in-keep (λ x. not (isShared (m .kind x))) (m .abstractVariables) i in
+      ⊎-elim (λ e. e) (λ e. absurd (subst (λ K. T (not (isShared K))) (e .0) other)) (all-at (wf .abstractVariablesKind) j)
 
   -- a new event's abstract variables keep their values
   stays-true : (e : ℕ) → In e (m .events) → T (isNew (m .role e)) → (c a k q p k′ : State m)
-      → All (Meets m (world m c a k q p a k′)) (map (moves e) (m .abstractVariables))
+      → All (Meets m (world m c a k q p a k′)) (map (moves e) (unsharedVariables m))
   unfolding evaluate
-  stays-true e i new c a k q p k′ = all-map (moves e) (all-in (m .abstractVariables) (λ x j.
+  stays-true e i new c a k q p k′ = all-map (moves e) (all-in (unsharedVariables m) (λ x j.
       let ρ : Env (m .type) = world m c a k q p a k′ in
-      let kept : ρ .after x ≡ ρ .present x = rw (all-at (wf .abstractVariablesKind) j) in
+      let kept : ρ .after x ≡ ρ .present x = rw (unshared-kind x j) in
       subst (λ A. True ρ (actionTree m A x)) (sym (all-at (wf .newStays e i new) j)) (eq-equal-value _ _ (ap (wrap (m .type x)) kept))))
+
+  -- by its SIM its shared variables keep theirs
+  shared-stays : (ro : Role) (e : ℕ) → In e (m .events) → m .role e ≡ ro → T (isNew ro) → (c a k q p a′ k′ : State m)
+      → All (Meets m (world m c a k q p a′ k′)) (moved m ro e) → AgreeOnShared m k k′
+  unfolding Valid
+  shared-stays ro e i role new c a k q p a′ k′ mv = all-in (sharedVariables m) (λ x j.
+      go x (is-shared (m .kind x) (in-keep (λ x. isShared (m .kind x)) (m .abstractVariables) j .1))
+      (all-at (all-unmap _ (sharedVariables m) (subst (All (Valid m)) (new-sims ro new) (events-valid m vs e i role .simulated))) j ρ mv))
+    where
+      ρ : Env (m .type)
+      ρ = world m c a k q p a′ k′
+
+      new-sims : (ro : Role) → T (isNew ro) → simSequents m ro e ≡ simNew m ro e
+      new-sims abstractInitialisation t = absurd t
+      new-sims abstractOrdinary t = absurd t
+      new-sims (concreteInitialisation f) t = absurd t
+      new-sims (refining f) t = absurd t
+      new-sims convergent t = refl
+      new-sims anticipated t = refl
+
+      go : (x : ℕ) → m .kind x ≡ sharedVariable → Meets m ρ (unchanged x) → k x ≡ k′ x
+      go x q h =
+          let before : ρ .present x ≡ k x = rw q in
+          let later : ρ .after x ≡ k′ x = rw q in
+          sym before ∙ sym (true-allows m ρ x unassigned tt h) ∙ later
 
   -- after a new event's step the invariants are true, with the abstract state as it was
   new-pair : (ro : Role) (e : ℕ) → In e (m .events) → m .role e ≡ ro → T (isNew ro) → (c a k p k′ : State m) → PairTrue m c a k
       → All (Meets m (world m c a k (blank m) p a k′)) (moved m ro e) → PairTrue m c a k′
   new-pair ro e i role new c a k p k′ h mv = record {
+    shared = all-in (sharedVariables m) (λ x j. all-at (h .shared) j ∙ all-at stay j);
     axioms = h .axioms;
-    abstractInvariants = abstract-world m wf c a k h k′ _ _ _ _;
+    abstractInvariants = abstract-world m wf c a k h k′ _ _ _ _ stay;
     concreteInvariants = concrete-after m wf c a k (blank m) p a k′ (go ro new (events-valid m vs e i role) mv);
   }
     where
       ρ : Env (m .type)
       ρ = world m c a k (blank m) p a k′
 
-      stays : All (Meets m ρ) (map (moves e) (m .abstractVariables))
+      stay : AgreeOnShared m k k′
+      stay = shared-stays ro e i role new c a k (blank m) p a k′ mv
+
+      stays : All (Meets m ρ) (map (moves e) (unsharedVariables m))
       stays = stays-true e i (subst (λ o. T (isNew o)) (sym role) new) c a k (blank m) p k′
 
       go : (ro : Role) → T (isNew ro) → EventValid m ro e → All (Meets m ρ) (moved m ro e) → All (λ r. Meets m ρ (primed r)) (m .concreteInvariants)
@@ -177,7 +227,7 @@ module _ (m : Machine) (wf : WellFormed m) (vs : All (Valid m) (sequents m)) whe
   convergent-matched e i role c a k p k′ h s =
       let valid = events-valid m vs e i role in
       let ρ : Env (m .type) = world m c a k (blank m) p a k′ in
-      let mv : All (Meets m ρ) (moved m convergent e) = moved-true e i role tt c a k (blank m) p a k′ h s in
+      let mv : All (Meets m ρ) (moved m convergent e) = moved-true e i role tt c a k (blank m) p a k′ h (λ t. absurd t) s in
       let ns = all-unmap (λ r. sequent NAT e r (guarded m convergent e) (natural r)) (m .variants) (all-left _ _ (valid .variant)) in
       let fs = all-unmap (λ r. sequent VAR e r (moved m convergent e) (decreases r)) (m .variants)
       (all-right (map (λ r. sequent NAT e r (guarded m convergent e) (natural r)) (m .variants)) (valid .variant)) in
@@ -195,7 +245,7 @@ module _ (m : Machine) (wf : WellFormed m) (vs : All (Valid m) (sequents m)) whe
   unfolding Valid
   anticipated-matched e i role c a k p k′ h s =
       let ρ : Env (m .type) = world m c a k (blank m) p a k′ in
-      let mv : All (Meets m ρ) (moved m anticipated e) = moved-true e i role tt c a k (blank m) p a k′ h s in
+      let mv : All (Meets m ρ) (moved m anticipated e) = moved-true e i role tt c a k (blank m) p a k′ h (λ t. absurd t) s in
       let ks = all-unmap (λ r. sequent VAR e r (moved m anticipated e) (notIncreased r)) (m .variants) (events-valid m vs e i role .variant) in
       record {
         match = record { parameters = blank m; result = a };

@@ -14,6 +14,7 @@ use Rattle.run.specs.SafeRun.{EventSafe, StretchesBounded, Along, RunsSa
 use Rattle.run.proofs.WellFormed.{WellFormed}
 use Rattle.run.proofs.Reading.{all-read-true}
 use Rattle.run.proofs.Events.{event-sees, events-valid}
+use Rattle.run.proofs.Views.{same-shared}
 use Rattle.run.proofs.Successor.{event-safe}
 use Rattle.run.proofs.Pair.{pairOf, AxiomsTrue, PairTrue, axioms-world, pair-safe}
 use Rattle.run.proofs.Matching.{initialisation-matched, step-matched}
@@ -37,11 +38,11 @@ module _ (m : Machine) (wf : WellFormed m) (vs : All (Valid m) (sequents m)) whe
       let (j, abstract, free, _, _) = wf .initialises e f i role in
       let axioms : AxiomsTrue m c = all-read-true m (pairOf m c z z) x in
       let concrete : EventSafe m (concreteInitialisation f) e c z z =
-      event-safe m (concreteInitialisation f) e (event-sees m wf e i role) (events-valid m vs e i role) c z z z
+      event-safe m (concreteInitialisation f) e (event-sees m wf e i role) (events-valid m vs e i role) c z z z (λ t. absurd t)
       (λ n. all-map written (axioms-world m wf c axioms z z z z n n)) in
       record {
         concreteStart = concrete;
-        abstractStart = event-safe m abstractInitialisation f (event-sees m wf f j abstract) (events-valid m vs f j abstract) c z z z
+        abstractStart = event-safe m abstractInitialisation f (event-sees m wf f j abstract) (events-valid m vs f j abstract) c z z z (λ t. same-shared m z)
             (λ n. all-map written (axioms-world m wf c axioms z z z z n n));
         outcome = concrete .successor (subst (AllReadTrue m (view m (concreteInitialisation f) c z z z)) (sym free) all-nil);
         runs = λ k s ss fo.

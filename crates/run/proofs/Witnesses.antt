@@ -9,22 +9,24 @@ use lib.Dec.{T, eqb, eqb→eq}
 use Rattle.lists.specs.Choice.{pick}
 use Rattle.lists.specs.All.{All, In}
 use Rattle.lists.proofs.All.{all-head, all-tail, all-at, all-in, all-imp, all-map, in-map}
+use Rattle.lists.proofs.Below.{in-keep}
+use Rattle.lists.proofs.Choice.{chosen as chosen-first, not-chosen}
 use Rattle.lists.proofs.Keep.{all-keep}
 use Rattle.formula.specs.Values.{Value}
 use Rattle.formula.specs.Tree.{Tree}
 use Rattle.formula.specs.Evaluate.{Env, withPresent, withAfter, override, True}
 use Rattle.formula.specs.Formula.{someValue, someAfterValue, Holds}
-use Rattle.formula.proofs.Truth.{or-either}
+use Rattle.formula.proofs.Truth.{or-either, test-true}
 use Rattle.formula.proofs.Mentions.{Agree}
 use Rattle.formula.proofs.Override.{override-same, override-other}
 use Rattle.formula.proofs.Choose.{choose-present, choose-after}
-use Rattle.machine.specs.Machine.{Kind, constantKind, abstractVariable, concreteVariable, abstractParameter, concreteParameter, isVariable}
-use Rattle.machine.specs.Machine.{Machine, Role}
+use Rattle.machine.specs.Machine.{Kind, constantKind, abstractVariable, concreteVariable, abstractParameter, concreteParameter, sharedVariable, isVariable, isShared}
+use Rattle.machine.specs.Machine.{Machine, Role, sharedVariables}
 use Rattle.sequent.specs.Entry.{written, witnessed, variable, witnessTree}
 use Rattle.sequent.specs.Sequent.{Meets, Valid, sequent, WFIS}
 use Rattle.sequent.specs.Listed.{guarded, moved, witnessEntries, parameterWitnesses}
-use Rattle.run.specs.Run.{State, blank, world}
-use Rattle.run.proofs.WellFormed.{kinds, WitnessSees}
+use Rattle.run.specs.Run.{State, blank, world, AgreeOnShared}
+use Rattle.run.proofs.WellFormed.{concreteMachine, concreteVariables, hiddenKinds, WitnessSees}
 use Rattle.run.proofs.Agreement.{true-agree}
 use Rattle.run.proofs.Views.{by-kind-agree}
 use Rattle.run.proofs.Events.{EventValid}
@@ -53,14 +55,25 @@ module _ (m : Machine) where
   put concreteVariable ρ x v = ρ
   put abstractParameter ρ x v = withPresent ρ x v
   put concreteParameter ρ x v = ρ
+  put sharedVariable ρ x v = ρ
 
-  put-value : (ρ : Env (m .type)) (x : ℕ) (t : Tree) (K : Kind) → T (kinds false true false true false K) →
+  put-value : (ρ : Env (m .type)) (x : ℕ) (t : Tree) (K : Kind) → T (hiddenKinds K) →
       Holds ρ (pick (isVariable K) (someAfterValue x t) (someValue x t)) → (v : Value (m .type x)) × True (put K ρ x v) t
   put-value ρ x t constantKind h z = absurd h
   put-value ρ x t abstractVariable h z = choose-after ρ x t z
   put-value ρ x t concreteVariable h z = absurd h
   put-value ρ x t abstractParameter h z = choose-present ρ x t z
   put-value ρ x t concreteParameter h z = absurd h
+  put-value ρ x t sharedVariable h z = absurd h
+
+  -- a hidden identifier is not shared
+  hidden-unshared : (K : Kind) → T (hiddenKinds K) → isShared K ≡ false
+  hidden-unshared constantKind h = absurd h
+  hidden-unshared abstractVariable h = refl
+  hidden-unshared concreteVariable h = absurd h
+  hidden-unshared abstractParameter h = refl
+  hidden-unshared concreteParameter h = absurd h
+  hidden-unshared sharedVariable h = absurd h
 
 -- a concrete step beside the abstract state a, before the hidden values are known, and with the hidden values w
 module _ (m : Machine) (c a k p k′ : State m) where
@@ -70,39 +83,41 @@ module _ (m : Machine) (c a k p k′ : State m) where
   abbrev pub matched : State m → Env (m .type)
   matched w = world m c a k w p w k′
 
-  put-agree : (w : State m) (x : ℕ) (K : Kind) → m .kind x ≡ K → T (kinds false true false true false K) →
-      Agree (λ y. kinds true false true false true (m .kind y) || eqb y x) (λ y. kinds false false true false false (m .kind y) || eqb y x)
+  put-agree : (w : State m) (x : ℕ) (K : Kind) → m .kind x ≡ K → T (hiddenKinds K) →
+      Agree (λ y. concreteMachine (m .kind y) || eqb y x) (λ y. concreteVariables (m .kind y) || eqb y x)
       (put m K unmatched x (w x)) (matched w)
   put-agree w x K kx h = record { present = before K kx h; after = later K kx h }
     where
-      seen : (y : ℕ) → T (kinds true false true false true (m .kind y)) → unmatched .present y ≡ matched w .present y
-      seen y t = by-kind-agree (kinds true false true false true) (m .kind y) (λ s. refl) (λ s. absurd s) (λ s. refl) (λ s. absurd s) (λ s. refl) t
+      seen : (y : ℕ) → T (concreteMachine (m .kind y)) → unmatched .present y ≡ matched w .present y
+      seen y t = by-kind-agree concreteMachine (m .kind y) (λ s. refl) (λ s. absurd s) (λ s. refl) (λ s. absurd s) (λ s. refl) (λ e s. refl) t
 
-      seen-after : (y : ℕ) → T (kinds false false true false false (m .kind y)) → unmatched .after y ≡ matched w .after y
+      seen-after : (y : ℕ) → T (concreteVariables (m .kind y)) → unmatched .after y ≡ matched w .after y
       seen-after y t =
-          by-kind-agree (kinds false false true false false) (m .kind y) (λ s. absurd s) (λ s. absurd s) (λ s. refl) (λ s. absurd s) (λ s. absurd s) t
+          by-kind-agree concreteVariables (m .kind y) (λ s. absurd s) (λ s. absurd s) (λ s. refl) (λ s. absurd s) (λ s. absurd s) (λ e s. refl) t
 
-      before : (K : Kind) → m .kind x ≡ K → T (kinds false true false true false K) → (y : ℕ) → T (kinds true false true false true (m .kind y) || eqb y x) →
+      before : (K : Kind) → m .kind x ≡ K → T (hiddenKinds K) → (y : ℕ) → T (concreteMachine (m .kind y) || eqb y x) →
           put m K unmatched x (w x) .present y ≡ matched w .present y
       before constantKind kx h = absurd h
-      before abstractVariable kx h = beside m (kinds true false true false true) x (unmatched .present) (matched w .present) seen (rw kx)
+      before abstractVariable kx h = beside m concreteMachine x (unmatched .present) (matched w .present) seen (rw kx)
       before concreteVariable kx h = absurd h
       before abstractParameter kx h =
-          replaced m (kinds true false true false true) x (unmatched .present) (matched w .present) seen (rw kx (λ t. t)) (w x) (rw kx)
+          replaced m concreteMachine x (unmatched .present) (matched w .present) seen (rw kx (λ t. t)) (w x) (rw kx)
       before concreteParameter kx h = absurd h
+      before sharedVariable kx h = absurd h
 
-      later : (K : Kind) → m .kind x ≡ K → T (kinds false true false true false K) → (y : ℕ) → T (kinds false false true false false (m .kind y) || eqb y x) →
+      later : (K : Kind) → m .kind x ≡ K → T (hiddenKinds K) → (y : ℕ) → T (concreteVariables (m .kind y) || eqb y x) →
           put m K unmatched x (w x) .after y ≡ matched w .after y
       later constantKind kx h = absurd h
       later abstractVariable kx h =
-          replaced m (kinds false false true false false) x (unmatched .after) (matched w .after) seen-after (rw kx (λ t. t)) (w x) (rw kx)
+          replaced m concreteVariables x (unmatched .after) (matched w .after) seen-after (rw kx (λ t. t)) (w x) (rw kx)
       later concreteVariable kx h = absurd h
-      later abstractParameter kx h = beside m (kinds false false true false false) x (unmatched .after) (matched w .after) seen-after (rw kx)
+      later abstractParameter kx h = beside m concreteVariables x (unmatched .after) (matched w .after) seen-after (rw kx)
       later concreteParameter kx h = absurd h
+      later sharedVariable kx h = absurd h
 
   module _ (ro : Role) (e : ℕ) (see : All (WitnessSees m e) (m .witnesses e)) (valid : EventValid m ro e)
       (g : All (Meets m unmatched) (guarded m ro e)) (mv : All (Meets m unmatched) (moved m ro e)) where
-    hidden : All (λ x. T (kinds false true false true false (m .kind x))) (targets m e)
+    hidden : All (λ x. T (hiddenKinds (m .kind x))) (targets m e)
     hidden = all-map (λ w. w .target) (all-imp (λ w s. s .hidden) see)
 
     promised : All (λ x. Valid m (sequent WFIS e x (pick (variable m x) (moved m ro e) (guarded m ro e)) (witnessed e x))) (targets m e)
@@ -119,16 +134,27 @@ module _ (m : Machine) (c a k p k′ : State m) where
     found : (w : State m) × ((x : ℕ) → In x (targets m e) → True (put m (m .kind x) unmatched x (w x)) (witnessTree m e x))
     found = values-found m (targets m e) (λ x v. True (put m (m .kind x) unmatched x v) (witnessTree m e x)) chosen
 
+    -- with the concrete machine's after values of the shared variables
     pub hiddenValues : State m
-    hiddenValues = found .0
+    hiddenValues x = pick (isShared (m .kind x)) (k′ x) (found .0 x)
+
+    pub shared-values : AgreeOnShared m hiddenValues k′
+    unfolding hiddenValues
+    shared-values = all-in (sharedVariables m) (λ x i.
+        chosen-first (isShared (m .kind x)) _ _ (test-true _ (in-keep (λ x. isShared (m .kind x)) (m .abstractVariables) i .1)))
+
+    hidden-true : (x : ℕ) → In x (targets m e) → True (put m (m .kind x) unmatched x (hiddenValues x)) (witnessTree m e x)
+    unfolding hiddenValues
+    hidden-true x i =
+        subst (λ v. True (put m (m .kind x) unmatched x v) (witnessTree m e x))
+        (sym (not-chosen (isShared (m .kind x)) _ _ (hidden-unshared m (m .kind x) (all-at hidden i)))) (found .1 x i)
 
     witnesses-true : All (λ w. Meets m (matched hiddenValues) (written (w .root))) (m .witnesses e)
-    unfolding hiddenValues
     witnesses-true = all-in (m .witnesses e) (λ w i.
         let s = all-at see i in
         true-agree m _ (matched hiddenValues) (put-agree hiddenValues (w .target) (m .kind (w .target)) refl (s .hidden)) (m .tree (w .root)) (s .mentioned)
         (subst (λ r. True (put m (m .kind (w .target)) unmatched (w .target) (hiddenValues (w .target))) (m .tree r)) (s .found)
-        (found .1 (w .target) (in-map (λ w. w .target) i))))
+        (hidden-true (w .target) (in-map (λ w. w .target) i))))
 
     pub entries-true : All (Meets m (matched hiddenValues)) (witnessEntries m (m .witnesses e))
     entries-true = all-map (λ w. written (w .root)) witnesses-true

@@ -9,25 +9,27 @@ use lib.IntN.{pos}
 use Rattle.lists.specs.All.{All, In}
 use Rattle.formula.specs.Values.{ValueType, integer, boolean, Value, AnyValue, truth, wrap}
 use Rattle.formula.specs.Evaluate.{Valuation, Env, readTree}
-use Rattle.machine.specs.Machine.{Kind, constantKind, abstractVariable, concreteVariable, abstractParameter, concreteParameter}
-use Rattle.machine.specs.Machine.{Action, unassigned, becomesEqual, becomesSuchThat, Machine}
+use Rattle.machine.specs.Machine.{Kind, constantKind, abstractVariable, concreteVariable, abstractParameter, concreteParameter, sharedVariable}
+use Rattle.machine.specs.Machine.{Action, unassigned, becomesEqual, becomesSuchThat, Machine, sharedVariables}
 use Rattle.machine.specs.Machine.{Role, abstractInitialisation, abstractOrdinary, concreteInitialisation, refining, convergent, anticipated}
 use Rattle.sequent.specs.Required.{ownVariables}
 
--- one of five by an identifier's kind: constant, abstract variable, concrete variable, abstract parameter, concrete parameter
-abbrev pub byKind : {A : Type 0} → Kind → A → A → A → A → A → A
-byKind constantKind c a k q p = c
-byKind abstractVariable c a k q p = a
-byKind concreteVariable c a k q p = k
-byKind abstractParameter c a k q p = q
-byKind concreteParameter c a k q p = p
+-- one of six by an identifier's kind: constant, abstract variable, concrete variable, abstract parameter, concrete parameter, shared variable
+abbrev pub byKind : {A : Type 0} → Kind → A → A → A → A → A → A → A
+byKind constantKind c a k q p z = c
+byKind abstractVariable c a k q p z = a
+byKind concreteVariable c a k q p z = k
+byKind abstractParameter c a k q p z = q
+byKind concreteParameter c a k q p z = p
+byKind sharedVariable c a k q p z = z
 
 abbrev pub blankValue : (t : ValueType) → Value t
 blankValue integer = pos 0
 blankValue boolean = false
 
 module _ (m : Machine) where
-  -- constants, the state of a machine or parameters: a value for each identifier, of which only those of the kind in question count
+  -- constants, the state of a machine or parameters: a value for each identifier, of which only those of the kind in question count; of the state of a machine
+  -- those of its own variables and of the shared ones
   abbrev pub State : Type 0
   State = Valuation (m .type)
 
@@ -35,17 +37,19 @@ module _ (m : Machine) where
   abbrev pub blank : State
   blank x = blankValue (m .type x)
 
-  -- constants, abstract and concrete state, abstract and concrete parameters; the abstract and the concrete state after a step
+  -- constants, abstract and concrete state, abstract and concrete parameters; the abstract and the concrete state after a step. A shared variable has "one
+  -- value" here, the concrete state's.
   abbrev pub world : State → State → State → State → State → State → State → Env (m .type)
   world c a k q p a′ k′ = record {
-    present = λ x. byKind (m .kind x) (c x) (a x) (k x) (q x) (p x);
-    after = λ x. byKind (m .kind x) (blank x) (a′ x) (k′ x) (blank x) (blank x);
+    present = λ x. byKind (m .kind x) (c x) (a x) (k x) (q x) (p x) (k x);
+    after = λ x. byKind (m .kind x) (blank x) (a′ x) (k′ x) (blank x) (blank x) (k′ x);
   }
 
-  -- what an event's guards and actions read: constants, its machine's state, its parameters, its machine's state after the step
+  -- what an event's guards and actions read: constants, its machine's state, its parameters, its machine's state after the step. An abstract event reads shared
+  -- variables in the abstract state, which stands for both here: concrete variables are not in its sight.
   abbrev pub view : Role → State → State → State → State → Env (m .type)
-  view abstractInitialisation c s p s′ = world c s blank p blank s′ blank
-  view abstractOrdinary c s p s′ = world c s blank p blank s′ blank
+  view abstractInitialisation c s p s′ = world c s s p blank s′ s′
+  view abstractOrdinary c s p s′ = world c s s p blank s′ s′
   view (concreteInitialisation f) c s p s′ = world c blank s blank p blank s′
   view (refining f) c s p s′ = world c blank s blank p blank s′
   view convergent c s p s′ = world c blank s blank p blank s′
@@ -122,3 +126,7 @@ module _ (m : Machine) where
   Matches (refining f) c a q a′ = In f (m .events) × (m .role f ≡ abstractOrdinary) × Step abstractOrdinary f c a q a′
   Matches convergent c a q a′ = a′ ≡ a
   Matches anticipated c a q a′ = a′ ≡ a
+
+  -- 02, request 2: "Matched runs agree on shared variables at every step"
+  abbrev pub AgreeOnShared : State → State → Type 0
+  AgreeOnShared a k = All (λ x. a x ≡ k x) (sharedVariables m)

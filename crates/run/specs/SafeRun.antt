@@ -13,7 +13,7 @@ use Rattle.formula.specs.Values.{number, atMostℤ}
 use Rattle.formula.specs.Evaluate.{readTree}
 use Rattle.machine.specs.Machine.{Role, abstractInitialisation, abstractOrdinary, concreteInitialisation, refining, convergent, anticipated, Machine}
 use Rattle.sequent.specs.Required.{isInitialisation, isNew, ownVariables}
-use Rattle.run.specs.Run.{State, blank, world, view, Defined, AllReadTrue, NoneUndefined, ActionDefined, Enabled, Step, Taken, Follows, Match, Matches}
+use Rattle.run.specs.Run.{State, blank, world, view, Defined, AllReadTrue, NoneUndefined, ActionDefined, Enabled, Step, Taken, Follows, Match, Matches, AgreeOnShared}
 
 -- "at most the variant's value before the stretch plus one"
 abbrev pub withinBound : ℕ → ℤ → Bool
@@ -47,8 +47,10 @@ module _ (m : Machine) where
   abbrev pub notInitial : Role → Bool
   notInitial ro = not (isInitialisation ro)
 
-  -- a matched pair of states: "every invariant of both machines is true", the variant is defined, and every event is safe there
+  -- a matched pair of states: they agree on the shared variables, "every invariant of both machines is true", the variant is defined, and every event is safe
+  -- there
   pub record PairSafe (c a k : State m) : Type 0 where
+    pub shared : AgreeOnShared m a k
     pub invariants : AllReadTrue m (world m c a k (blank m) (blank m) (blank m) (blank m)) (m .abstractInvariants ++ m .concreteInvariants)
     pub variant : All (Defined m (world m c (blank m) k (blank m) (blank m) (blank m) (blank m))) (m .variants)
     pub events : (e : ℕ) → In e (m .events) → T (notInitial (m .role e)) → (p : State m) → EventSafe (m .role e) e c (ownState (m .role e) a k) p

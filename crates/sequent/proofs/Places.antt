@@ -5,7 +5,7 @@ use mathlib.Core.Bool.{Bool, true, false}
 use mathlib.Core.List.{List, [], _∷_, map, flatMap}
 use Prim.Native.Nat.{ℕ, suc, _<_}
 use native.Mathlib.Omega.{arith}
-use lib.Dec.{eqb}
+use lib.Dec.{T, eqb}
 use lib.ListN.{length}
 use borrow.Author.Tests.{lt-ltb, le-ltb, eq-eqb, ne-eqb}
 use Rattle.lists.specs.Choice.{pick}
@@ -13,7 +13,7 @@ use Rattle.lists.specs.All.{In, here, there}
 use Rattle.lists.proofs.Distinct.{Distinct, pairwise-head, pairwise-tail, pairwise-right, pairwise-across, pairwise-imp}
 use Rattle.lists.specs.Pairwise.{Pairwise, pairwise-nil, pairwise-cons}
 use Rattle.lists.proofs.Choice.{chosen, not-chosen}
-use Rattle.lists.proofs.All.{all-in, all-at, in-map, in-flat}
+use Rattle.lists.proofs.All.{all-in, all-at, in-map, in-flat, in-dec}
 use Rattle.machine.specs.Machine.{Action}
 use Rattle.sequent.specs.Order.{placeIn, isIn, actionRoots, variableOf}
 
@@ -64,6 +64,13 @@ isIn-member {r} {xs} i = lt-ltb (placeIn xs r) (length xs) (place-inside i)
 pub isIn-other : {r : ℕ} (xs : List ℕ) → ¬ In r xs → isIn xs r ≡ false
 unfolding isIn
 isIn-other {r} xs out = le-ltb (placeIn xs r) (length xs) (omega (arith, place-outside xs out))
+
+pub isIn-in : {r : ℕ} (xs : List ℕ) → T (isIn xs r) → In r xs
+isIn-in {r} xs h = go (in-dec r xs)
+  where
+    go : Dec (In r xs) → In r xs
+    go (yes i) = i
+    go (no out) = absurd (subst T (isIn-other xs out) h)
 
 pub variable-found : (action : ℕ → Action) {x r : ℕ} {xs : List ℕ} → Distinct (flatMap (λ x. actionRoots (action x)) xs) → In x xs → In r (actionRoots (action x))
     → variableOf action xs r ≡ x
