@@ -23,7 +23,7 @@ use Rattle.machine.specs.Machine.{Action, unassigned, becomesEqual, becomesSuch
 use Rattle.machine.specs.Operator.{Operator, literalOf, identifierOf, afterOf, constantOf, unaryOf, binaryOf, divisionOf, connectiveOf, unknown, operatorNumbered}
 use Rattle.machine.specs.Described.{node, earlier, treeTo, treeOf, machineOf}
 use Rattle.machine.proofs.Operator.{operator-passes}
-use Rattle.sequent.specs.Entry.{Entry, written, primed, defined, moves, feasible, witnessed, natural, decreases, notIncreased, witnessRoot, variable, actionTree, witnessTree, formula}
+use Rattle.sequent.specs.Entry.{Entry, written, primed, defined, moves, feasible, witnessed, natural, decreases, notIncreased, unchanged, witnessRoot, variable, actionTree, witnessTree, formula}
 use Rattle.sequent.specs.Numbers.{numbersOf}
 use Rattle.sequent.specs.Sequent.{Sequent}
 use Rattle.sequent.specs.Listed.{sequents}
@@ -191,7 +191,7 @@ after-writable v (connective o t u) h =
 entry-writable : (tag : ℕ) → tag ≤ greatest → Fits 4 tag → (h : Entry) → EntryRanged h → W (entryRow tag h)
 entry-writable tag small fits h r = row-writable tag _ _ _ small fits (small-ranged _ (omega (arith, form-small h))) (r .0) (r .1)
   where
-    form-small : (h : Entry) → numbersOf h .form ≤ 9
+    form-small : (h : Entry) → numbersOf h .form ≤ 10
     form-small (written r) = omega arith
     form-small (primed r) = omega arith
     form-small (defined r) = omega arith
@@ -201,6 +201,7 @@ entry-writable tag small fits h r = row-writable tag _ _ _ small fits (small-ran
     form-small (natural r) = omega arith
     form-small (decreases r) = omega arith
     form-small (notIncreased r) = omega arith
+    form-small (unchanged x) = omega arith
 
 sequent-writable : (s : Sequent) → RangedSequent s → All W (sequentRows s)
 unfolding sequentRows restOf
@@ -232,6 +233,7 @@ module _ (m : Machine) (trees : (n : ℕ) → TreeWritable (m .tree n)) where
   formula-writable (natural r) k = two-writable 22 (omega arith) (leaf-writable 1 0 (omega arith) zero-ranged) (trees r)
   formula-writable (decreases r) k = two-writable 21 (omega arith) (after-writable (variable m) (m .tree r) (trees r)) (trees r)
   formula-writable (notIncreased r) k = two-writable 22 (omega arith) (after-writable (variable m) (m .tree r) (trees r)) (trees r)
+  formula-writable (unchanged x) k = action-writable unassigned x (k .0)
 
 module _ (bytes : List ℕ) (n : ℕ) (v : verdictOf bytes ≡ verdict.Accepted n) where
   rows-ranged : RangedRows (decoded bytes)

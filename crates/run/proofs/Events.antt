@@ -5,9 +5,9 @@ use Prim.Native.Nat.{ℕ}
 use Rattle.lists.specs.All.{All, In}
 use Rattle.lists.proofs.All.{all-left, all-right, all-at, all-imp, all-unmap, all-unflat}
 use Rattle.machine.specs.Machine.{Machine, Role, abstractInitialisation, abstractOrdinary, concreteInitialisation, refining, convergent, anticipated}
-use Rattle.sequent.specs.Entry.{written, primed, defined, moves}
-use Rattle.sequent.specs.Sequent.{Valid, sequent, WD, INV, GRD, SIM}
-use Rattle.sequent.specs.Listed.{inOrder, actionWD, actionFIS, refined, allWritten, base, guarded, moved}
+use Rattle.sequent.specs.Entry.{written, primed, defined}
+use Rattle.sequent.specs.Sequent.{Valid, sequent, WD, INV, GRD}
+use Rattle.sequent.specs.Listed.{inOrder, actionWD, actionFIS, refined, allWritten, base, guarded}
 use Rattle.sequent.specs.Listed.{witnessEntries, witnessSequents, parameterWitnesses, grd, simSequents, invHypotheses, inv, variantSequents, eventSequents}
 use Rattle.sequent.specs.Listed.{formulas, sequents}
 use Rattle.sequent.specs.Required.{ownInvariants, ownVariables}

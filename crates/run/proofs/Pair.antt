@@ -1,6 +1,5 @@
 -- A matched pair of states at which the axioms and all invariants are true: the base hypotheses of every event hold there, and the pair is safe.
 use mathlib.Core.Path.{refl}
-use mathlib.Core.Bool.{true, false}
 use mathlib.Core.List.{[]}
 use lib.Dec.{T}
 use Rattle.lists.specs.All.{All, all-nil}

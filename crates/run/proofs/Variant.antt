@@ -1,7 +1,6 @@
 -- The bound on convergent steps: NAT leaves room for the last one, VAR of a convergent event for one more before those that are bounded already, and VAR of
 -- an anticipated one keeps the bound.
 use mathlib.Core.Path.{_≡_, refl, sym, ap, _∙_, subst}
-use mathlib.Core.Bool.{true, false}
 use mathlib.Core.Option.{Option, some}
 use Prim.Native.Nat.{ℕ, zero, suc, _<_}
 use native.Mathlib.Omega.{arith}

@@ -1,7 +1,7 @@
 -- Worlds that agree on the kinds that a formula mentions, and the view that an event's guards and actions have of a world, by cases on the kind.
 use mathlib.Core.Path.{_≡_, refl, sym, ap, _∙_, subst}
-use mathlib.Core.Bool.{Bool, true, not, _||_}
-use mathlib.Core.Logic.{_⊎_, inl, inr}
+use mathlib.Core.Bool.{Bool, not, _||_}
+use mathlib.Core.Logic.{inl, inr}
 use Prim.Native.Nat.{ℕ}
 use lib.Dec.{T, eqb, eqb→eq}
 use Rattle.lists.specs.All.{In}
