@@ -1,7 +1,7 @@
 -- An identifier is a variable, or a shared one, by the number of its kind: by cases on the numbers that it is compared with.
 use Prim.Native.Nat.{ℕ, _<_}
 use mathlib.Core.Path.{_≡_, refl, sym, ap, ap₂, _∙_, subst, fun-ext}
-use mathlib.Core.List.{List}
+use mathlib.Core.List.{List, _++_}
 use mathlib.Core.Bool.{Bool, true, false, not, _&&_, _||_}
 use native.Mathlib.Omega.{arith}
 use lib.Dec.{T, eqb, eqb→eq}
@@ -10,15 +10,17 @@ use Rattle.lists.specs.Choice.{pick}
 use Rattle.lists.specs.All.{In}
 use Rattle.lists.specs.Below.{numbers, keep}
 use Rattle.lists.proofs.Below.{numbers-in, keep-in, in-keep}
+use Rattle.lists.proofs.Distinct.{Distinct, pairwise-join, pairwise-keep, rising-distinct}
 use Rattle.lists.proofs.Flat.{keep-keep}
 use Rattle.table.specs.Names.{isVariableOf}
 use Rattle.table.specs.Rows.{Rows, count, named, kindOf}
 use Rattle.table.specs.Lookups.{isVariableNumber}
 use Rattle.table.proofs.Sections.{named-bounds}
-use Rattle.formula.proofs.Truth.{eq→eqb}
+use Rattle.formula.proofs.Truth.{eq→eqb, or-cases}
 use Rattle.machine.specs.Machine.{Kind, isVariable, isShared, constantKind, abstractVariable, concreteVariable, abstractParameter, concreteParameter, sharedVariable}
 use Rattle.machine.specs.Machine.{sharedVariables, unsharedVariables}
 use Rattle.machine.specs.Described.{kindNumbered, variablesOf, machineOf}
+use Rattle.machine.proofs.Described.{variable-named, variables-rise}
 
 -- a kind by the tests that its number meets
 abbrev by-tests : Bool → Bool → Bool → Bool → Bool → Kind
@@ -107,3 +109,16 @@ module _ (t : Rows) where
 
   pub unshared-kind : (x : ℕ) → In x (unsharedVariables (machineOf t)) → kindOf t x ≡ 2
   unshared-kind x i = eqb→eq (kindOf t x) 2 (in-keep (λ x. eqb (kindOf t x) 2) identifiers (subst (In x) unshared-numbered i) .1)
+
+  -- the concrete machine's variables, the shared ones among them, and the unshared ones of the abstract machine: each once
+  pub variables-apart : Distinct (machineOf t .concreteVariables ++ unsharedVariables (machineOf t))
+  unfolding machineOf
+  variables-apart =
+      pairwise-join (rising-distinct (variables-rise t 3)) (pairwise-keep _ (rising-distinct (variables-rise t 2))) (λ x y i j e.
+      let two : kindOf t x ≡ 2 = ap (kindOf t) e ∙ unshared-kind y j in
+      or-cases (eqb (kindOf t x) 3) (eqb (kindOf t x) 6) (variable-named t 3 x i .1)
+      (λ p. omega (arith, eqb→eq (kindOf t x) 3 p)) (λ p. omega (arith, eqb→eq (kindOf t x) 6 p)))
+
+  pub abstract-distinct : Distinct (machineOf t .abstractVariables)
+  unfolding machineOf
+  abstract-distinct = rising-distinct (variables-rise t 2)

@@ -1,10 +1,12 @@
 -- What check 6 gives of an identifier: its kind is one of the six and its type one of the two, and a parameter belongs to an event of its machine that is no initialisation.
 use Prim.Native.Nat.{ℕ, _+_, _≤_}
-use mathlib.Core.Path.{_≡_, subst₂}
-use mathlib.Core.Bool.{Bool, true, false, not, _&&_, _||_}
+use mathlib.Core.Path.{_≡_, subst, subst₂, _∙_}
+use mathlib.Core.Bool.{Bool, not, _&&_, _||_}
 use native.Mathlib.Omega.{arith}
 use lib.Dec.{T, leb, eqb, leb→le, eqb→eq}
+use borrow.Author.Tests.{ne-eqb}
 use Rattle.lists.specs.Choice.{pick}
+use Rattle.lists.proofs.Choice.{not-chosen}
 use Rattle.formula.proofs.Truth.{and-split, or-cases, rule-met}
 use Rattle.table.specs.Rows.{Rows, tagged, named, rowOf, kindOf, typeOf, ownerOf, machineNumber, classOf}
 use Rattle.table.proofs.Sections.{named-row}
@@ -43,6 +45,12 @@ module _ (t : Rows) (ok : Obeys t) where
   abbrev ownerTest : ℕ → ℕ → Bool
   ownerTest kind e =
       pick (eqb kind 4) (ownerEvent t 1 e) (pick (eqb kind 5) (ownerEvent t 2 e) (eqb e 0))
+
+  -- an identifier that is no parameter has owner 0
+  pub unowned : (x : ℕ) → T (named t 10 x) → (kindOf t x ≡ 4 → ⊥) → (kindOf t x ≡ 5 → ⊥) → ownerOf t x ≡ 0
+  unowned x h p q =
+      eqb→eq (ownerOf t x) 0
+      (subst T (not-chosen (eqb (kindOf t x) 4) _ _ (ne-eqb (kindOf t x) 4 p) ∙ not-chosen (eqb (kindOf t x) 5) _ _ (ne-eqb (kindOf t x) 5 q)) (identifier-row x h .2))
 
   -- "owner: own machine, class not 0": a parameter of an event has the kind of the event's machine, and the event is no initialisation
   pub parameter-owner : (e x : ℕ) → T (named t 10 x) → T (ownParameter t e x) → (kindOf t x ≡ 3 + machineNumber t e) × T (not (eqb (classOf t e) 0))

@@ -7,6 +7,7 @@ pub mod Obeys
 pub mod Ordered
 pub mod References
 pub mod Separate
+pub mod Shared
 pub mod Sight
 pub mod Sorts
 pub mod Tags

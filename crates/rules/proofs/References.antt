@@ -3,18 +3,19 @@ use Prim.Native.Nat.{ℕ, zero, suc, _≤_, _<_}
 use mathlib.Core.Path.{_≡_, refl, sym, subst}
 use mathlib.Core.Bool.{Bool, true, false, not, _&&_, _||_}
 use native.Mathlib.Omega.{arith}
-use lib.Dec.{T, ltb, leb, eqb, leb→le, ltb→lt}
+use lib.Dec.{T, ltb, leb, eqb, eqb→eq, leb→le, ltb→lt}
 use Rattle.lists.specs.Choice.{pick}
 use Rattle.formula.specs.Tree.{bottom, Tree, constant}
 use Rattle.formula.specs.Mentions.{mentions}
-use Rattle.formula.proofs.Truth.{and-split, and-join, or-neither, rule-met}
-use Rattle.table.specs.Rows.{Rows, tagged, count, named, rowOf, numberIn, operatorOf, leftOf, rightOf}
+use Rattle.formula.proofs.Truth.{and-split, and-join, or-left, or-right, or-cases, or-neither, rule-met}
+use Rattle.table.specs.Rows.{Rows, tagged, count, named, rowOf, numberIn, ownerOf, operatorOf, leftOf, rightOf, machineNumber, classOf, refinedBy}
 use Rattle.table.proofs.Sections.{named-bounds, bounds-named, named-row, number-of-row}
 use Rattle.machine.specs.Operator as meaning
 use Rattle.machine.specs.Operator.{Operator, literalOf, identifierOf, afterOf, constantOf, unaryOf, binaryOf, divisionOf, connectiveOf, operatorNumbered}
 use Rattle.machine.specs.Described.{node, earlier, treeTo, treeOf}
 use Rattle.machine.proofs.Described.{operandsOf}
 use Rattle.rules.specs.Sorts.{shape, shapeOf}
+use Rattle.rules.specs.Sight.{hasKind}
 use Rattle.rules.specs.Rules.{earlierNode, namedVariable, goodColumns, guardEvent, actionTarget, witnessTarget, rootAt, namesRoot, goodTarget, referenceOffends}
 use Rattle.rules.proofs.Obeys.{Obeys}
 use Rattle.rules.proofs.Tags.{tagged-test, tags-rising}
@@ -58,6 +59,22 @@ module _ (t : Rows) where
         (and-split (goodTarget t i) (named t 20 (rootAt t i))
         (rule-met (namesRoot t i) (goodTarget t i && named t 20 (rootAt t i))
         (or-neither (tagged t 20 i && not (goodColumns t (shapeOf (t .a i)) i)) _ (ok .references i h) .1) (names-root k i e r)))
+
+    -- "witnesses: class 0 or 1, with an abstract variable or a parameter of the refined event", of a concrete event
+    pub witness-row : (i : ℕ) → i < t .size → t .tag i ≡ 60
+        → T (named t 40 (t .a i)) × (machineNumber t (t .a i) ≡ 2) × T (hasKind t 2 (t .b i) || hasKind t 4 (t .b i))
+    witness-row i h e =
+        let f = t .a i in
+        let x = t .b i in
+        let event = eqb (machineNumber t f) 2 && ltb (classOf t f) 2 in
+        let owned = hasKind t 4 x && eqb (ownerOf t x) (refinedBy t f) in
+        let s = and-split (named t 40 f && event) (named t 10 x && (hasKind t 2 x || owned)) (root-row 60 i h e tt .0) in
+        let u = and-split (named t 40 f) event (s .0) in (
+          u .0,
+          eqb→eq (machineNumber t f) 2 (and-split (eqb (machineNumber t f) 2) (ltb (classOf t f) 2) (u .1) .0),
+          or-cases (hasKind t 2 x) owned (and-split (named t 10 x) (hasKind t 2 x || owned) (s .1) .1) (or-left (hasKind t 2 x) (hasKind t 4 x))
+              (λ p. or-right (hasKind t 2 x) (hasKind t 4 x) (and-split (hasKind t 4 x) (eqb (ownerOf t x) (refinedBy t f)) p .0)),
+        )
 
     -- the columns of a node fit its operator
     pub node-row : (n : ℕ) → T (named t 20 n) → T (goodColumns t (shape (operatorNumbered (operatorOf t n))) (rowOf t 20 n))

@@ -6,13 +6,13 @@ use mathlib.Core.Bool.{Bool, true, false, not, _&&_, _||_}
 use mathlib.Core.List.{map}
 use mathlib.Core.Logic.{_⊎_, inl, inr}
 use native.Mathlib.Omega.{arith}
-use lib.Dec.{T, ltb, eqb, eqb→eq, not-T}
+use lib.Dec.{T, eqb, eqb→eq, not-T}
 use borrow.Author.Tests.{eqb-true}
 use Rattle.lists.specs.All.{All, In}
 use Rattle.lists.proofs.All.{all-in, all-map}
 use Rattle.lists.proofs.Below.{some-found}
 use Rattle.table.specs.Names.{isVariableOf}
-use Rattle.table.specs.Rows.{Rows, named, section, kindOf, typeOf, ownerOf, machineNumber, classOf, refinedBy}
+use Rattle.table.specs.Rows.{Rows, named, section, kindOf, typeOf, machineNumber, classOf, refinedBy}
 use Rattle.table.proofs.Sections.{section-row, named-bounds}
 use Rattle.formula.specs.Mentions.{mentions}
 use Rattle.formula.proofs.Sort.{treeType}
@@ -30,11 +30,11 @@ use Rattle.sequent.specs.Required.{ownVariables}
 use Rattle.sequent.proofs.Places.{isIn-member}
 use Rattle.rules.specs.Sorts.{sortOf}
 use Rattle.rules.specs.Sight.{hasKind, variableOf, presentVariable, ownParameter, eventSees}
-use Rattle.rules.specs.Rules.{namedVariable, witnessTarget}
+use Rattle.rules.specs.Rules.{namedVariable}
 use Rattle.rules.proofs.Obeys.{Obeys}
 use Rattle.rules.proofs.Events.{event-says}
 use Rattle.rules.proofs.Identifiers.{isType, identifier-type, parameter-owner}
-use Rattle.rules.proofs.References.{rootTag, rootOf, root-row}
+use Rattle.rules.proofs.References.{rootTag, rootOf, root-row, witness-row}
 use Rattle.rules.proofs.Sorts.{sort-type, root-sort}
 use Rattle.rules.proofs.Sight.{seen, seenAfter, root-seen}
 use Rattle.rules.proofs.Missing.{initial-action}
@@ -218,18 +218,8 @@ module _ (t : Rows) where
         → T (named t 40 e) × (machineNumber t e ≡ 2) × T (hasKind t 2 (t .b i) || hasKind t 4 (t .b i))
     witness-target e i j =
         let q = belonging-row t 60 e i j in
-        let x = t .b i in
-        let event = named t 40 e && (eqb (machineNumber t e) 2 && ltb (classOf t e) 2) in
-        let target = hasKind t 2 x || (hasKind t 4 x && eqb (ownerOf t x) (refinedBy t e)) in
-        let h = subst (λ e. T (witnessTarget t e x)) (q .2) (root-row t ok 60 i (q .0) (q .1) tt .0) in
-        let s = and-split event (named t 10 x && target) h in
-        let u = and-split (named t 40 e) (eqb (machineNumber t e) 2 && ltb (classOf t e) 2) (s .0) in (
-          u .0,
-          eqb→eq (machineNumber t e) 2 (and-split (eqb (machineNumber t e) 2) (ltb (classOf t e) 2) (u .1) .0),
-          or-cases (hasKind t 2 x) (hasKind t 4 x && eqb (ownerOf t x) (refinedBy t e)) (and-split (named t 10 x) target (s .1) .1)
-              (or-left (hasKind t 2 x) (hasKind t 4 x))
-              (λ p. or-right (hasKind t 2 x) (hasKind t 4 x) (and-split (hasKind t 4 x) (eqb (ownerOf t x) (refinedBy t e)) p .0)),
-        )
+        let w = witness-row t ok i (q .0) (q .1) in
+        (subst (λ e. T (named t 40 e)) (q .2) (w .0), subst (λ e. machineNumber t e ≡ 2) (q .2) (w .1), w .2)
 
     pub witness-hidden : (e i : ℕ) → In i (belonging t 60 e) → T (hiddenKinds (kindNumbered (kindOf t (t .b i))))
     unfolding kindNumbered

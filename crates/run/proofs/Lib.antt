@@ -16,3 +16,4 @@ pub mod Variant
 pub mod Matching
 pub mod Safe
 pub mod SafeRun
+pub mod Shared

@@ -4,7 +4,7 @@
 use Prim.Native.Nat.{ℕ, zero, suc}
 use mathlib.Core.Path.{_≡_, refl, sym, ap, _∙_, subst}
 use mathlib.Core.Bool.{Bool, true, false, _&&_}
-use mathlib.Core.List.{List, [], _∷_, _++_}
+use mathlib.Core.List.{List, [], _∷_, _++_, map}
 use mathlib.Core.Logic.{_⊎_, inl, inr}
 use native.Mathlib.Omega.{arith}
 use lib.Dec.{T}
@@ -65,10 +65,13 @@ module _ (m : Machine) where
   stretch-more c k k′ s ss more b (suc n) (all-cons h hs) =
       subst (Bounded m c k) (sym (steps-more s (take n ss))) (more h (convergentSteps m (take n ss)) (b n hs))
 
-  -- the state that steps from k leave
+  -- the last of the states k, ..; the state that steps from k leave
+  abbrev pub lastOf : State m → List (State m) → State m
+  lastOf k [] = k
+  lastOf k (s ∷ ss) = lastOf s ss
+
   abbrev pub stateAfter : State m → List (Taken m) → State m
-  stateAfter k [] = k
-  stateAfter k (s ∷ ss) = stateAfter (s .result) ss
+  stateAfter k ss = lastOf k (map (λ s. s .result) ss)
 
   along-stretches : (c a k : State m) (before ss : List (Taken m)) (ts : List (Match m)) → Along m c a k (before ++ ss) ts
       → StretchesBounded m c (stateAfter k before) ss

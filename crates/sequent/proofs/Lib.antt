@@ -6,3 +6,4 @@ pub mod Parts
 pub mod Places
 pub mod Entries
 pub mod Variants
+pub mod Shared
