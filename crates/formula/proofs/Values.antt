@@ -1,5 +1,5 @@
 -- The tests for equality are equality, and a value is its own reading at its type.
-use mathlib.Core.Path.{_≡_, refl, ap, subst}
+use mathlib.Core.Path.{_≡_, refl, sym, ap, subst, _∙_}
 use mathlib.Core.Bool.{Bool, true, false, Bool·beq}
 use lib.Dec.{T, eqb→eq, eqb-refl}
 use lib.IntN.{ℤ, pos, negsuc}
@@ -8,6 +8,9 @@ use Rattle.formula.specs.Values.{ValueType, integer, boolean, Value, Any
 pub as-value-wrap : (t : ValueType) (v : Value t) → asValue t (wrap t v) ≡ v
 as-value-wrap integer v = refl
 as-value-wrap boolean v = refl
+
+pub wrap-injective : (t : ValueType) (u v : Value t) → wrap t u ≡ wrap t v → u ≡ v
+wrap-injective t u v e = sym (as-value-wrap t u) ∙ ap (asValue t) e ∙ as-value-wrap t v
 
 pub equal-eq : (a b : ℤ) → T (equalℤ a b) → a ≡ b
 equal-eq (pos a) (pos b) t = ap pos (eqb→eq a b t)

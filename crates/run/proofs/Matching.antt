@@ -10,20 +10,19 @@ use Rattle.lists.specs.Choice.{pick}
 use Rattle.lists.specs.All.{All, all-nil, In, here}
 use Rattle.lists.proofs.All.{all-left, all-right, all-join, all-at, all-in, all-imp, all-map, all-unmap}
 use Rattle.lists.proofs.Below.{in-keep}
-use Rattle.formula.specs.Values.{wrap}
-use Rattle.formula.specs.Evaluate.{Env, evaluate, True}
-use Rattle.formula.proofs.Values.{eq-equal-value}
-use Rattle.machine.specs.Machine.{Machine, abstractVariable, sharedVariable, isShared, sharedVariables, unsharedVariables, unassigned}
+use Rattle.formula.specs.Evaluate.{Env, True}
+use Rattle.machine.specs.Machine.{Machine, abstractVariable, sharedVariable, isShared, sharedVariables, unsharedVariables}
 use Rattle.machine.specs.Machine.{Role, abstractInitialisation, abstractOrdinary, concreteInitialisation, refining, convergent, anticipated}
 use Rattle.machine.proofs.Variables.{is-shared}
 use Rattle.sequent.specs.Entry.{written, primed, moves, natural, decreases, notIncreased, unchanged, actionTree}
 use Rattle.sequent.specs.Sequent.{Meets, Valid, sequent, NAT, VAR}
 use Rattle.sequent.specs.Listed.{refined, base, guarded, moved, witnessEntries, sim, simNew, simSequents, invHypotheses, sequents}
 use Rattle.sequent.specs.Required.{isNew, ownInvariants}
+use Rattle.sequent.proofs.Shared.{unchanged-same, same-unchanged}
 use Rattle.run.specs.Run.{State, blank, world, Step, ofRun, Match, Matches, AgreeOnShared}
 use Rattle.run.specs.SafeRun.{isConvergent, ownState, notInitial, ofStretch, Bounded}
 use Rattle.run.proofs.WellFormed.{WitnessSees, WellFormed}
-use Rattle.run.proofs.Reading.{AllTrue, true-allows}
+use Rattle.run.proofs.Reading.{AllTrue}
 use Rattle.run.proofs.Views.{same-shared, Shares}
 use Rattle.run.proofs.Events.{EventValid, event-sees, events-valid}
 use Rattle.run.proofs.Steps.{step-moved, moved-step}
@@ -163,11 +162,10 @@ module _ (m : Machine) (wf : WellFormed m) (vs : All (Valid m) (sequents m)) whe
   -- a new event's abstract variables keep their values
   stays-true : (e : ℕ) → In e (m .events) → T (isNew (m .role e)) → (c a k q p k′ : State m)
       → All (Meets m (world m c a k q p a k′)) (map (moves e) (unsharedVariables m))
-  unfolding evaluate
   stays-true e i new c a k q p k′ = all-map (moves e) (all-in (unsharedVariables m) (λ x j.
       let ρ : Env (m .type) = world m c a k q p a k′ in
       let kept : ρ .after x ≡ ρ .present x = rw (unshared-kind x j) in
-      subst (λ A. True ρ (actionTree m A x)) (sym (all-at (wf .newStays e i new) j)) (eq-equal-value _ _ (ap (wrap (m .type x)) kept))))
+      subst (λ A. True ρ (actionTree m A x)) (sym (all-at (wf .newStays e i new) j)) (same-unchanged m ρ x kept)))
 
   -- by its SIM its shared variables keep theirs
   shared-stays : (ro : Role) (e : ℕ) → In e (m .events) → m .role e ≡ ro → T (isNew ro) → (c a k q p a′ k′ : State m)
@@ -192,7 +190,7 @@ module _ (m : Machine) (wf : WellFormed m) (vs : All (Valid m) (sequents m)) whe
       go x q h =
           let before : ρ .present x ≡ k x = rw q in
           let later : ρ .after x ≡ k′ x = rw q in
-          sym before ∙ sym (true-allows m ρ x unassigned tt h) ∙ later
+          sym before ∙ sym (unchanged-same m ρ x h) ∙ later
 
   -- after a new event's step the invariants are true, with the abstract state as it was
   new-pair : (ro : Role) (e : ℕ) → In e (m .events) → m .role e ≡ ro → T (isNew ro) → (c a k p k′ : State m) → PairTrue m c a k

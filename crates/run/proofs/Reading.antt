@@ -6,20 +6,18 @@ use mathlib.Core.Option.{Option, some}
 use Prim.Native.Nat.{ℕ}
 use Rattle.lists.specs.All.{All, all-nil, all-cons}
 use Rattle.lists.proofs.All.{all-head, all-tail, all-join, all-imp}
-use Rattle.formula.specs.Values.{ValueType, Value, AnyValue, wrap, asValue}
+use Rattle.formula.specs.Values.{ValueType, AnyValue, wrap, asValue}
 use Rattle.formula.specs.Evaluate.{Env, evaluate, readTree, True}
 use Rattle.formula.specs.WellDefined.{wellDefined}
 use Rattle.formula.proofs.Sort.{treeType, evaluate-type}
-use Rattle.formula.proofs.Values.{as-value-wrap, equal-value-eq, eq-equal-value}
+use Rattle.formula.proofs.Values.{equal-value-eq, eq-equal-value}
 use Rattle.formula.proofs.WellDefined.{well-defined-reads, reads-total, reads-well-defined, true-reads, reads-true}
 use Rattle.machine.specs.Machine.{Action, unassigned, becomesEqual, becomesSuchThat, Machine}
 use Rattle.sequent.specs.Entry.{Entry, written, actionTree}
 use Rattle.sequent.specs.Sequent.{Meets, Valid}
 use Rattle.sequent.specs.Listed.{inOrder, actionWD}
+use Rattle.sequent.proofs.Shared.{unchanged-same, same-unchanged}
 use Rattle.run.specs.Run.{Defined, AllReadTrue, NoneUndefined, Allows, ActionDefined}
-
-wrap-injective : (t : ValueType) (u v : Value t) → wrap t u ≡ wrap t v → u ≡ v
-wrap-injective t u v e = sym (as-value-wrap t u) ∙ ap (asValue t) e ∙ as-value-wrap t v
 
 module _ (m : Machine) (ρ : Env (m .type)) where
   -- every formula of a list of roots is true
@@ -65,13 +63,13 @@ module _ (m : Machine) (ρ : Env (m .type)) where
   -- form 4 of an action that is defined is true exactly where the action allows the after value
   pub true-allows : (x : ℕ) (A : Action) → ActionDefined m ρ A → True ρ (actionTree m A x) → Allows m ρ x A
   unfolding evaluate
-  true-allows x unassigned d t = wrap-injective (m .type x) (ρ .after x) (ρ .present x) (equal-value-eq _ _ t)
+  true-allows x unassigned d t = unchanged-same m ρ x t
   true-allows x (becomesEqual r) d t =
       defined-reads r d ∙ ap {B = Option AnyValue} some (sym (equal-value-eq (wrap (m .type x) (ρ .after x)) (evaluate ρ (m .tree r)) t))
   true-allows x (becomesSuchThat r) d t = true-reads ρ (m .tree r) (reads-well-defined ρ (m .tree r) (d .0) (d .1)) t
 
   pub allows-true : (x : ℕ) (A : Action) → Allows m ρ x A → True ρ (actionTree m A x)
   unfolding evaluate
-  allows-true x unassigned e = eq-equal-value _ _ (ap (wrap (m .type x)) e)
+  allows-true x unassigned e = same-unchanged m ρ x e
   allows-true x (becomesEqual r) e = eq-equal-value (wrap (m .type x) (ρ .after x)) (evaluate ρ (m .tree r)) (sym (reads-total ρ (m .tree r) _ e))
   allows-true x (becomesSuchThat r) e = reads-true ρ (m .tree r) e

@@ -1,5 +1,6 @@
--- 02, request 2: "Form 4 of it stands once among hypotheses, that of the concrete event." Among the hypotheses of a required sequent form 4 is that of the
--- sequent's own event, and each variable has it once: constructor by constructor, since what stands beside the moves is of form 1.
+-- 02, request 2. Form 10 is met where "after equals before", and nowhere else. "Form 4 of it stands once among hypotheses, that of the concrete event": among
+-- the hypotheses of a required sequent form 4 is that of the sequent's own event, and each variable has it once. Constructor by constructor, since what stands
+-- beside the moves is of form 1.
 use mathlib.Core.Path.{_≡_, refl, sym, ap, ap₂, _∙_}
 use mathlib.Core.Bool.{Bool, true, false, true≢false, not}
 use mathlib.Core.List.{List, [], _∷_, _++_, map, map-append, append-nil}
@@ -9,16 +10,28 @@ use Rattle.lists.specs.Below.{keep}
 use Rattle.lists.specs.Pairwise.{pairwise-nil}
 use Rattle.lists.proofs.Distinct.{Distinct, pairwise-left}
 use Rattle.lists.proofs.Flat.{keep-join}
+use Rattle.formula.specs.Values.{wrap}
+use Rattle.formula.specs.Evaluate.{Env, evaluate}
+use Rattle.formula.proofs.Values.{wrap-injective, equal-value-eq, eq-equal-value}
 use Rattle.table.specs.Rows.{Rows}
 use Rattle.machine.specs.Machine.{Role, Machine, unsharedVariables}
 use Rattle.machine.specs.Machine.{abstractInitialisation, abstractOrdinary, concreteInitialisation, refining, convergent, anticipated}
 use Rattle.machine.specs.Described.{machineOf}
 use Rattle.machine.proofs.Variables.{abstract-distinct, variables-apart}
 use Rattle.sequent.specs.Entry.{Entry, written, primed, defined, moves, feasible, witnessed, natural, decreases, notIncreased, unchanged, variable}
-use Rattle.sequent.specs.Sequent.{Sequent}
+use Rattle.sequent.specs.Sequent.{Sequent, Meets}
 use Rattle.sequent.specs.Required.{isNew, isConcrete, isInitialisation, asWritten, axiomsInvariants, baseOf, ownVariables, baseGuards, movesOf, witnessesOf, parameterWitnessesOf}
 use Rattle.sequent.specs.Required.{Required, wd-formula, wd-variant, wd-guard, wd-action, fis, wd-witness, wfis, grd, sim, sim-new, inv, inv-new, nat, var, var-anticipated}
 use Rattle.sequent.proofs.Ordered.{own-either}
+
+module _ (m : Machine) (ρ : Env (m .type)) (x : ℕ) where
+  pub unchanged-same : Meets m ρ (unchanged x) → ρ .after x ≡ ρ .present x
+  unfolding evaluate
+  unchanged-same h = wrap-injective (m .type x) (ρ .after x) (ρ .present x) (equal-value-eq _ _ h)
+
+  pub same-unchanged : ρ .after x ≡ ρ .present x → Meets m ρ (unchanged x)
+  unfolding evaluate
+  same-unchanged e = eq-equal-value _ _ (ap (wrap (m .type x)) e)
 
 abbrev pub isMove : Entry → Bool
 isMove (written r) = false
