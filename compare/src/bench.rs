@@ -35,13 +35,17 @@ const ENOUGH: usize = 7;
 /// Three sizes of one shape, from the smallest to the largest.
 type Sizes = [Subject; 3];
 
-/// A model, a table at every limit and the longest list.
-fn single() -> [Subject; 3] {
+/// A model, a table at every limit and the longest list, without shared variables and with them.
+fn single() -> [Subject; 4] {
     let model = layout(include_str!("../../models/free_list.txt")).expect("a model");
     [
         subject("model free_list", bytes_of(&model)),
         subject("512 nodes, 32 events", rows_of(|random| extreme(0, random))),
         subject("longest list", rows_of(|random| extreme(1, random))),
+        subject(
+            "longest list, shared",
+            rows_of(|random| extreme(11, random)),
+        ),
     ]
 }
 

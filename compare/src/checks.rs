@@ -151,7 +151,7 @@ fn refined_fits(table: &Table, event: Event) -> bool {
 /// Check 6: kinds, types and owners.
 fn check_identifier(table: &Table) -> Option<usize> {
     let fits = |identifier: &Identifier| {
-        (CONSTANT..=CONCRETE_PARAMETER).contains(&identifier.kind)
+        (CONSTANT..=SHARED_VARIABLE).contains(&identifier.kind)
             && (INTEGER..=BOOLEAN).contains(&identifier.type_number)
             && owner_fits(table, *identifier)
     };
@@ -217,7 +217,7 @@ fn formula_refers(table: &Table, formula: Formula) -> bool {
 fn action_refers(table: &Table, action: Formula) -> Option<bool> {
     let event = table.event(action.event)?;
     let target = table.identifier(action.identifier)?;
-    Some(target.kind == variable_kind(event.machine))
+    Some(is_variable_of(event.machine, target.kind))
 }
 
 fn witness_refers(table: &Table, witness: Formula) -> Option<bool> {
@@ -280,7 +280,7 @@ fn check_sight(table: &Table) -> Option<usize> {
 }
 
 /// Whether the formula may mention this identifier or after value.
-fn may_mention(table: &Table, formula: Formula, node: Node) -> bool {
+pub fn may_mention(table: &Table, formula: Formula, node: Node) -> bool {
     if node.operator == AFTER {
         may_mention_after(table, formula, node.b)
     } else {
@@ -296,14 +296,14 @@ fn may_mention_now(table: &Table, formula: Formula, number: i32) -> bool {
     }
     match formula.tag {
         AXIOM => false,
-        ABSTRACT_INVARIANT => kind == ABSTRACT_VARIABLE,
-        CONCRETE_INVARIANT => kind == ABSTRACT_VARIABLE || kind == CONCRETE_VARIABLE,
-        VARIANT => kind == CONCRETE_VARIABLE,
+        ABSTRACT_INVARIANT => is_variable_of(ABSTRACT, kind),
+        CONCRETE_INVARIANT => is_variable(kind),
+        VARIANT => is_variable_of(CONCRETE, kind),
         _ => {
             // A witness too sees its concrete event's parameters and that machine's variables.
             let event = table.events[formula.event as usize - 1];
             let own_parameter = identifier.is_parameter() && identifier.owner == formula.event;
-            let present = kind == variable_kind(event.machine) && event.class != INITIALISATION;
+            let present = is_variable_of(event.machine, kind) && event.class != INITIALISATION;
             let witnessed = formula.tag == WITNESS
                 && kind == ABSTRACT_PARAMETER
                 && number == formula.identifier;
@@ -319,7 +319,7 @@ fn may_mention_after(table: &Table, formula: Formula, number: i32) -> bool {
             let target = table.identifiers[formula.identifier as usize - 1];
             let mentioned = table.identifiers[number as usize - 1];
             target.is_variable()
-                && (number == formula.identifier || mentioned.kind == CONCRETE_VARIABLE)
+                && (number == formula.identifier || is_variable_of(CONCRETE, mentioned.kind))
         }
         _ => false,
     }

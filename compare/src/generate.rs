@@ -7,6 +7,7 @@ pub mod new_events;
 pub mod plan;
 pub mod random;
 pub mod sections;
+pub mod shared;
 pub mod tree;
 
 use crate::checks::{accept, ENTRY, FRAME, MISSING, ROOM, SEQUENT};

@@ -99,7 +99,10 @@ impl Hypotheses {
         Hypotheses {
             base: base(table, event),
             guards: table.guards(event).map(as_written).collect(),
-            moves: moves(table, event, table.events[event as usize - 1].machine),
+            moves: moves(
+                event,
+                table.variables(table.events[event as usize - 1].machine),
+            ),
             witnesses: table.witnesses(event).map(as_written).collect(),
             parameter_witnesses: table
                 .witnesses(event)
@@ -131,9 +134,9 @@ fn base(table: &Table, number: i32) -> Vec<Entry> {
     base
 }
 
-/// Form 4 of the event for the machine's variables in identifier order.
-fn moves(table: &Table, event: i32, machine: i32) -> Vec<Entry> {
-    let variables = table.variables(machine).into_iter();
+/// Form 4 of the event for each of these variables.
+fn moves(event: i32, variables: Vec<i32>) -> Vec<Entry> {
+    let variables = variables.into_iter();
     variables
         .map(|variable| entry(4, event, variable))
         .collect()
@@ -150,6 +153,9 @@ fn sequents_of_event(table: &Table, number: i32, list: &mut Vec<Sequent>) {
         wd_and_wfis_of_witnesses(table, number, &known, list);
         grd(table, number, &known, list);
         sim(table, number, &known, list);
+    }
+    if is_new(event.class) {
+        sim_of_shared(table, number, &known, list);
     }
     inv(table, number, &known, list);
     if event.class == CONVERGENT {
@@ -254,7 +260,7 @@ fn grd(table: &Table, event: i32, known: &Hypotheses, list: &mut Vec<Sequent>) {
     }
 }
 
-/// Each abstract variable, against the refined event or the abstract initialisation.
+/// Each variable of the abstract machine, against the refined event or the abstract initialisation.
 fn sim(table: &Table, number: i32, known: &Hypotheses, list: &mut Vec<Sequent>) {
     let event = table.events[number as usize - 1];
     let matched = if event.class == INITIALISATION {
@@ -273,11 +279,24 @@ fn sim(table: &Table, number: i32, known: &Hypotheses, list: &mut Vec<Sequent>) 
     }
 }
 
-/// Each invariant of the event's own machine.
+/// Each shared variable at an event that no abstract step matches: it keeps its value.
+fn sim_of_shared(table: &Table, event: i32, known: &Hypotheses, list: &mut Vec<Sequent>) {
+    for variable in table.of_kind(|kind| kind == SHARED_VARIABLE) {
+        list.push(Sequent {
+            kind: SIM,
+            event,
+            item: variable,
+            hypotheses: known.and_moves(),
+            goal: entry(10, variable, 0),
+        });
+    }
+}
+
+/// Each invariant of the event's own machine. Shared variables stand among the moves already.
 fn inv(table: &Table, number: i32, known: &Hypotheses, list: &mut Vec<Sequent>) {
     let event = table.events[number as usize - 1];
     let last = if is_new(event.class) {
-        moves(table, number, ABSTRACT)
+        moves(number, table.of_kind(|kind| kind == ABSTRACT_VARIABLE))
     } else {
         known.witnesses.clone()
     };
@@ -348,9 +367,17 @@ pub fn spell_out(table: &Table, entry: Entry) -> Vec<Symbol> {
             spell(table, first, &mut out);
         }
         8 => spell_variant_step(table, LESS, first, &mut out),
-        _ => spell_variant_step(table, AT_MOST, first, &mut out),
+        9 => spell_variant_step(table, AT_MOST, first, &mut out),
+        _ => spell_unchanged(first, &mut out),
     }
     out
+}
+
+/// The variable's after value equals its present one.
+fn spell_unchanged(variable: i32, out: &mut Vec<Symbol>) {
+    out.push(bare(EQUAL));
+    out.push(Symbol::new(AFTER, variable));
+    out.push(Symbol::new(IDENTIFIER, variable));
 }
 
 /// The variant after the step, compared with the variant before it.
@@ -362,16 +389,13 @@ fn spell_variant_step(table: &Table, operator: i32, root: i32, out: &mut Vec<Sym
 
 /// The action's equation or predicate, or "after equals before" if unassigned.
 fn spell_move(table: &Table, event: i32, variable: i32, out: &mut Vec<Symbol>) {
-    let action = table.action(event, variable);
-    match action {
+    match table.action(event, variable) {
+        None => spell_unchanged(variable, out),
         Some(action) if action.tag == BECOMES_SUCH_THAT => spell(table, action.root, out),
-        _ => {
+        Some(action) => {
             out.push(bare(EQUAL));
             out.push(Symbol::new(AFTER, variable));
-            match action {
-                Some(action) => spell(table, action.root, out),
-                None => out.push(Symbol::new(IDENTIFIER, variable)),
-            }
+            spell(table, action.root, out);
         }
     }
 }

@@ -2,6 +2,7 @@
 
 use crate::formula::{columns, Columns, LITERAL, TOP, TRUE};
 use crate::rows::{bytes_of, read_row, Row, ROW_BYTES};
+use crate::table::is_parameter;
 use std::collections::BTreeSet;
 use std::time::{Duration, Instant};
 
@@ -139,15 +140,19 @@ fn with_names(rows: &[Row], mut dropped: Places) -> Places {
     dropped
 }
 
-/// The table with this node replaced by one of its operands, or by a leaf.
+/// The table with this node replaced by one of its operands or of theirs, or by a leaf that mentions nothing.
 fn simpler_node(rows: &[Row], place: usize) -> Vec<Vec<Row>> {
     let operands = operand_places(rows, place);
-    if operands.is_empty() {
+    let names = rows
+        .get(place)
+        .is_some_and(|row| row.tag == 20 && !references(*row).is_empty());
+    if !names {
         return vec![];
     }
     let below = tree(rows, place);
     let mut tables = Vec::new();
-    for &operand in &operands {
+    let further = operands.iter().flat_map(|&one| operand_places(rows, one));
+    for operand in operands.iter().copied().chain(further) {
         let kept = tree(rows, operand);
         let dropped = below.difference(&kept).copied().collect();
         let mut hoisted = rows.to_vec();
@@ -184,7 +189,7 @@ fn plainer(rows: &[Row], place: usize) -> Vec<Vec<Row>> {
 /// A number of a row that names another row: the field, and the tag of what it names.
 fn references(row: Row) -> Vec<(usize, i32)> {
     match row.tag {
-        10 if row.a >= 4 => vec![(2, 40)],
+        10 if is_parameter(row.a) => vec![(2, 40)],
         20 => match columns(row.a) {
             Some(Columns::Identifier | Columns::Variable) => vec![(1, 10)],
             Some(Columns::OneOperand) => vec![(1, 20)],

@@ -2,12 +2,13 @@
 
 pub mod anticipated;
 pub mod shapes;
+pub mod shared;
 
 use crate::checks::{accept, Refusal};
 use crate::generate::sections::COMBINATIONS;
 use crate::generate::{case, Case};
 use crate::rows::ROW_BYTES;
-use crate::sequents::{sequents, spell_out, Sequent};
+use crate::sequents::{sequents, spell_out, Sequent, SIM};
 use crate::services::{check, print, spell_entry, write_sequent};
 use crate::table::Table;
 use shapes::{empty_sections, shapes};
@@ -25,6 +26,8 @@ pub struct Statistics {
     pub kinds: Counts,
     pub hypothesis_forms: Counts,
     pub goal_forms: Counts,
+    /// SIM of shared variables, by the class of its event.
+    pub shared_sim: Counts,
     pub operators: Counts,
     /// Tables by words for where their rows stand and how near a refusal they are.
     pub shapes: BTreeMap<String, usize>,
@@ -70,6 +73,10 @@ impl Statistics {
         self.most_sequents = self.most_sequents.max(list.len());
         for sequent in &list {
             count(&mut self.kinds, sequent.kind);
+            if sequent.kind == SIM && shared::is_shared(table, sequent.item) {
+                let event = table.events[sequent.event as usize - 1];
+                count(&mut self.shared_sim, event.class);
+            }
             self.longest_sequent = self.longest_sequent.max(sequent.hypotheses.len() + 2);
             for entry in &sequent.hypotheses {
                 count(&mut self.hypothesis_forms, entry.form);
@@ -95,6 +102,7 @@ impl Statistics {
             ("kind (sequents)", &self.kinds),
             ("form (hypotheses)", &self.hypothesis_forms),
             ("form (goals)", &self.goal_forms),
+            ("class (SIM of shared variables)", &self.shared_sim),
             ("operator (goals spelled)", &self.operators),
         ];
         for (title, counts) in lists {

@@ -7,6 +7,7 @@ pub const ABSTRACT_VARIABLE: i32 = 2;
 pub const CONCRETE_VARIABLE: i32 = 3;
 pub const ABSTRACT_PARAMETER: i32 = 4;
 pub const CONCRETE_PARAMETER: i32 = 5;
+pub const SHARED_VARIABLE: i32 = 6;
 
 pub const INTEGER: i32 = 1;
 pub const BOOLEAN: i32 = 2;
@@ -39,11 +40,11 @@ pub struct Identifier {
 
 impl Identifier {
     pub fn is_variable(&self) -> bool {
-        self.kind == ABSTRACT_VARIABLE || self.kind == CONCRETE_VARIABLE
+        is_variable(self.kind)
     }
 
     pub fn is_parameter(&self) -> bool {
-        self.kind == ABSTRACT_PARAMETER || self.kind == CONCRETE_PARAMETER
+        is_parameter(self.kind)
     }
 }
 
@@ -162,11 +163,15 @@ impl Table {
         named(&self.events, number)
     }
 
-    /// The numbers of a machine's variables in identifier order.
+    /// The numbers of a machine's variables in identifier order, shared ones among its own.
     pub fn variables(&self, machine: i32) -> Vec<i32> {
-        let kind = variable_kind(machine);
+        self.of_kind(|kind| is_variable_of(machine, kind))
+    }
+
+    /// The numbers of the identifiers whose kind is wanted, in order.
+    pub fn of_kind(&self, wanted: impl Fn(i32) -> bool) -> Vec<i32> {
         (1..=self.identifiers.len() as i32)
-            .filter(|&number| self.identifiers[number as usize - 1].kind == kind)
+            .filter(|&number| wanted(self.identifiers[number as usize - 1].kind))
             .collect()
     }
 
@@ -198,13 +203,24 @@ pub fn is_new(class: i32) -> bool {
     class == CONVERGENT || class == ANTICIPATED
 }
 
-/// The kind of a machine's variables.
-pub fn variable_kind(machine: i32) -> i32 {
-    if machine == ABSTRACT {
+/// Whether this is the kind of a machine's variables: those of its own, and those that both machines share.
+pub fn is_variable_of(machine: i32, kind: i32) -> bool {
+    let own = if machine == ABSTRACT {
         ABSTRACT_VARIABLE
     } else {
         CONCRETE_VARIABLE
-    }
+    };
+    kind == own || kind == SHARED_VARIABLE
+}
+
+/// Whether this is the kind of either machine's variables.
+pub fn is_variable(kind: i32) -> bool {
+    is_variable_of(ABSTRACT, kind) || is_variable_of(CONCRETE, kind)
+}
+
+/// Whether this is the kind of either machine's parameters.
+pub fn is_parameter(kind: i32) -> bool {
+    kind == ABSTRACT_PARAMETER || kind == CONCRETE_PARAMETER
 }
 
 /// The kind of a machine's parameters.

@@ -85,7 +85,7 @@ fn a_byte_past_the_rows_is_found() {
         }
     });
     let found = found.expect("found");
-    assert!(found.table.len() <= 6 * ROW_BYTES, "{}", found.report());
+    assert!(found.table.len() <= 7 * ROW_BYTES, "{}", found.report());
 }
 
 /// A buffer that is too short is written to.

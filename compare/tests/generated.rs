@@ -38,7 +38,8 @@ fn every_round_meets_every_refusal() {
 fn all_kinds_forms_and_operators_occur() {
     let statistics = Statistics::of(0, 300);
     assert!((1..=8).all(|kind| statistics.kinds.contains_key(&kind)));
-    assert!((1..=9).all(|form| statistics.goal_forms.contains_key(&form)));
+    assert!((1..=10).all(|form| statistics.goal_forms.contains_key(&form)));
+    assert!((0..=3).all(|class| statistics.shared_sim.contains_key(&class)));
     let operators = [1..=6, 10..=15, 20..=22, 30..=36, 40..=41];
     for operator in operators.into_iter().flatten() {
         assert!(statistics.operators.contains_key(&operator), "{operator}");
@@ -72,7 +73,7 @@ fn shapes_occur_in_numbers() {
         let above = format!("refused by 4, section {tag}: one above the limit");
         assert!(count(&above) > 0, "{tag}");
     }
-    for (word, least) in SHAPES.iter().chain(ANTICIPATED) {
+    for (word, least) in SHAPES.iter().chain(ANTICIPATED).chain(SHARED) {
         assert!(count(word) >= *least, "{word}: {}", count(word));
     }
 }
@@ -142,10 +143,82 @@ const ANTICIPATED: &[(&str, usize)] = &[
     ("refused by 5: class 4", 2),
     ("refused by 6: class 3 owns an abstract parameter", 12),
     ("refused by 7: witness at class 3", 10),
-    ("refused by 7: action at class 3", 8),
+    ("refused by 7: action at class 3", 4),
     ("refused by 11: action at class 3", 2),
     ("refused by 12, alone: variant, with class 3", 2),
     ("refused by 12, alone: new event, with ordinary ones", 4),
+];
+
+/// The same of tables in which kind 6 matters.
+const SHARED: &[(&str, usize)] = &[
+    ("accepted, variables without kind 6", 400),
+    ("accepted, kind 6: any", 400),
+    ("accepted, kind 6: beside kinds 2 and 3", 80),
+    ("accepted, kind 6: beside kind 2 alone", 80),
+    ("accepted, kind 6: beside kind 3 alone", 60),
+    ("accepted, kind 6: without other variables", 160),
+    ("accepted, kind 6: mixed with kind 2 by number", 80),
+    ("accepted, kind 6: mixed with kind 3 by number", 60),
+    ("accepted, kind 6: integer", 300),
+    ("accepted, kind 6: boolean", 240),
+    ("accepted, kind 6: 64 of them", 6),
+    ("accepted, kind 6: set by initialisations alone", 120),
+    ("accepted, kind 6: set by an event, abstract, 51", 100),
+    ("accepted, kind 6: set by an event, abstract, 52", 100),
+    ("accepted, kind 6: set by an event, ordinary, 51", 100),
+    ("accepted, kind 6: set by an event, ordinary, 52", 100),
+    ("accepted, kind 6: set by an event, convergent, 51", 60),
+    ("accepted, kind 6: set by an event, convergent, 52", 60),
+    ("accepted, kind 6: set by an event, anticipated, 51", 80),
+    ("accepted, kind 6: set by an event, anticipated, 52", 80),
+    ("accepted, kind 6: present value in 31", 80),
+    ("accepted, kind 6: present value in 32", 60),
+    ("accepted, kind 6: present value in 70", 80),
+    ("accepted, kind 6: present value in abstract 50", 40),
+    ("accepted, kind 6: present value in concrete 50", 80),
+    ("accepted, kind 6: present value in abstract 51", 80),
+    ("accepted, kind 6: present value in concrete 51", 100),
+    ("accepted, kind 6: present value in abstract 52", 20),
+    ("accepted, kind 6: present value in concrete 52", 40),
+    ("accepted, kind 6: present value in parameter witness", 40),
+    ("accepted, kind 6: present value in variable witness", 40),
+    ("accepted, kind 6: after value in abstract 52", 4),
+    ("accepted, kind 6: after value in concrete 52", 12),
+    ("accepted, kind 6: after value in abstract 52, initial", 40),
+    ("accepted, kind 6: after value in concrete 52, initial", 40),
+    ("accepted, kind 6: after value in variable witness", 40),
+    (
+        "accepted, kind 6: after value in variable witness, initial",
+        20,
+    ),
+    ("refused by 6: kind 0", 2),
+    ("refused by 6: kind 7", 2),
+    ("refused by 6: kind 6 with an owner", 6),
+    ("refused by 6: kind 6, type", 2),
+    ("refused by 7: witness for kind 6", 12),
+    ("refused by 10: present value of kind 6 in 30", 2),
+    (
+        "refused by 10: present value of kind 6 in abstract 51, initial",
+        1,
+    ),
+    (
+        "refused by 10: present value of kind 6 in concrete 52, initial",
+        1,
+    ),
+    (
+        "refused by 10: present value of kind 6 in variable witness, initial",
+        2,
+    ),
+    ("refused by 10: after value of kind 6 in 30", 1),
+    ("refused by 10: after value of kind 6 in 31", 1),
+    ("refused by 10: after value of kind 6 in 32", 1),
+    ("refused by 10: after value of kind 6 in 70", 1),
+    ("refused by 10: after value of kind 6 in abstract 50", 1),
+    ("refused by 10: after value of kind 6 in concrete 51", 1),
+    ("refused by 11: action for kind 6", 20),
+    ("refused by 12, alone: abstract initial action, kind 6", 4),
+    ("refused by 12, alone: concrete initial action, kind 6", 4),
+    ("refused by 12, alone: both initial actions, kind 6", 2),
 ];
 
 #[test]

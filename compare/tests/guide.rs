@@ -3,7 +3,7 @@
 mod common;
 
 use common::{rows, table};
-use compare::rows::{bytes_of, layout, Row};
+use compare::rows::{bytes_of, layout, Row, ROW_BYTES};
 use compare::services::{print, refusal_row, Answers};
 
 const GUIDE: &str = include_str!("../../docs/GUIDE.md");
@@ -13,6 +13,7 @@ fn model(name: &str) -> &'static str {
         "L" => include_str!("../../models/L.txt"),
         "counter" => include_str!("../../models/counter.txt"),
         "placing_head" => include_str!("../../models/placing_head.txt"),
+        "free_list" => include_str!("../../models/free_list.txt"),
         _ => panic!("no model {name}"),
     }
 }
@@ -40,7 +41,7 @@ fn numbers(text: &str) -> Vec<usize> {
 fn title(line: &str) -> Option<(&str, &str, &str)> {
     let (typed, comment) = line.split_once('#')?;
     let (name, rest) = comment.trim().split_once(", ")?;
-    ["L", "counter", "placing_head"]
+    ["L", "counter", "placing_head", "free_list"]
         .contains(&name)
         .then_some((typed, name, rest))
 }
@@ -103,16 +104,15 @@ fn replies_are_those_given() {
             written += 1;
         }
     }
-    assert_eq!((refused, written), (24, 9));
+    assert_eq!((refused, written), (31, 13));
 }
 
 /// Rows of a block that isn't an example of a reply stand in one of the models.
 #[test]
 fn rows_quoted_from_models_stand_there() {
-    let free_list = include_str!("../../models/free_list.txt");
     let mut all = rows(model("counter"));
     all.extend(rows(model("placing_head")));
-    all.extend(rows(free_list));
+    all.extend(rows(model("free_list")));
     for block in blocks() {
         // Commands and machines on paper are no rows.
         let quoted = layout(&block.join("\n")).unwrap_or_default();
@@ -130,4 +130,12 @@ fn counts_are_right() {
     assert_eq!(Answers::of(&table(model("L"))).check(), Ok(5));
     assert_eq!(Answers::of(&table(model("counter"))).check(), Ok(57));
     assert_eq!(Answers::of(&table(model("placing_head"))).check(), Ok(50));
+    // The free list's sizes after the variable is shared, by tag.
+    let free_list = rows(model("free_list"));
+    let tagged = |tag| free_list.iter().filter(|row| row.tag == tag).count();
+    assert_eq!([10, 20, 32, 60].map(tagged), [13, 372, 14, 3]);
+    assert_eq!(free_list.len(), 478);
+    assert_eq!(Answers::of(&table(model("free_list"))).check(), Ok(254));
+    let printed = print(&table(model("free_list")));
+    assert_eq!(printed.len() / ROW_BYTES, 6076);
 }

@@ -60,11 +60,11 @@ fn no_small_values_refute_a_model() {
 #[test]
 fn a_block_freed_twice_is_refuted() {
     let mut model = rows(FREE_LIST.0);
-    let guard = Row::new(50, 8, 319, 0);
+    let guard = Row::new(50, 8, 304, 0);
     assert!(model.contains(&guard));
-    // taken1 = TRUE becomes taken1 = taken1: node n is row n + 14.
-    model[14 + 318 - 1] = Row::new(20, 2, 9, 0);
-    assert_eq!(refuted(&model, -1..=4), [144, 156]);
+    // taken1 = TRUE becomes taken1 = taken1: node n is row n + 13.
+    model[13 + 303 - 1] = Row::new(20, 2, 8, 0);
+    assert_eq!(refuted(&model, -1..=4), [129, 140]);
 }
 
 /// A counter that carries below its base doesn't converge.

@@ -80,8 +80,8 @@ fn extremes_are_accepted() {
 
 #[test]
 fn every_limit_at_once() {
-    // Without anticipated events, and with them.
-    for number in [0, 8] {
+    // Without anticipated events and shared variables, with the first, and with both.
+    for number in [0, 8, 10] {
         let bytes = extreme_table(number);
         assert_eq!(bytes.len() / 38, 64 + 512 + 48 + 32 + 64 + 128 + 128 + 1);
         assert!(check(&bytes).is_ok(), "{number}");
@@ -96,10 +96,18 @@ fn most_sequents() {
     assert_eq!(check(&extreme_table(1)), Ok(count));
 }
 
+/// The same with 60 shared variables for concrete ones: 30 × 64 SIM.
+#[test]
+fn most_sequents_with_shared_variables() {
+    let count = 48 + 64 + 2 * 128 + 2 * 120 + 29 * 64 + 30 * 64 + 32 * 16;
+    assert_eq!(count, 4896);
+    assert_eq!(check(&extreme_table(11)), Ok(count));
+}
+
 #[test]
 fn longest_sequent() {
-    // At an ordinary event, and at an anticipated one.
-    for number in [2, 9] {
+    // At an ordinary event, at an anticipated one, and with 64 shared variables.
+    for number in [2, 9, 12] {
         let read = compare::checks::accept(&extreme_table(number)).expect("accepted");
         let list = sequents(&read);
         let longest = list.iter().map(|one| one.hypotheses.len() + 2).max();

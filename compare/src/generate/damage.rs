@@ -264,7 +264,7 @@ fn damage_identifier(rows: &mut [Row], random: &mut Random) {
         return;
     };
     match random.below(4) {
-        0 => rows[place].a = random.pick(&[0, 1, 2, 3, 4, 5, 6, -1]),
+        0 => rows[place].a = random.pick(&[0, 1, 2, 3, 4, 5, 6, 7, -1]),
         1 => rows[place].b = random.pick(&[0, 3, -1, i32::MAX]),
         2 => rows[place].c = random.pick(&ODD),
         _ => rows[place].c = random.between(0, events + 1) as i32,
@@ -382,8 +382,7 @@ fn wrong_sight(draft: &mut Draft, random: &mut Random) {
         return;
     };
     let [kind, type_number, _] = draft.identifiers[number as usize - 1];
-    let is_variable = kind == ABSTRACT_VARIABLE || kind == CONCRETE_VARIABLE;
-    let after = is_variable && random.one_in(2);
+    let after = is_variable(kind) && random.one_in(2);
     let new = Tree::leaf(if after { AFTER } else { IDENTIFIER }, number);
     let sort = sort_of_type(type_number);
     let identifiers = draft.identifiers.clone();

@@ -7,6 +7,7 @@ use super::new_events::{make_ordinary, near_anticipated};
 use super::plan::{numbers_of, root_sort, sight};
 use super::random::Random;
 use super::sections::{sectioned, TAGS};
+use super::shared::{near_shared, NEAR_SHARED};
 use super::tree::{Grower, Tree};
 use crate::formula::{columns, sort, Columns, LITERAL};
 use crate::rows::{bytes_of, Row};
@@ -15,15 +16,19 @@ use crate::table::*;
 /// The refusals that tables come near to.
 pub const NEAR: [i32; 8] = [3, 4, 5, 6, 7, 9, 11, 12];
 
-/// Any of them, whatever the table's refusal then is; or whole sections left out.
+/// Any of them, whatever the table's refusal then is; one for shared variables; or whole sections left out.
 pub fn near_miss(random: &mut Random) -> Vec<u8> {
-    let draft = if random.one_in(2) {
+    let mut draft = if random.one_in(2) {
         sectioned(random)
     } else {
         accepted_draft(random)
     };
     if random.one_in(6) {
         return bytes_of(&without_sections(draft.rows(random), random));
+    }
+    if random.one_in(3) {
+        near_shared(random.pick(&NEAR_SHARED), &mut draft, random);
+        return bytes_of(&draft.rows(random));
     }
     let refusal = if random.one_in(6) {
         random.pick(&[5, 6, 7])
@@ -37,8 +42,9 @@ pub fn near_miss(random: &mut Random) -> Vec<u8> {
 pub fn near(refusal: i32, draft: &Draft, random: &mut Random) -> Vec<Row> {
     let mut draft = draft.clone();
     match refusal {
+        6 | 7 | 11 | 12 if random.one_in(3) => near_shared(refusal, &mut draft, random),
         5..=7 => near_anticipated(refusal, &mut draft, random),
-        11 => second_target(&mut draft, random),
+        11 => second_target(&mut draft, random, |_| true),
         12 => leave_one_out(&mut draft, random),
         _ => {}
     }
@@ -241,17 +247,19 @@ fn chosen_place(places: &[usize], random: &mut Random) -> Option<usize> {
 }
 
 /// The places of the formulas that meet the condition.
-fn formulas(draft: &Draft, meets: impl Fn(&DraftFormula) -> bool) -> Vec<usize> {
+pub fn formulas(draft: &Draft, meets: impl Fn(&DraftFormula) -> bool) -> Vec<usize> {
     (0..draft.formulas.len())
         .filter(|&place| meets(&draft.formulas[place]))
         .collect()
 }
 
-/// A second action or witness for one target, at the other end of its section; or the same target for another event.
-fn second_target(draft: &mut Draft, random: &mut Random) {
+/// A second action or witness for one of the targets wanted, at the other end of its section; or the same target for another
+/// event.
+pub fn second_target(draft: &mut Draft, random: &mut Random, wanted: impl Fn(i32) -> bool) {
     let tag = random.pick(&[51, 52, 60]);
     let any = random.one_in(2);
-    let targeted = |one: &DraftFormula| is_action(one.tag) || one.tag == WITNESS;
+    let targeted =
+        |one: &DraftFormula| (is_action(one.tag) || one.tag == WITNESS) && wanted(one.identifier);
     let found = formulas(draft, |one| targeted(one) && (any || one.tag == tag));
     let Some(place) = chosen_place(&found, random) else {
         return;
@@ -262,8 +270,8 @@ fn second_target(draft: &mut Draft, random: &mut Random) {
             formula.tag = 51 + 52 - formula.tag;
         }
         if random.one_in(4) {
-            let machine = draft.events[formula.event as usize - 1][0];
-            let own = numbers_of(&draft.events, |event| event[0] == machine);
+            let kind = draft.identifiers[formula.identifier as usize - 1][0];
+            let own = numbers_of(&draft.events, |event| is_variable_of(event[0], kind));
             formula.event = random.pick(&own);
         }
     }

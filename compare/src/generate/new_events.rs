@@ -27,7 +27,7 @@ fn any_anticipated(draft: &mut Draft, random: &mut Random) -> i32 {
 }
 
 /// The numbers of a machine's events of one class.
-fn of_class(draft: &Draft, machine: i32, class: i32) -> Vec<i32> {
+pub fn of_class(draft: &Draft, machine: i32, class: i32) -> Vec<i32> {
     numbers_of(&draft.events, |event| event[..2] == [machine, class])
 }
 
@@ -88,8 +88,8 @@ fn change_row(draft: &mut Draft, anticipated: i32, random: &mut Random) {
         draft.formulas[place].event = anticipated;
         return;
     }
-    let kinds = [ABSTRACT_VARIABLE, ABSTRACT_PARAMETER, CONCRETE_VARIABLE];
-    let targets = numbers_of(&draft.identifiers, |one| kinds.contains(&one[0]));
+    let fits = |kind: i32| is_variable(kind) || kind == ABSTRACT_PARAMETER;
+    let targets = numbers_of(&draft.identifiers, |one| fits(one[0]));
     let identifier = match tag {
         GUARD => 0,
         _ => random.maybe(&targets).unwrap_or(1),

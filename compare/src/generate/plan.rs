@@ -38,6 +38,7 @@ pub struct Plan {
     pub constants: usize,
     pub abstract_variables: usize,
     pub concrete_variables: usize,
+    pub shared_variables: usize,
     pub abstract_parameters: usize,
     pub concrete_parameters: usize,
     pub abstract_events: usize,
@@ -86,7 +87,46 @@ impl Plan {
             ..Plan::default()
         };
         plan.share_new_events(new_events, random);
+        plan.make_shared(random);
         plan.within_limits()
+    }
+
+    /// Makes variables of one machine shared ones: none in five of twelve cases, else any, all of either machine, or all.
+    fn make_shared(&mut self, random: &mut Random) {
+        let (all_abstract, all_concrete) = (self.abstract_variables, self.concrete_variables);
+        let some_abstract = random.below(all_abstract + 1);
+        let some_concrete = random.below(all_concrete + 1);
+        let (from_abstract, from_concrete) = match random.below(12) {
+            0 => (all_abstract, all_concrete),
+            1 => (all_abstract, some_concrete),
+            2 => (some_abstract, all_concrete),
+            3..=6 => (some_abstract, some_concrete),
+            _ => (0, 0),
+        };
+        self.abstract_variables -= from_abstract;
+        self.concrete_variables -= from_concrete;
+        self.add_shared(from_abstract + from_concrete);
+    }
+
+    /// So many shared variables more, with room for their second initial action.
+    pub fn add_shared(&mut self, count: usize) {
+        self.shared_variables += count;
+        self.actions = (self.actions + count).min(Table::MOST_ACTIONS);
+    }
+
+    /// So many of the concrete variables become shared ones.
+    pub fn share_concrete(&mut self, count: usize) {
+        self.concrete_variables -= count;
+        self.add_shared(count);
+    }
+
+    /// How many identifiers there are besides constants.
+    pub fn other_identifiers(&self) -> usize {
+        self.abstract_variables
+            + self.concrete_variables
+            + self.shared_variables
+            + self.abstract_parameters
+            + self.concrete_parameters
     }
 
     /// So many new events: of either class alone in one case of four, else of both if there are two or more.
@@ -161,6 +201,7 @@ impl Plan {
             (CONSTANT, self.constants),
             (ABSTRACT_VARIABLE, self.abstract_variables),
             (CONCRETE_VARIABLE, self.concrete_variables),
+            (SHARED_VARIABLE, self.shared_variables),
             (ABSTRACT_PARAMETER, self.abstract_parameters),
             (CONCRETE_PARAMETER, self.concrete_parameters),
         ];
@@ -211,8 +252,8 @@ impl Plan {
     fn action_places(&self, draft: &Draft, random: &mut Random) -> Vec<Place> {
         let (mut initial, mut others) = (Vec::new(), Vec::new());
         for (n, event) in draft.events.iter().enumerate() {
-            let kind = variable_kind(event[0]);
-            for variable in numbers_of(&draft.identifiers, |one| one[0] == kind) {
+            let own = |one: &[i32; 3]| is_variable_of(event[0], one[0]);
+            for variable in numbers_of(&draft.identifiers, own) {
                 let any = self.action_tags == ActionTags::Any;
                 let tag = action_tag(any && random.one_in(2));
                 let place = (tag, n as i32 + 1, variable);
@@ -381,14 +422,14 @@ fn sees_now(draft: &Draft, place: Place, (number, kind, owner): Place) -> bool {
     if (AXIOM..=CONCRETE_INVARIANT).contains(&tag) || tag == VARIANT {
         let seen: &[i32] = match tag {
             AXIOM => &[],
-            ABSTRACT_INVARIANT => &[ABSTRACT_VARIABLE],
-            CONCRETE_INVARIANT => &[ABSTRACT_VARIABLE, CONCRETE_VARIABLE],
-            _ => &[CONCRETE_VARIABLE],
+            ABSTRACT_INVARIANT => &[ABSTRACT],
+            CONCRETE_INVARIANT => &[ABSTRACT, CONCRETE],
+            _ => &[CONCRETE],
         };
-        return seen.contains(&kind);
+        return seen.iter().any(|&machine| is_variable_of(machine, kind));
     }
     let [machine, class, _] = draft.events[event as usize - 1];
-    let present = class != INITIALISATION && kind == variable_kind(machine);
+    let present = class != INITIALISATION && is_variable_of(machine, kind);
     let witnessed = tag == WITNESS && number == target && kind == ABSTRACT_PARAMETER;
     present || owner == event || witnessed
 }
@@ -398,16 +439,16 @@ fn sees_after(draft: &Draft, (tag, _, target): Place, number: i32) -> bool {
     match tag {
         BECOMES_SUCH_THAT => number == target,
         WITNESS if kind(target) == ABSTRACT_VARIABLE => {
-            number == target || kind(number) == CONCRETE_VARIABLE
+            number == target || is_variable_of(CONCRETE, kind(number))
         }
         _ => false,
     }
 }
 
-pub const EXTREMES: usize = 11;
+pub const EXTREMES: usize = 14;
 
-/// Tables at the limits. Numbers 1, 2 and 3 have the most sequents, the longest sequent
-/// and the longest spelled entry that were found.
+/// Tables at the limits. Numbers 1, 2 and 3 have the most sequents without shared variables, the longest sequent
+/// and the longest spelled entry that were found, number 11 the most sequents.
 pub fn extreme(number: usize, random: &mut Random) -> Draft {
     let full = Plan {
         axioms: 16,
@@ -429,6 +470,9 @@ pub fn extreme(number: usize, random: &mut Random) -> Draft {
         7 => many_events(random),
         8 => anticipated_everything(full, random),
         9 => longest_anticipated(full, random),
+        10 => shared_everything(full, random),
+        11 => most_sequents_shared(full),
+        12 => only_shared(full, random),
         _ => near_limits(full, random),
     };
     plan.draft(random)
@@ -454,6 +498,13 @@ fn anticipated_everything(full: Plan, random: &mut Random) -> Plan {
     plan.convergent = random.pick(&[0, 1, 5, 9]);
     plan.anticipated = 10 - plan.convergent;
     plan.variant = true;
+    plan
+}
+
+/// The same with shared variables, beside concrete ones or in their place.
+fn shared_everything(full: Plan, random: &mut Random) -> Plan {
+    let mut plan = anticipated_everything(full, random);
+    plan.share_concrete(random.pick(&[1, 10, 29, 30]));
     plan
 }
 
@@ -491,6 +542,13 @@ fn most_sequents(full: Plan) -> Plan {
     }
 }
 
+/// A shared variable has SIM at every concrete event, and no witnesses to fill their section.
+fn most_sequents_shared(full: Plan) -> Plan {
+    let mut plan = most_sequents(full);
+    plan.share_concrete(plan.concrete_variables);
+    plan
+}
+
 /// Base 48, guards 64, and one hypothesis for each of 64 variables.
 fn longest_sequent(full: Plan) -> Plan {
     Plan {
@@ -513,6 +571,19 @@ fn longest_anticipated(full: Plan, random: &mut Random) -> Plan {
         guards_at: 3,
         ..full
     }
+}
+
+/// 64 shared variables, whose actions are all initial, or one fewer; any event of the concrete machine has all guards.
+fn only_shared(full: Plan, random: &mut Random) -> Plan {
+    let mut plan = Plan {
+        shared_variables: random.pick(&[63, 64, 64]),
+        abstract_events: 1,
+        ordinary: 1,
+        ..full
+    };
+    plan.share_new_events(random.pick(&[1, 2, 4]), random);
+    plan.guards_at = random.between(4, 4 + plan.new_events()) as i32;
+    plan
 }
 
 fn longest_entry(random: &mut Random) -> Draft {
@@ -540,11 +611,7 @@ pub fn deep(depth: usize, random: &mut Random) -> Draft {
 
 fn sixty_four_identifiers(random: &mut Random) -> Plan {
     let mut plan = Plan::any(random, 6);
-    let others = plan.abstract_variables
-        + plan.concrete_variables
-        + plan.abstract_parameters
-        + plan.concrete_parameters;
-    plan.constants = Table::MOST_IDENTIFIERS - others;
+    plan.constants = Table::MOST_IDENTIFIERS - plan.other_identifiers();
     plan
 }
 
@@ -567,8 +634,10 @@ fn one_formula(random: &mut Random) -> Plan {
 
 fn many_witnesses(full: Plan, random: &mut Random) -> Plan {
     let (abstract_variables, ordinary) = random.pick(&[(32, 3), (16, 7), (8, 15), (64, 1)]);
+    let left = Table::MOST_IDENTIFIERS - abstract_variables;
     Plan {
         abstract_variables,
+        shared_variables: random.pick(&[0, 0, 1, 16]).min(left),
         ordinary,
         abstract_events: 1 + random.below(3),
         anticipated: random.below(3),
@@ -585,6 +654,7 @@ fn many_events(random: &mut Random) -> Plan {
         ordinary,
         abstract_variables: random.below(3),
         concrete_variables: random.below(3),
+        shared_variables: random.below(3),
         concrete_invariants: random.below(4),
         ..Plan::default()
     };
@@ -613,5 +683,8 @@ fn near_limits(full: Plan, random: &mut Random) -> Plan {
         ..full
     };
     plan.share_new_events(new_events, random);
+    if random.one_in(2) {
+        plan.share_concrete(random.between(1, plan.concrete_variables));
+    }
     plan
 }

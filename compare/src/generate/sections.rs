@@ -271,10 +271,8 @@ impl Wanted {
         if plan.ordinary + plan.new_events() > 0 && self.full == 0 {
             plan.concrete_parameters = random.pick(&[0, 0, 1, 3]);
         }
-        let others = plan.abstract_variables
-            + plan.concrete_variables
-            + plan.abstract_parameters
-            + plan.concrete_parameters;
+        self.set_shared(plan, random);
+        let others = plan.other_identifiers();
         let left = Table::MOST_IDENTIFIERS - others;
         plan.constants = match self.full {
             IDENTIFIERS => left,
@@ -283,7 +281,17 @@ impl Wanted {
         };
     }
 
-    /// Actions without witnesses: concrete variables alone.
+    /// Some of the concrete variables become shared ones, or all of them.
+    fn set_shared(&self, plan: &mut Plan, random: &mut Random) {
+        let some = random.below(plan.concrete_variables + 1);
+        match random.below(5) {
+            0 => plan.share_concrete(plan.concrete_variables),
+            1 => plan.share_concrete(some),
+            _ => {}
+        }
+    }
+
+    /// Actions without witnesses: concrete variables alone, of which some may be shared later.
     fn set_concrete(&self, plan: &mut Plan, random: &mut Random) {
         plan.concrete_variables = random.pick(&[1, 1, 2, 3, 5]);
         if self.full == BECOMES_EQUAL || self.full == BECOMES_SUCH_THAT {
@@ -316,6 +324,11 @@ impl Wanted {
     }
 
     fn set_both(&self, plan: &mut Plan, random: &mut Random) {
+        if self.full == 0 && random.one_in(4) {
+            // Witnesses of parameters, actions of shared variables.
+            self.set_parameters(plan, random);
+            return plan.add_shared(random.pick(&[1, 1, 2, 4]));
+        }
         plan.abstract_variables = random.pick(&[1, 1, 2, 3]);
         plan.concrete_variables = random.pick(&[0, 0, 1, 3]);
         match self.full {

@@ -201,13 +201,14 @@ fn bare(new_events: &[i32]) -> Draft {
     draft
 }
 
-/// An event of each class in either machine, a variable of each and a parameter.
+/// An event of each class in either machine, a variable of each, one that both share, and a parameter.
 fn small() -> Draft {
     let draft = Draft {
         identifiers: vec![
             [ABSTRACT_VARIABLE, INTEGER, 0],
             [CONCRETE_VARIABLE, INTEGER, 0],
             [ABSTRACT_PARAMETER, INTEGER, 2],
+            [SHARED_VARIABLE, INTEGER, 0],
         ],
         events: vec![
             [ABSTRACT, INITIALISATION, 0],
@@ -222,6 +223,8 @@ fn small() -> Draft {
     let places = [
         (BECOMES_EQUAL, 1, 1),
         (BECOMES_EQUAL, 3, 2),
+        (BECOMES_EQUAL, 1, 4),
+        (BECOMES_EQUAL, 3, 4),
         (WITNESS, 3, 1),
         (WITNESS, 4, 1),
         (WITNESS, 4, 3),
@@ -231,7 +234,7 @@ fn small() -> Draft {
 }
 
 /// Places in the small machine for one formula more, or for one that it has.
-const PLACES: [Place; 16] = [
+const PLACES: [Place; 18] = [
     (AXIOM, 0, 0),
     (ABSTRACT_INVARIANT, 0, 0),
     (CONCRETE_INVARIANT, 0, 0),
@@ -242,6 +245,8 @@ const PLACES: [Place; 16] = [
     (BECOMES_EQUAL, 1, 1),
     (BECOMES_EQUAL, 4, 2),
     (BECOMES_EQUAL, 6, 2),
+    (BECOMES_EQUAL, 5, 4),
+    (BECOMES_SUCH_THAT, 2, 4),
     (BECOMES_SUCH_THAT, 2, 1),
     (BECOMES_SUCH_THAT, 4, 2),
     (BECOMES_SUCH_THAT, 6, 2),

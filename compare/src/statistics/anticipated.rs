@@ -42,7 +42,8 @@ pub fn accepted(table: &Table) -> Vec<String> {
 }
 
 fn has_long_inv(table: &Table) -> bool {
-    table.variables(ABSTRACT).len() >= MANY && table.tagged(CONCRETE_INVARIANT).next().is_some()
+    let variables = table.of_kind(|kind| kind == ABSTRACT_VARIABLE);
+    variables.len() >= MANY && table.tagged(CONCRETE_INVARIANT).next().is_some()
 }
 
 /// The numbers of the concrete events of a class.

@@ -1,6 +1,6 @@
 //! Where the rows of a table stand, and how near it is to a refusal: words for what a table has, to be counted.
 
-use super::anticipated;
+use super::{anticipated, shared};
 use crate::checks::{initialisation, Refusal, FULL, MISSING, TAG, TWICE, USE};
 use crate::formula::operands;
 use crate::generate::sections::TAGS;
@@ -93,6 +93,7 @@ fn accepted(table: &Table) -> Vec<String> {
     let found = flags.into_iter().filter(|one| one.1);
     words.extend(found.map(|(word, _)| format!("accepted, {word}")));
     words.extend(anticipated::accepted(table));
+    words.extend(shared::accepted(table));
     words
 }
 
@@ -167,6 +168,7 @@ fn refused(table: &Table, refusal: Refusal) -> Vec<String> {
         words.extend(TAGS.into_iter().filter(full).map(words_of));
     }
     words.extend(anticipated::refused(table, refusal));
+    words.extend(shared::refused(table, refusal));
     words
 }
 
@@ -241,7 +243,11 @@ fn missing(table: &Table) -> Vec<String> {
             Some(event) => {
                 let mut unassigned = table.variables(machine);
                 unassigned.retain(|&variable| table.action(event, variable).is_none());
-                found.extend(unassigned.iter().map(|_| format!("{name} initial action")));
+                found.extend(unassigned.iter().map(|&variable| {
+                    let shared = shared::is_shared(table, variable);
+                    let kind = if shared { ", kind 6" } else { "" };
+                    format!("{name} initial action{kind}")
+                }));
             }
         }
     }
@@ -249,10 +255,17 @@ fn missing(table: &Table) -> Vec<String> {
         found.extend(missing_witnesses(table, number));
     }
     found.extend(anticipated::missing(table).map(str::to_string));
-    match &found[..] {
-        [one] => vec![format!("refused by 12, alone: {one}")],
-        _ => vec!["refused by 12: several".to_string()],
+    if let [one] = &found[..] {
+        return vec![format!("refused by 12, alone: {one}")];
     }
+    let both = [
+        "abstract initial action, kind 6",
+        "concrete initial action, kind 6",
+    ];
+    if found == both && shared::unset_in_both(table) {
+        return vec!["refused by 12, alone: both initial actions, kind 6".to_string()];
+    }
+    vec!["refused by 12: several".to_string()]
 }
 
 fn missing_witnesses(table: &Table, number: i32) -> Vec<String> {
