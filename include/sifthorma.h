@@ -17,8 +17,8 @@
  *   8        row                         sort: an operand or a root of the wrong sort
  *   9        row of the node             use: a node that isn't used exactly once
  *   10       row that names the root     sight: the formula mentions what it may not
- *   11       row                         twice: a second action or witness for one target
- *   12       0                           missing: an initialisation, an initial action, a witness, a variant for convergent events, or convergent or anticipated events for a variant
+ *   11       row                         twice: a second action or witness of one event for one target
+ *   12       0                           missing: an initialisation, an initial action (of a shared variable, in both machines), a witness, a variant for convergent events, or convergent or anticipated events for a variant
  *   13       0                           sequent: k isn't from 1 to the count of sequents
  *   14       0                           entry: j isn't from 1 to the number of the sequent's entries
  *   15       0                           room: the buffer is shorter than the rows
