@@ -1,6 +1,6 @@
 -- One concrete step is matched and leaves a pair of states at which the invariants are true. With the hidden values that meet the witnesses, GRD and SIM
 -- make the abstract event's guards and moves true, so that it has a step there, and INV of both events holds in the same world.
-use mathlib.Core.Path.{_≡_, refl, sym, ap, subst, _∙_}
+use mathlib.Core.Path.{_≡_, refl, sym, subst, _∙_}
 use mathlib.Core.Bool.{not}
 use mathlib.Core.Logic.{⊎-elim}
 use mathlib.Core.List.{[], _++_, map}
