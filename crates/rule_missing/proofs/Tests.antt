@@ -1,11 +1,7 @@
--- Laws of the tests: of two in order, of where those that pass stand, and of a number after another.
-use Prim.Native.Nat.{ℕ, _+_, _-_}
+-- Laws of the tests: of two in order, and of where those that pass stand.
+use Prim.Native.Nat.{ℕ}
 use mathlib.Core.Path.{_≡_, sym, subst}
 use mathlib.Core.Bool.{Bool, true, false, _&&_, _||_}
-use native.Mathlib.Omega.{arith}
-use native.Mathlib.Decide.{ℕ-discrete}
-use borrow.Author.Tests.{eq-eqb, ne-eqb}
-use lib.Dec.{eqb}
 use Rattle.lists.specs.Below.{someBelow}
 use Rattle.table.specs.Names.{identifierTag, eventTag}
 use Rattle.table.specs.Rows.{Rows, tagged}
@@ -32,11 +28,3 @@ module _ (t : Rows) where
   events-span e =
       subst (Spans (eventLacks t) (t .size)) (sym e)
       (tag-stricter t eventTag (eventLacks t) (λ i o. and-failed (tagged t eventTag i) (someBelow (lacksFor t i) (t .size)) o))
-
--- y is one more than x
-pub follows-next : (x y : ℕ) → (y ≡ 0 → ⊥) → eqb (y - 1) x ≡ eqb y (1 + x)
-follows-next x y f = go (ℕ-discrete (y - 1) x)
-  where
-    go : Dec (y - 1 ≡ x) → eqb (y - 1) x ≡ eqb y (1 + x)
-    go (yes e) = rw (eq-eqb (y - 1) x e, eq-eqb y (1 + x) (omega arith))
-    go (no g) = rw (ne-eqb (y - 1) x g, ne-eqb y (1 + x) (omega arith))

@@ -1,4 +1,5 @@
 // 01, Refusal 12 missing: whether a table lacks an initialisation, an initial action, a witness, a variant, or an event for its variant.
+use rule_references::variable_kind;
 use scan::Query;
 use scan::some_row;
 use scan::span_at;
@@ -14,30 +15,21 @@ use table::tag;
 use table::tag_at;
 ghost use mathlib.Core.Path.{_≡_};
 ghost use mathlib.Core.Bool.{not, _&&_};
-ghost use Prim.Native.Nat.{_+_, _<_, _^_};
-ghost use lib.Dec.{eqb};
+ghost use Prim.Native.Nat.{_<_, _^_};
 ghost use Rattle.lists.specs.Below.{someBelow};
 ghost use Rattle.table.specs.Rows.{rowsOf};
 ghost use Rattle.table.specs.Counts.{countsOf};
 ghost use Rattle.scan.specs.Spans.{Spanned};
 ghost use Rattle.rules.specs.Rules.{actionWanted, witnessWanted, lacksFor, assigned, hasWitness, eventLacks, missing};
 
-// Whether y is one more than x.
-fn follows(x: u64, y: u64) -> bool
-    ensures { λ r. ⌜ r ≡ eqb y (1 + x) ⌝ }
-{
-    if y == 0 {
-        return false;
-    }
-    y - 1 == x
-}
-
 // Whether the event at row i, whose number is event, needs an action for the identifier at row j, whose number is target, and has none.
+// 02, request 2: of a shared variable "both initialisations must".
 fn lacks_action(words: &[u64], spans: &[usize], i: usize, j: usize, event: u64, target: u64) -> bool
     requires { ⌜ Spanned (rowsOf (now words)) (now spans) ⌝ }
     ensures { λ r. ⌜ r ≡ actionWanted (rowsOf (now (words .entry))) i j && not (assigned (rowsOf (now (words .entry))) event target) ⌝ }
 {
-    if (b_at(words, i) == event::INITIALISATION) & follows(a_at(words, i), a_at(words, j)) {
+    let variable = variable_kind(a_at(words, j), a_at(words, i));
+    if (b_at(words, i) == event::INITIALISATION) & variable {
         return !some_row(words, spans, Query::Assigns { event, target }, size(words));
     }
     false

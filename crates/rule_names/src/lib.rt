@@ -108,6 +108,6 @@ pub fn identifier_offends(words: &[u64], table: Table, i: usize) -> bool
     let kind = a_at(words, i);
     let sort = b_at(words, i);
     let good_type = (sort == identifier::INTEGER) | (sort == identifier::BOOLEAN);
-    !(((identifier::CONSTANT <= kind) & (kind <= identifier::CONCRETE_PARAMETER))
+    !(((identifier::CONSTANT <= kind) & (kind <= identifier::SHARED_VARIABLE))
         & (good_type & good_owner(words, table, i)))
 }

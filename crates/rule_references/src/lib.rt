@@ -8,6 +8,7 @@ use table::event;
 use table::event_field;
 use table::identifier;
 use table::identifier_field;
+use table::is_variable;
 use table::named_event;
 use table::named_identifier;
 use table::named_node;
@@ -16,7 +17,7 @@ use table::tag;
 use table::tag_at;
 ghost use mathlib.Core.Path.{_≡_};
 ghost use Prim.Native.Nat.{_+_};
-ghost use lib.Dec.{eqb};
+ghost use Rattle.table.specs.Names.{isVariableOf};
 ghost use Rattle.table.specs.Rows.{rowsOf};
 ghost use Rattle.table.specs.Counts.{countsOf};
 ghost use Rattle.rules.specs.Sorts.{operandCount, namesIdentifier};
@@ -124,9 +125,7 @@ pub fn named_variable(words: &[u64], table: Table, x: u64) -> bool
     requires { ⌜ table ≡ countsOf (rowsOf (now words)) ⌝ }
     ensures { λ r. ⌜ r ≡ namedVariable (rowsOf (now (words .entry))) x ⌝ }
 {
-    let named = named_identifier(words, table, x);
-    let kind = identifier_field(words, table, x, Table::KIND);
-    named & ((kind == identifier::ABSTRACT_VARIABLE) | (kind == identifier::CONCRETE_VARIABLE))
+    named_identifier(words, table, x) & is_variable(words, table, x)
 }
 
 // Whether the columns of the node at row i fit the shape of its operator.
@@ -157,17 +156,17 @@ fn guard_event(words: &[u64], table: Table, e: u64) -> bool
     named & !(class == event::INITIALISATION)
 }
 
-// Whether a kind is that of a machine's variables.
+// Whether identifiers of a kind are variables of a machine: its own, whose kind is one more than its number, or shared.
 pub fn variable_kind(kind: u64, machine: u64) -> bool
-    ensures { λ r. ⌜ r ≡ eqb kind (1 + machine) ⌝ }
+    ensures { λ r. ⌜ r ≡ isVariableOf (1 + machine) kind ⌝ }
 {
     if kind == 0 {
         return false;
     }
-    kind - 1 == machine
+    (kind - 1 == machine) | (kind == identifier::SHARED_VARIABLE)
 }
 
-// Actions: "event, variable of its machine".
+// Actions: "event, variable of its machine"; 02, request 2: "both machines' events may assign it".
 fn action_target(words: &[u64], table: Table, e: u64, x: u64) -> bool
     requires { ⌜ table ≡ countsOf (rowsOf (now words)) ⌝ }
     ensures { λ r. ⌜ r ≡ actionTarget (rowsOf (now (words .entry))) e x ⌝ }

@@ -11,6 +11,7 @@ use table::event;
 use table::event_field;
 use table::identifier;
 use table::identifier_field;
+use table::is_variable_of;
 use table::node_field;
 use table::operand;
 use table::tag;
@@ -37,12 +38,14 @@ fn event_sees(words: &[u64], table: Table, e: u64, x: u64) -> bool
             | (variable & !(class == event::INITIALISATION)))
 }
 
-// Whether the formula of row i may mention the identifier x.
+// Whether the formula of row i may mention the identifier x; 02, request 2: a shared variable "where either kind of variable is allowed".
 fn may_mention(words: &[u64], table: Table, i: usize, x: u64) -> bool
     requires { ⌜ table ≡ countsOf (rowsOf (now words)) ⌝ }
     ensures { λ r. ⌜ r ≡ mayMention (rowsOf (now (words .entry))) i x ⌝ }
 {
     let kind = identifier_field(words, table, x, Table::KIND);
+    let abstract_variable = is_variable_of(identifier::ABSTRACT_VARIABLE, kind);
+    let concrete_variable = is_variable_of(identifier::CONCRETE_VARIABLE, kind);
     let event = event_sees(words, table, a_at(words, i), x);
     let b = b_at(words, i);
     let tag = tag_at(words, i);
@@ -50,14 +53,14 @@ fn may_mention(words: &[u64], table: Table, i: usize, x: u64) -> bool
         return kind == identifier::CONSTANT;
     }
     if tag == tag::ABSTRACT_INVARIANT {
-        return (kind == identifier::CONSTANT) | (kind == identifier::ABSTRACT_VARIABLE);
+        return (kind == identifier::CONSTANT) | abstract_variable;
     }
     if tag == tag::CONCRETE_INVARIANT {
         return (kind == identifier::CONSTANT)
-            | ((kind == identifier::ABSTRACT_VARIABLE) | (kind == identifier::CONCRETE_VARIABLE));
+            | ((kind == identifier::ABSTRACT_VARIABLE) | concrete_variable);
     }
     if tag == tag::VARIANT {
-        return (kind == identifier::CONSTANT) | (kind == identifier::CONCRETE_VARIABLE);
+        return (kind == identifier::CONSTANT) | concrete_variable;
     }
     if tag == tag::WITNESS {
         return event | ((kind == identifier::ABSTRACT_PARAMETER) & (x == b));
@@ -74,13 +77,13 @@ fn may_mention_after(words: &[u64], table: Table, i: usize, x: u64) -> bool
     let b = b_at(words, i);
     let kind = identifier_field(words, table, x, Table::KIND);
     let target = identifier_field(words, table, b, Table::KIND);
+    let concrete_variable = is_variable_of(identifier::CONCRETE_VARIABLE, kind);
     let tag = tag_at(words, i);
     if tag == tag::BECOMES_SUCH {
         return x == b;
     }
     if tag == tag::WITNESS {
-        return (target == identifier::ABSTRACT_VARIABLE)
-            & ((kind == identifier::CONCRETE_VARIABLE) | (x == b));
+        return (target == identifier::ABSTRACT_VARIABLE) & (concrete_variable | (x == b));
     }
     false
 }

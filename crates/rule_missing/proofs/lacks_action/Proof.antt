@@ -23,19 +23,19 @@ lacks-action-spec = tie.close (tie.spec
     (λ c. let read = c .before .before .before in
     let a = read .before .before .before .before .before .before .args in
     let t = rowsOf (a .words .now) in
-    let machine = read .before .before in
-    let class = machine .before in
-    let same : (eqb (class .b-at .result) 0 && read .follows .result)
+    let variable = read .before in
+    let machine = variable .before in
+    let same : (eqb (read .b-at .result) 0 && variable .variable-kind .result)
     ≡ actionWanted t (a .i) (a .j)
-    = simp (read .follows .ensures, read .before .a-at2 .ensures, machine .a-at .ensures, class .b-at .ensures) in
+    = simp (variable .variable-kind .ensures, machine .a-at2 .ensures, machine .before .a-at .ensures, read .b-at .ensures) in
     let found = c .some-row .ensures ∙ ap (someBelow (passesOf t (Assigns (a .event) (a .target)))) (c .before .size .ensures) in
     ap not found ∙ sym (and-passed (actionWanted t (a .i) (a .j)) (not (assigned t (a .event) (a .target))) (sym same ∙ c .before .before .if1 .taken)))
     (λ c. let read = c .before in
     let a = read .before .before .before .before .before .before .args in
     let t = rowsOf (a .words .now) in
-    let machine = read .before .before in
-    let class = machine .before in
-    let same : (eqb (class .b-at .result) 0 && read .follows .result)
+    let variable = read .before in
+    let machine = variable .before in
+    let same : (eqb (read .b-at .result) 0 && variable .variable-kind .result)
     ≡ actionWanted t (a .i) (a .j)
-    = simp (read .follows .ensures, read .before .a-at2 .ensures, machine .a-at .ensures, class .b-at .ensures) in
+    = simp (variable .variable-kind .ensures, machine .a-at2 .ensures, machine .before .a-at .ensures, read .b-at .ensures) in
     sym (and-failed (actionWanted t (a .i) (a .j)) (not (assigned t (a .event) (a .target))) (sym same ∙ c .if1 .left))))

@@ -1,6 +1,7 @@
--- A kind from 1 on is compared by the number below it.
+-- A kind from 1 on is compared by the number below it; 0 is no variable's.
 use Prim.Native.Nat.{ℕ, _+_, _-_}
-use mathlib.Core.Path.{_≡_, sym}
+use mathlib.Core.Path.{_≡_, sym, ap, ap₂}
+use mathlib.Core.Bool.{_||_}
 use native.Mathlib.Omega.{arith}
 use native.Mathlib.Decide.{ℕ-discrete}
 use lib.Dec.{eqb}
@@ -18,6 +19,6 @@ below-equal k m f = go (ℕ-discrete (k - 1) m)
 
 pub variable-kind-spec : {M : Type 1} → statement M
 variable-kind-spec = tie.close (tie.spec
-    (λ c. let a = c .before .args in sym (ne-eqb (a .kind) (1 + a .machine) (omega arith)))
+    (λ c. let a = c .before .args in sym (ap₂ _||_ (ne-eqb (a .kind) (1 + a .machine) (omega arith)) (ne-eqb (a .kind) 6 (omega arith))))
     (λ c. search needs)
-    (λ c. let a = c .before .args in below-equal (a .kind) (a .machine) (c .if1 .left)))
+    (λ c. let a = c .before .args in ap (λ b. b || eqb (a .kind) 6) (below-equal (a .kind) (a .machine) (c .if1 .left))))

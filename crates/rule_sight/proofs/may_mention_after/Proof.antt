@@ -15,13 +15,15 @@ may-mention-after-spec = tie.close (tie.spec
     (λ c κs. search needs)
     (λ c κs. search needs)
     (λ c κs. search needs)
-    (λ c. let k = c .before in let s = k .before .before .before .before .before in let b = k .before .before .before .b-at in
+    (λ c κs. search needs)
+    (λ c. let k = c .before in let s = k .before .before .before .before .before .before in let b = k .before .before .before .before .b-at in
     after-when (rowsOf (s .args .words .now)) (s .args .i) (s .args .x) (k .tag-at .result) (eqb (s .args .x) (b .result)) (k .tag-at .ensures)
     (rw (eq-eqb _ _ (c .if1 .taken), seenAfter) (simp (b .ensures))))
-    (λ c. let k = c .before .before in let s = k .before .before .before .before .before in let b = k .before .before .before .b-at in let target = k .before .identifier-field2 in let kind = k .before .before .identifier-field in
+    (λ c. let k = c .before .before in let s = k .before .before .before .before .before .before in let concrete = k .before .is-variable-of in
+    let target = k .before .before .identifier-field2 in let kind = k .before .before .before .identifier-field in let b = k .before .before .before .before .b-at in
     after-when (rowsOf (s .args .words .now)) (s .args .i) (s .args .x) (k .tag-at .result)
-    (eqb (target .result) 2 && (eqb (kind .result) 3 || eqb (s .args .x) (b .result))) (k .tag-at .ensures)
-    (rw (ne-eqb _ _ (c .before .if1 .left), eq-eqb _ _ (c .if2 .taken), seenAfter) (simp (target .ensures, kind .ensures, b .ensures))))
-    (λ c. let k = c .before .before in let s = k .before .before .before .before .before in
+    (eqb (target .result) 2 && (concrete .result || eqb (s .args .x) (b .result))) (k .tag-at .ensures)
+    (rw (ne-eqb _ _ (c .before .if1 .left), eq-eqb _ _ (c .if2 .taken), seenAfter) (simp (concrete .ensures, target .ensures, kind .ensures, b .ensures))))
+    (λ c. let k = c .before .before in let s = k .before .before .before .before .before .before in
     after-when (rowsOf (s .args .words .now)) (s .args .i) (s .args .x) (k .tag-at .result) false (k .tag-at .ensures)
     (rw (ne-eqb _ _ (c .before .if1 .left), ne-eqb _ _ (c .if2 .left), seenAfter))))
