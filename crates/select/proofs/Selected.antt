@@ -1,21 +1,24 @@
 -- Rows outside the span of a selection are none of it: by cases on the selection, from the law of a tag's span.
-use Prim.Native.Nat.{ℕ, _<_}
+use Prim.Native.Nat.{ℕ, _<_, _≤_}
 use mathlib.Core.Path.{_≡_, refl, ap, _∙_}
 use mathlib.Core.Bool.{Bool, true, false, not, _&&_, _||_}
 use native.Mathlib.Omega.{arith}
 use lib.Dec.{ltb, leb, eqb}
-use borrow.Author.Tests.{ltb-true, le-ltb, eqb-true}
+use borrow.Author.Tests.{ltb-true, lt-ltb, le-ltb, eqb-true}
 use Rattle.lists.specs.Choice.{pick}
 use Rattle.lists.proofs.Below.{count-at-most}
 use Rattle.table.specs.Names.{becomesEqualTag, witnessTag, variantTag}
 use Rattle.table.specs.Rows.{Rows, tagged, count, isAction}
 use Rattle.table.specs.Lookups.{isVariableNumber}
+use Rattle.table.specs.declared.Table.{Table}
+use Rattle.table.specs.Counts.{countsOf}
+use Rattle.table.proofs.Counts.{counts-identifiers}
 use Rattle.scan.specs.Span.{Spans}
 use Rattle.scan.specs.Spans.{ofTag, tagSpan}
 use Rattle.scan.proofs.Spans.{tag-stricter}
 use Rattle.select.specs.declared.Selection.{Selection}
-use Rattle.select.specs.declared.Selection.the-variants.{None, Tagged, OfEvent, ForParameters, Identifiers, Assigned, SuchThat}
-use Rattle.select.specs.Selection.{between, rowOfEvent, identifierAt, selects, sectionSpan, selectedSpan}
+use Rattle.select.specs.declared.Selection.the-variants.{None, Tagged, OfEvent, ForParameters, Identifiers, Variables, Assigned, SuchThat}
+use Rattle.select.specs.Selection.{between, rowOfEvent, variableAt, selects, sectionSpan, selectedSpan}
 
 left-true : (p q : Bool) → p && q ≡ true → p ≡ true
 left-true true q e = refl
@@ -30,9 +33,17 @@ right-false false q e = refl
 
 module _ (t : Rows) where
   -- a row that stands for an identifier is one of the table
-  pub identifier-within : (kind j : ℕ) → identifierAt t kind j ≡ true → j < t .size
+  pub identifier-within : (j : ℕ) (q : Bool) → ltb j (count t 10) && q ≡ true → j < t .size
   unfolding count
-  identifier-within kind j e = omega (arith, ltb-true j (count t 10) (left-true (ltb j (count t 10)) _ e), count-at-most (tagged t 10) (t .size))
+  identifier-within j q e = omega (arith, ltb-true j (count t 10) (left-true (ltb j (count t 10)) q e), count-at-most (tagged t 10) (t .size))
+
+  -- a test of the identifier that a row stands for, where there is one and where there is none
+  module _ {table : Table} (counted : table ≡ countsOf t) (j : ℕ) where
+    pub identifier-there : (p q : Bool) → j < table .identifiers → p ≡ q → p ≡ (ltb j (count t 10) && q)
+    identifier-there p q h e = rw (lt-ltb j (count t 10) (omega (arith, counts-identifiers t table counted))) e
+
+    pub identifier-gone : (q : Bool) → table .identifiers ≤ j → false ≡ (ltb j (count t 10) && q)
+    identifier-gone q h = rw (le-ltb j (count t 10) (omega (arith, counts-identifiers t table counted)))
 
   -- the rows of a tag
   no-tag : (k j : ℕ) → ofTag t k j ≡ false → tagged t k j ≡ false
@@ -61,14 +72,15 @@ module _ (t : Rows) where
     above = λ j l h. f j (le-ltb j _ l);
   }
 
-  kind-none : (kind j : ℕ) → ltb j (count t 10) ≡ false → identifierAt t kind j ≡ false
-  kind-none kind j e = left-false (ltb j (count t 10)) _ e
+  variable-none : (own j : ℕ) → ltb j (count t 10) ≡ false → variableAt t own j ≡ false
+  variable-none own j e = left-false (ltb j (count t 10)) _ e
 
   pub selected-spans : (s : Selection) → Spans (selects t s) (t .size) (selectedSpan t s)
   selected-spans None = record { within = omega arith; below = λ j l. refl; above = λ j l h. refl }
   selected-spans (Tagged k) = section-spans k _ (λ j e. e)
   selected-spans (OfEvent k e) = section-spans k _ (λ j p. left-false (tagged t k j) (eqb (t .a j) e) p)
   selected-spans (ForParameters e) = section-spans witnessTag _ (λ j p. right-false (not (isVariableNumber t (t .b j))) (rowOfEvent t witnessTag e j) (left-false (tagged t witnessTag j) (eqb (t .a j) e) p))
-  selected-spans (Identifiers kind) = identifier-spans _ (kind-none kind)
-  selected-spans (Assigned kind e) = identifier-spans _ (λ j p. left-false (identifierAt t kind j) _ (kind-none kind j p))
-  selected-spans (SuchThat kind e) = identifier-spans _ (λ j p. left-false (identifierAt t kind j) _ (kind-none kind j p))
+  selected-spans (Identifiers kind) = identifier-spans _ (λ j p. left-false (ltb j (count t 10)) _ p)
+  selected-spans (Variables own) = identifier-spans _ (variable-none own)
+  selected-spans (Assigned own e) = identifier-spans _ (λ j p. left-false (variableAt t own j) _ (variable-none own j p))
+  selected-spans (SuchThat own e) = identifier-spans _ (λ j p. left-false (variableAt t own j) _ (variable-none own j p))

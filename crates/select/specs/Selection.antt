@@ -4,14 +4,14 @@ use mathlib.Core.Bool.{Bool, false, not, _&&_}
 use lib.Dec.{ltb, leb, eqb}
 use Rattle.lists.specs.Choice.{pick}
 use Rattle.lists.specs.Below.{first}
-use Rattle.table.specs.Names.{identifierTag, becomesEqualTag, witnessTag, variantTag}
+use Rattle.table.specs.Names.{identifierTag, becomesEqualTag, witnessTag, variantTag, isVariableOf}
 use Rattle.table.specs.Rows.{Rows, tagged, count, kindOf}
 use Rattle.table.specs.Lookups.{isVariableNumber}
 use Rattle.machine.specs.Described.{sets}
 use Rattle.scan.specs.declared.Span.{Span}
 use Rattle.scan.specs.Spans.{tagSpan}
 use Rattle.select.specs.declared.Selection.{Selection}
-use Rattle.select.specs.declared.Selection.the-variants.{None, Tagged, OfEvent, ForParameters, Identifiers, Assigned, SuchThat}
+use Rattle.select.specs.declared.Selection.the-variants.{None, Tagged, OfEvent, ForParameters, Identifiers, Variables, Assigned, SuchThat}
 
 abbrev pub between : ℕ → ℕ → Span
 between from to = record { from = from; to = to }
@@ -28,6 +28,10 @@ module _ (t : Rows) where
   -- there is an identifier j + 1, of a kind
   abbrev pub identifierAt : ℕ → ℕ → Bool
   identifierAt kind j = ltb j (count t identifierTag) && eqb (kindOf t (j + 1)) kind
+
+  -- it is a variable of the machine whose own have a kind, and so perhaps a shared one
+  abbrev pub variableAt : ℕ → ℕ → Bool
+  variableAt own j = ltb j (count t identifierTag) && isVariableOf own (kindOf t (j + 1))
 
   -- the row of an event's action for a variable; the table's size where it is unassigned
   unfoldable pub actionRow : ℕ → ℕ → ℕ
@@ -46,8 +50,9 @@ module _ (t : Rows) where
   selects (OfEvent k e) j = rowOfEvent k e j
   selects (ForParameters e) j = parameterWitness e j
   selects (Identifiers kind) j = identifierAt kind j
-  selects (Assigned kind e) j = identifierAt kind j && isAssigned e (j + 1)
-  selects (SuchThat kind e) j = identifierAt kind j && becomesSuch e (j + 1)
+  selects (Variables own) j = variableAt own j
+  selects (Assigned own e) j = variableAt own j && isAssigned e (j + 1)
+  selects (SuchThat own e) j = variableAt own j && becomesSuch e (j + 1)
 
   -- the rows between which those of a tag stand; of a number that is no tag, all
   abbrev pub sectionSpan : ℕ → Span
@@ -60,5 +65,6 @@ module _ (t : Rows) where
   selectedSpan (OfEvent k e) = sectionSpan k
   selectedSpan (ForParameters e) = sectionSpan witnessTag
   selectedSpan (Identifiers kind) = between 0 (count t identifierTag)
-  selectedSpan (Assigned kind e) = between 0 (count t identifierTag)
-  selectedSpan (SuchThat kind e) = between 0 (count t identifierTag)
+  selectedSpan (Variables own) = between 0 (count t identifierTag)
+  selectedSpan (Assigned own e) = between 0 (count t identifierTag)
+  selectedSpan (SuchThat own e) = between 0 (count t identifierTag)

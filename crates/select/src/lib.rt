@@ -6,6 +6,7 @@ use table::a_at;
 use table::b_at;
 use table::identifier_field;
 use table::is_variable;
+use table::is_variable_of;
 use table::size;
 use table::tag;
 use table::tag_at;
@@ -17,7 +18,7 @@ ghost use Rattle.lists.specs.Choice.{pick};
 ghost use Rattle.table.specs.Rows.{rowsOf, count};
 ghost use Rattle.table.specs.Counts.{countsOf};
 ghost use Rattle.scan.specs.Spans.{Spanned};
-ghost use Rattle.select.specs.Selection.{rowOfEvent, parameterWitness, identifierAt, actionRow, isAssigned, becomesSuch, selects, between, sectionSpan, selectedSpan};
+ghost use Rattle.select.specs.Selection.{rowOfEvent, parameterWitness, identifierAt, variableAt, actionRow, isAssigned, becomesSuch, selects, between, sectionSpan, selectedSpan};
 ghost use Rattle.select.specs.Sought.{Passed};
 
 // Rows of a tag; or the rows 0, 1, .. in their stead that stand for the identifiers 1, 2, ..
@@ -32,6 +33,8 @@ pub enum Selection {
     ForParameters(u64),
     // the identifiers of a kind
     Identifiers(u64),
+    // the variables of the machine whose own have a kind, and so the shared ones too
+    Variables(u64),
     // those that an event has an action for
     Assigned { kind: u64, event: u64 },
     // those that it has a 52 for
@@ -65,6 +68,18 @@ fn identifier_at(words: &[u64], table: Table, kind: u64, j: usize) -> bool
     false
 }
 
+// Whether that identifier is a variable of the machine whose own have a kind.
+fn variable_at(words: &[u64], table: Table, own: u64, j: usize) -> bool
+    requires { ⌜ table ≡ countsOf (rowsOf (now words)) ⌝ }
+    ensures { λ r. ⌜ r ≡ variableAt (rowsOf (now (words .entry))) own j ⌝ }
+{
+    let x = j as u64;
+    if x < table.identifiers {
+        return is_variable_of(own, identifier_field(words, table, x + 1, Table::KIND));
+    }
+    false
+}
+
 // The row of an event's action for a variable; the number of rows where it is unassigned.
 pub fn action_row(words: &[u64], spans: &[usize], event: u64, x: u64) -> usize
     requires { ⌜ Spanned (rowsOf (now words)) (now spans) ⌝ }
@@ -90,7 +105,7 @@ fn becomes_such(words: &[u64], spans: &[usize], event: u64, x: u64) -> bool
     (row < size(words)) & !(tag_at(words, row) == tag::BECOMES_EQUAL)
 }
 
-// Whether row j stands for an identifier of a kind that an event has an action for.
+// Whether row j stands for a variable that an event has an action for.
 fn assigned_at(
     words: &[u64],
     table: Table,
@@ -100,9 +115,9 @@ fn assigned_at(
     j: usize,
 ) -> bool
     requires { ⌜ (table ≡ countsOf (rowsOf (now words))) × Spanned (rowsOf (now words)) (now spans) ⌝ }
-    ensures { λ r. ⌜ r ≡ identifierAt (rowsOf (now (words .entry))) kind j && isAssigned (rowsOf (now (words .entry))) event (j + 1) ⌝ }
+    ensures { λ r. ⌜ r ≡ variableAt (rowsOf (now (words .entry))) kind j && isAssigned (rowsOf (now (words .entry))) event (j + 1) ⌝ }
 {
-    if identifier_at(words, table, kind, j) {
+    if variable_at(words, table, kind, j) {
         return is_assigned(words, spans, event, j as u64 + 1);
     }
     false
@@ -111,9 +126,9 @@ fn assigned_at(
 // The same of a 52.
 fn such_at(words: &[u64], table: Table, spans: &[usize], kind: u64, event: u64, j: usize) -> bool
     requires { ⌜ (table ≡ countsOf (rowsOf (now words))) × Spanned (rowsOf (now words)) (now spans) ⌝ }
-    ensures { λ r. ⌜ r ≡ identifierAt (rowsOf (now (words .entry))) kind j && becomesSuch (rowsOf (now (words .entry))) event (j + 1) ⌝ }
+    ensures { λ r. ⌜ r ≡ variableAt (rowsOf (now (words .entry))) kind j && becomesSuch (rowsOf (now (words .entry))) event (j + 1) ⌝ }
 {
-    if identifier_at(words, table, kind, j) {
+    if variable_at(words, table, kind, j) {
         return becomes_such(words, spans, event, j as u64 + 1);
     }
     false
@@ -130,6 +145,7 @@ pub fn selects(words: &[u64], table: Table, spans: &[usize], selection: Selectio
         Selection::OfEvent { tag, event } => row_of_event(words, tag, event, j),
         Selection::ForParameters(event) => parameter_witness(words, table, event, j),
         Selection::Identifiers(kind) => identifier_at(words, table, kind, j),
+        Selection::Variables(own) => variable_at(words, table, own, j),
         Selection::Assigned { kind, event } => assigned_at(words, table, spans, kind, event, j),
         Selection::SuchThat { kind, event } => such_at(words, table, spans, kind, event, j),
     }
@@ -171,6 +187,7 @@ fn selected_span(words: &[u64], table: Table, spans: &[usize], selection: Select
         Selection::OfEvent { tag, event } => section_span(words, spans, tag),
         Selection::ForParameters(event) => section_span(words, spans, tag::WITNESS),
         Selection::Identifiers(kind) => identifier_span(words, table),
+        Selection::Variables(own) => identifier_span(words, table),
         Selection::Assigned { kind, event } => identifier_span(words, table),
         Selection::SuchThat { kind, event } => identifier_span(words, table),
     }

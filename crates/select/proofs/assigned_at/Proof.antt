@@ -1,4 +1,4 @@
--- By whether the row stands for an identifier of the kind.
+-- By whether the row stands for a variable.
 use mathlib.Core.Path.{sym, _∙_}
 use native.Mathlib.Omega.{arith}
 use Rattle.table.specs.Rows.{rowsOf}
@@ -12,7 +12,7 @@ assigned-at-spec = tie.close (tie.spec
     (λ c κs. search needs)
     (λ c. let found = c .before in
     let a = found .before .before .before .args in
-    omega (arith, identifier-within (rowsOf (a .words .now)) (a .kind) (a .j) (sym (found .identifier-at .ensures) ∙ c .if1 .taken)))
+    omega (arith, identifier-within (rowsOf (a .words .now)) (a .j) _ (sym (found .variable-at .ensures) ∙ c .if1 .taken)))
     (λ c κs. search needs)
-    (λ c. let found = c .before .before in rw (sym (found .identifier-at .ensures) ∙ c .before .if1 .taken) (c .is-assigned .ensures))
-    (λ c. let found = c .before in rw (sym (found .identifier-at .ensures) ∙ c .if1 .left)))
+    (λ c. let found = c .before .before in rw (sym (found .variable-at .ensures) ∙ c .before .if1 .taken) (c .is-assigned .ensures))
+    (λ c. let found = c .before in rw (sym (found .variable-at .ensures) ∙ c .if1 .left)))
