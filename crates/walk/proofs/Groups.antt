@@ -1,5 +1,5 @@
--- Each part of the list is what the slots of one group hold. A part is a list over rows of a tag, or over identifiers of a kind, and the slots are these rows or
--- identifiers with the selection's test beside them. The role of an event, read from its row, tells which parts are empty.
+-- Each part of the list is what the slots of one group hold. A part is a list over rows of a tag, or over identifiers whose kind passes a test, and the slots are
+-- these rows or identifiers with the selection's test beside them. The role of an event, read from its row, tells which parts are empty.
 use Prim.Native.Nat.{ℕ, zero, suc, _+_, _≤_}
 use mathlib.Core.Path.{_≡_, refl, sym, ap, ap₂, _∙_}
 use mathlib.Core.Bool.{Bool, true, false, not, _&&_, _||_}
@@ -14,22 +14,24 @@ use Rattle.lists.specs.Below.{numbers, keep}
 use Rattle.lists.proofs.Below.{count-at-most}
 use Rattle.lists.proofs.Flat.{pick-and, flat-none, flat-keep, flat-one, flat-map, flat-ext, flat-when, flat-single, flat-kept, map-kept, flat-below}
 use Rattle.lists.proofs.Flat.{keep-keep, keep-next, numbers-suc}
+use Rattle.table.specs.Names.{isVariableOf}
 use Rattle.table.specs.Rows.{Rows, tagged, section, count, kindOf, machineNumber, classOf, refinedBy}
-use Rattle.machine.specs.Machine.{Action, unassigned, becomesEqual, becomesSuchThat, Witness}
+use Rattle.machine.specs.Machine.{Action, unassigned, becomesEqual, becomesSuchThat, Witness, sharedVariables}
 use Rattle.machine.specs.Machine.{Role, abstractInitialisation, abstractOrdinary, concreteInitialisation, refining, convergent, anticipated}
-use Rattle.machine.specs.Described.{actionOf, belonging, identifiersOf, machineOf}
+use Rattle.machine.specs.Described.{actionOf, belonging, variablesOf, machineOf}
 use Rattle.machine.proofs.Roles.{role-cases}
-use Rattle.sequent.specs.Entry.{Entry, written, primed, defined, moves, feasible, natural, decreases, notIncreased}
+use Rattle.machine.proofs.Variables.{shared-numbered}
+use Rattle.sequent.specs.Entry.{Entry, written, primed, defined, moves, feasible, natural, decreases, notIncreased, unchanged}
 use Rattle.sequent.specs.Sequent.{Sequent, sequent, WD, INV, FIS, GRD, SIM, NAT, VAR}
-use Rattle.sequent.specs.Listed.{inOrder, actionWD, actionFIS, matching, refined, allWritten, base, guarded, moved, witnessEntries, parameterWitnesses, invHypotheses}
-use Rattle.sequent.specs.Listed.{witnessSequents, grd, sim, inv, variantSequents, formulas}
+use Rattle.sequent.specs.Listed.{inOrder, actionWD, actionFIS, refined, allWritten, base, guarded, moved, witnessEntries, parameterWitnesses, invHypotheses}
+use Rattle.sequent.specs.Listed.{witnessSequents, grd, simSequents, inv, variantSequents, formulas}
 use Rattle.sequent.specs.Required.{ownInvariants, ownVariables}
-use Rattle.sequent.proofs.Parts.{guardWDs, actionWDs, actionFISs, ofWitnesses, grds, sims, nats, vars}
+use Rattle.sequent.proofs.Parts.{guardWDs, actionWDs, actionFISs, ofWitnesses, grds, nats, vars}
 use Rattle.select.specs.declared.Selection.{Selection}
-use Rattle.select.specs.declared.Selection.the-variants.{None, Tagged, OfEvent, Identifiers, Assigned, SuchThat}
-use Rattle.select.specs.Selection.{rowOfEvent, identifierAt, actionRow, isAssigned, becomesSuch, selects}
+use Rattle.select.specs.declared.Selection.the-variants.{None, Tagged, OfEvent, Identifiers, Variables, Assigned, SuchThat}
+use Rattle.select.specs.Selection.{rowOfEvent, identifierAt, variableAt, actionRow, isAssigned, becomesSuch, selects}
 use Rattle.walk.specs.Events.{isAbstract, isRefining, isMatched, isConvergent, isNew, matchedBy, ownKind, ownInvariantTag}
-use Rattle.walk.specs.Groups.{when, ofEvent, groupAt, groupRows, axiomGroup, abstractInvariantGroup, concreteInvariantGroup, variantGroup}
+use Rattle.walk.specs.Groups.{when, ofEvent, simulatedRows, groupAt, groupRows, axiomGroup, abstractInvariantGroup, concreteInvariantGroup, variantGroup}
 use Rattle.walk.specs.Groups.{guardGroup, actionGroup, fisGroup, witnessGroup, grdGroup, simGroup, invGroup, natGroup, varGroup}
 
 -- "those before it": the roots of the rows before i that pass a test, as written
@@ -48,7 +50,7 @@ module _ (t : Rows) where
   abbrev pub writtenOf : List ℕ → List Entry
   writtenOf rs = allWritten (machineOf t) rs
 
-  -- hypotheses of an event: "base", "base, guards", "base, guards, moves", "witnesses", "parameter witnesses", and those of INV
+  -- hypotheses of an event: "base", "base, guards", "base, guards, moves", "witnesses", "parameter witnesses", those of SIM and those of INV
   abbrev pub baseAt : ℕ → List Entry
   baseAt e = base (machineOf t) (roleOf e)
 
@@ -63,6 +65,9 @@ module _ (t : Rows) where
 
   abbrev pub parametersAt : ℕ → List Entry
   parametersAt e = witnessEntries (machineOf t) (parameterWitnesses (machineOf t) e)
+
+  abbrev pub simulationAt : ℕ → List Entry
+  simulationAt e = pick (isNew t e) (movedAt e) (movedAt e ++ witnessesAt e)
 
   abbrev pub invariantAt : ℕ → List Entry
   invariantAt e = invHypotheses (machineOf t) (roleOf e) e
@@ -89,8 +94,9 @@ module _ (t : Rows) where
       ∷ (λ e i. witnessSequents (machineOf t) (roleOf e) e (witnessOf i))
       -- "GRD, each abstract guard | base, guards, parameter witnesses | 1 | root"
       ∷ (λ e i. one GRD e (t .b i) (guardedAt e ++ parametersAt e) (written (t .b i)))
-      -- "SIM, each abstract variable | base, guards, moves, witnesses | 4 of the abstract event | variable"
-      ∷ (λ e i. one SIM e (i + 1) (movedAt e ++ witnessesAt e) (moves (matchedBy t e) (i + 1)))
+      -- "SIM, each abstract variable | base, guards, moves, witnesses | 4 of the abstract event | variable"; of a new event "with base, guards and moves; its goal
+      -- there is form 10"
+      ∷ (λ e i. one SIM e (i + 1) (simulationAt e) (pick (isNew t e) (unchanged (i + 1)) (moves (matchedBy t e) (i + 1))))
       -- "INV, own machine's invariants | base, guards, moves, witnesses; for a convergent event form 4 of each abstract variable instead of witnesses | 2 | root",
       -- and so for an anticipated one
       ∷ (λ e i. one INV e (t .a i) (invariantAt e) (primed (t .a i)))
@@ -179,30 +185,34 @@ module _ (t : Rows) where
   unfolding machineOf section
   variants-rows = refl
 
-  -- a list over the identifiers of a kind
-  identifiers-rows : {B : Type 0} (kind : ℕ) (f : ℕ → List B)
-      → flatMap f (identifiersOf t kind) ≡ flatMap (λ i. pick (identifierAt t kind i) (f (i + 1)) []) rows
-  unfolding identifiersOf count
-  identifiers-rows {B} kind f =
-      flat-keep (λ x. eqb (kindOf t x) kind) f (numbers (count t 10) 1)
-      ∙ ap (flatMap g) (numbers-suc (count t 10) 0)
-      ∙ flat-map g suc (numbers (count t 10) 0)
-      ∙ flat-below (λ i. g (suc i)) (count t 10) (t .size) (count-at-most (tagged t 10) (t .size))
-      ∙ flat-ext (λ i. pick (ltb i (count t 10)) (g (suc i)) []) (λ i. pick (identifierAt t kind i) (f (i + 1)) []) rows each
-    where
-      g : ℕ → List B
-      g x = pick (eqb (kindOf t x) kind) (f x) []
+  -- a list over the identifiers whose kind passes a test
+  module _ (K : ℕ → Bool) where
+    abbrev ofKind : List ℕ
+    ofKind = keep (λ x. K (kindOf t x)) (numbers (count t 10) 1)
 
-      each : (i : ℕ) → pick (ltb i (count t 10)) (g (suc i)) [] ≡ pick (identifierAt t kind i) (f (i + 1)) []
-      each i = rw (add-one i) (sym (pick-and (ltb i (count t 10)) (eqb (kindOf t (suc i)) kind) (f (suc i))))
+    abbrev kindAt : ℕ → Bool
+    kindAt i = ltb i (count t 10) && K (kindOf t (i + 1))
 
-  each-identifier : {B : Type 0} (kind : ℕ) (f : ℕ → B) → map f (identifiersOf t kind) ≡ flatMap (λ i. pick (identifierAt t kind i) (f (i + 1) ∷ []) []) rows
-  each-identifier kind f = flat-one f (identifiersOf t kind) ∙ identifiers-rows kind (λ x. f x ∷ [])
+    identifiers-rows : {B : Type 0} (f : ℕ → List B) → flatMap f ofKind ≡ flatMap (λ i. pick (kindAt i) (f (i + 1)) []) rows
+    unfolding count
+    identifiers-rows {B} f =
+        flat-keep (λ x. K (kindOf t x)) f (numbers (count t 10) 1)
+        ∙ ap (flatMap g) (numbers-suc (count t 10) 0)
+        ∙ flat-map g suc (numbers (count t 10) 0)
+        ∙ flat-below (λ i. g (suc i)) (count t 10) (t .size) (count-at-most (tagged t 10) (t .size))
+        ∙ flat-ext (λ i. pick (ltb i (count t 10)) (g (suc i)) []) (λ i. pick (kindAt i) (f (i + 1)) []) rows each
+      where
+        g : ℕ → List B
+        g x = pick (K (kindOf t x)) (f x) []
 
-  pub map-identifiers : {B : Type 0} (kind : ℕ) (f : ℕ → B) → map f (identifiersOf t kind) ≡ map (λ i. f (i + 1)) (keep (identifierAt t kind) rows)
-  map-identifiers kind f =
-      each-identifier kind f
-      ∙ sym (flat-one (λ i. f (i + 1)) (keep (identifierAt t kind) rows) ∙ flat-keep (identifierAt t kind) (λ i. f (i + 1) ∷ []) rows)
+        each : (i : ℕ) → pick (ltb i (count t 10)) (g (suc i)) [] ≡ pick (kindAt i) (f (i + 1)) []
+        each i = rw (add-one i) (sym (pick-and (ltb i (count t 10)) (K (kindOf t (suc i))) (f (suc i))))
+
+    each-identifier : {B : Type 0} (f : ℕ → B) → map f ofKind ≡ flatMap (λ i. pick (kindAt i) (f (i + 1) ∷ []) []) rows
+    each-identifier f = flat-one f ofKind ∙ identifiers-rows (λ x. f x ∷ [])
+
+    pub map-identifiers : {B : Type 0} (f : ℕ → B) → map f ofKind ≡ map (λ i. f (i + 1)) (keep kindAt rows)
+    map-identifiers f = each-identifier f ∙ sym (flat-one (λ i. f (i + 1)) (keep kindAt rows) ∙ flat-keep kindAt (λ i. f (i + 1) ∷ []) rows)
 
   -- an action by the tests on its row, and its sequents
   action-cases : (e x : ℕ) (P : Bool → Bool → Action → Type 0) → P true true (becomesEqual (t .c (actionRow t e x)))
@@ -266,10 +276,10 @@ module _ (t : Rows) where
     unfolding machineOf
     by-role P = role-cases (machineNumber t e) (classOf t e) (refinedBy t e) P
 
-    pub variables-own : ownVariables (machineOf t) (roleOf t e) ≡ identifiersOf t (ownKind t e)
-    unfolding machineOf
+    pub variables-own : ownVariables (machineOf t) (roleOf t e) ≡ keep (λ x. isVariableOf (ownKind t e) (kindOf t x)) (numbers (count t 10) 1)
+    unfolding machineOf variablesOf
     variables-own =
-        by-role (λ a z o v r. ownVariables (machineOf t) r ≡ identifiersOf t (pick a 2 3)) (λ o v. refl) (λ o v. refl) refl refl refl refl
+        by-role (λ a z o v r. ownVariables (machineOf t) r ≡ variablesOf t (pick a 2 3)) (λ o v. refl) (λ o v. refl) refl refl refl refl
 
     invariants-own : ownInvariants (machineOf t) (roleOf t e) ≡ map (t .a) (section t (ownInvariantTag t e))
     unfolding machineOf
@@ -279,9 +289,21 @@ module _ (t : Rows) where
     refined-own : refined (roleOf t e) ≡ pick (isRefining t e) (refinedBy t e ∷ []) []
     refined-own = by-role (λ a z o v r. refined r ≡ pick (not a && o) (refinedBy t e ∷ []) []) (λ o v. refl) (λ o v. refl) refl refl refl refl
 
-    matching-own : matching (roleOf t e) ≡ pick (isMatched t e) (matchedBy t e ∷ []) []
-    matching-own =
-        by-role (λ a z o v r. matching r ≡ pick (not a && (z || o)) (pick z 1 (refinedBy t e) ∷ []) []) (λ o v. refl) (λ o v. refl) refl refl refl refl
+    -- SIM of a variable, of a new event and of one that is matched
+    abbrev simulation : Bool → ℕ → Role → ℕ → Sequent
+    simulation new f ro x =
+        sequent SIM e x (pick new (moved (machineOf t) ro e) (moved (machineOf t) ro e ++ witnessesAt t e)) (pick new (unchanged x) (moves f x))
+
+    -- it is made of a matched event for each abstract variable, and of a new one for each that is shared
+    simulated-own : simSequents (machineOf t) (roleOf t e) e
+        ≡ pick (isMatched t e) (map (simulation (isNew t e) (matchedBy t e) (roleOf t e)) (machineOf t .abstractVariables))
+        (pick (isNew t e) (map (simulation (isNew t e) (matchedBy t e) (roleOf t e)) (sharedVariables (machineOf t))) [])
+    simulated-own =
+        by-role
+        (λ a z o v ro. simSequents (machineOf t) ro e
+        ≡ pick (not a && (z || o)) (map (simulation (not a && not (z || o)) (pick z 1 (refinedBy t e)) ro) (machineOf t .abstractVariables))
+        (pick (not a && not (z || o)) (map (simulation (not a && not (z || o)) (pick z 1 (refinedBy t e)) ro) (sharedVariables (machineOf t))) []))
+        (λ o v. refl) (λ o v. refl) refl refl refl refl
 
     -- NAT of a convergent event, and VAR of a new one
     variants-own : variantSequents (machineOf t) (roleOf t e) e
@@ -309,12 +331,12 @@ module _ (t : Rows) where
 
     -- a list over the variables of the event's machine, of which each makes its part where a test passes
     variables-rows : (f : ℕ → List Sequent) (Q : ℕ → Bool) (s : ℕ → List Sequent) → ((x : ℕ) → f x ≡ pick (Q x) (s x) [])
-        → flatMap f (ownVariables (machineOf t) (roleOf t e)) ≡ flatMap (λ i. pick (identifierAt t (ownKind t e) i && Q (i + 1)) (s (i + 1)) []) rows
+        → flatMap f (ownVariables (machineOf t) (roleOf t e)) ≡ flatMap (λ i. pick (variableAt t (ownKind t e) i && Q (i + 1)) (s (i + 1)) []) rows
     variables-rows f Q s h =
         ap (flatMap f) (variables-own e)
-        ∙ identifiers-rows (ownKind t e) f
+        ∙ identifiers-rows (isVariableOf (ownKind t e)) f
         ∙ flat-ext _ _ rows
-        (λ i. ap (λ xs. pick (identifierAt t (ownKind t e) i) xs []) (h (i + 1)) ∙ sym (pick-and (identifierAt t (ownKind t e) i) (Q (i + 1)) (s (i + 1))))
+        (λ i. ap (λ xs. pick (variableAt t (ownKind t e) i) xs []) (h (i + 1)) ∙ sym (pick-and (variableAt t (ownKind t e) i) (Q (i + 1)) (s (i + 1))))
 
     pub action-group : actionWDs (machineOf t) (roleOf t e) e ≡ groupSlots t e actionGroup
     unfolding machineOf groupAt made
@@ -346,19 +368,28 @@ module _ (t : Rows) where
         ∙ when-slots (isRefining t e) (OfEvent 50 (refinedBy t e)) _
         ∙ sym (there grdGroup (when (isRefining t e) (OfEvent 50 (refinedBy t e))) refl)
 
-    abstract-rows : {B : Type 0} (f : ℕ → B) → map f (machineOf t .abstractVariables) ≡ flatMap (λ i. pick (identifierAt t 2 i) (f (i + 1) ∷ []) []) rows
-    unfolding machineOf
-    abstract-rows f = each-identifier 2 f
+    abstract-rows : {B : Type 0} (f : ℕ → B) → map f (machineOf t .abstractVariables) ≡ flatMap (λ i. pick (variableAt t 2 i) (f (i + 1) ∷ []) []) rows
+    unfolding machineOf variablesOf
+    abstract-rows f = each-identifier (isVariableOf 2) f
 
-    pub sim-group : sims (machineOf t) (roleOf t e) e ≡ groupSlots t e simGroup
+    shared-rows : {B : Type 0} (f : ℕ → B) → map f (sharedVariables (machineOf t)) ≡ flatMap (λ i. pick (identifierAt t 6 i) (f (i + 1) ∷ []) []) rows
+    shared-rows f = ap (map f) (shared-numbered t) ∙ each-identifier (λ k. eqb k 6) f
+
+    -- the abstract variables where a test passes, or the shared ones where another does
+    simulated-slots : (b c : Bool) (f : ℕ → List Sequent)
+        → pick b (flatMap (λ i. pick (variableAt t 2 i) (f i) []) rows) (pick c (flatMap (λ i. pick (identifierAt t 6 i) (f i) []) rows) [])
+        ≡ flatMap (λ i. pick (selects t (pick b (Variables 2) (when c (Identifiers 6))) i) (f i) []) rows
+    simulated-slots true c f = refl
+    simulated-slots false true f = refl
+    simulated-slots false false f = sym (flat-none rows)
+
+    pub sim-group : simSequents (machineOf t) (roleOf t e) e ≡ groupSlots t e simGroup
     unfolding groupAt made
     sim-group =
-        ap (flatMap (sim (machineOf t) (roleOf t e) e)) (matching-own e)
-        ∙ flat-single (isMatched t e) (sim (machineOf t) (roleOf t e) e) (matchedBy t e)
-        ∙ ap (λ xs. pick (isMatched t e) xs []) (abstract-rows _)
-        ∙ flat-when (isMatched t e) (identifierAt t 2) _ rows
-        ∙ when-slots (isMatched t e) (Identifiers 2) _
-        ∙ sym (there simGroup (when (isMatched t e) (Identifiers 2)) refl)
+        simulated-own e
+        ∙ ap₂ (λ (xs : List Sequent) (ys : List Sequent). pick (isMatched t e) xs (pick (isNew t e) ys [])) (abstract-rows _) (shared-rows _)
+        ∙ simulated-slots (isMatched t e) (isNew t e) _
+        ∙ sym (there simGroup (simulatedRows t e) refl)
 
     pub inv-group : inv (machineOf t) (roleOf t e) e ≡ groupSlots t e invGroup
     unfolding section groupAt made

@@ -7,10 +7,10 @@ use mathlib.Core.List.{List, [], _∷_}
 use lib.Dec.{eqb}
 use lib.ListN.{getD}
 use Rattle.lists.specs.Choice.{pick}
-use Rattle.table.specs.Names.{axiomTag, abstractInvariantTag, concreteInvariantTag, guardTag, witnessTag, variantTag, abstractVariableKind}
+use Rattle.table.specs.Names.{axiomTag, abstractInvariantTag, concreteInvariantTag, guardTag, witnessTag, variantTag, abstractVariableKind, sharedVariableKind}
 use Rattle.table.specs.Rows.{Rows, refinedBy}
 use Rattle.select.specs.declared.Selection.{Selection}
-use Rattle.select.specs.declared.Selection.the-variants.{None, Tagged, OfEvent, Identifiers, Assigned, SuchThat}
+use Rattle.select.specs.declared.Selection.the-variants.{None, Tagged, OfEvent, Identifiers, Variables, Assigned, SuchThat}
 use Rattle.select.specs.Selection.{actionRow}
 use Rattle.sequent.specs.Sequent.{WD, INV, FIS, GRD, SIM, WFIS, NAT, VAR}
 use Rattle.walk.specs.declared.Item.{Item}
@@ -84,6 +84,10 @@ abbrev pub isWFIS : ℕ → ℕ → Bool
 isWFIS g w = eqb g witnessGroup && eqb w 1
 
 module _ (t : Rows) where
+  -- SIM: "each abstract variable", each shared one too; 02, request 2: "SIM is made for it also at convergent and anticipated events"
+  abbrev pub simulatedRows : ℕ → Selection
+  simulatedRows e = pick (isMatched t e) (Variables abstractVariableKind) (when (isNew t e) (Identifiers sharedVariableKind))
+
   abbrev pub groupTable : ℕ → List Group
   groupTable e =
       groupOf WD (alone e (Tagged axiomTag)) A
@@ -95,7 +99,7 @@ module _ (t : Rows) where
       ∷ groupOf FIS (ofEvent e (SuchThat (ownKind t e) e)) Identifier
       ∷ groupOf WD (ofEvent e (OfEvent witnessTag e)) C
       ∷ groupOf GRD (ofEvent e (when (isRefining t e) (OfEvent guardTag (refinedBy t e)))) B
-      ∷ groupOf SIM (ofEvent e (when (isMatched t e) (Identifiers abstractVariableKind))) Identifier
+      ∷ groupOf SIM (ofEvent e (simulatedRows e)) Identifier
       ∷ groupOf INV (ofEvent e (Tagged (ownInvariantTag t e))) A
       ∷ groupOf NAT (ofEvent e (when (isConvergent t e) (Tagged variantTag))) A
       ∷ groupOf VAR (ofEvent e (when (isNew t e) (Tagged variantTag))) A

@@ -19,17 +19,17 @@ ghost use Prim.Native.Nat.{_+_, _-_, _≤_, _<_, _^_};
 ghost use lib.ListN.{length};
 ghost use Rattle.lists.specs.Choice.{pick};
 ghost use Rattle.table.specs.Lookups.{mostWords};
-ghost use Rattle.table.specs.Names.{guardTag, variantTag, abstractVariableKind};
+ghost use Rattle.table.specs.Names.{guardTag, variantTag};
 ghost use Rattle.table.specs.Rows.{rowsOf, refinedBy};
 ghost use Rattle.table.specs.Counts.{countsOf};
 ghost use Rattle.machine.specs.Described.{machineOf};
 ghost use Rattle.sequent.specs.Listed.{sequents};
 ghost use Rattle.scan.specs.Spans.{Spanned};
-ghost use Rattle.select.specs.declared.Selection.the-variants.{Tagged, OfEvent, Identifiers, Assigned, SuchThat};
+ghost use Rattle.select.specs.declared.Selection.the-variants.{Tagged, OfEvent, Assigned, SuchThat};
 ghost use Rattle.select.specs.Selection.{selects};
 ghost use Rattle.select.specs.Sought.{Passed};
 ghost use Rattle.walk.specs.Events.{isAbstract, isInitial, isRefining, isMatched, isConvergent, isNew, matchedBy, ownKind, ownInvariantTag};
-ghost use Rattle.walk.specs.Groups.{groups, groupOf, when, alone, ofEvent, groupAt, groupRows, itemAt, isWFIS, headerKind, headerItem, each};
+ghost use Rattle.walk.specs.Groups.{groups, groupOf, when, alone, ofEvent, simulatedRows, groupAt, groupRows, itemAt, isWFIS, headerKind, headerItem, each};
 ghost use Rattle.walk.specs.Slots.{slotAt, soughtAt, nextGroup, InWalk, position, SoughtSlot};
 
 // "machine: 1 abstract, 2 concrete"
@@ -277,13 +277,16 @@ fn refined_guards(words: &[u64], table: Table, event: u64) -> Selection
     of_event(event, when(is_refining(words, table, event), guards))
 }
 
-// The abstract variables, of an event that is matched.
+// The abstract variables, shared ones among them, of an event that is matched; the shared ones of a convergent or anticipated event.
 fn simulated(words: &[u64], table: Table, event: u64) -> Selection
     requires { ⌜ table ≡ countsOf (rowsOf (now words)) ⌝ }
-    ensures { λ r. ⌜ r ≡ ofEvent event (when (isMatched (rowsOf (now (words .entry))) event) (Identifiers abstractVariableKind)) ⌝ }
+    ensures { λ r. ⌜ r ≡ ofEvent event (simulatedRows (rowsOf (now (words .entry))) event) ⌝ }
 {
-    let variables = Selection::Identifiers(identifier::ABSTRACT_VARIABLE);
-    of_event(event, when(is_matched(words, table, event), variables))
+    if is_matched(words, table, event) {
+        return of_event(event, Selection::Variables(identifier::ABSTRACT_VARIABLE));
+    }
+    let shared = Selection::Identifiers(identifier::SHARED_VARIABLE);
+    of_event(event, when(is_new(words, table, event), shared))
 }
 
 // The variant, of an event for which a test passes.
