@@ -14,23 +14,24 @@ use Rattle.lists.specs.Below.{numbers, keep}
 use Rattle.lists.proofs.All.{all-at}
 use Rattle.lists.proofs.Below.{numbers-in}
 use Rattle.lists.proofs.Flat.{keep-keep, keep-map, map-when}
+use Rattle.table.specs.Names.{isVariableOf}
 use Rattle.table.specs.Rows.{Rows, tagged, section}
 use Rattle.table.specs.Lookups.{isVariableNumber}
-use Rattle.machine.specs.Machine.{Witness}
+use Rattle.machine.specs.Machine.{Witness, unsharedVariables}
 use Rattle.machine.specs.Described.{machineOf}
-use Rattle.machine.proofs.Variables.{variable-numbered}
+use Rattle.machine.proofs.Variables.{variable-numbered, unshared-numbered}
 use Rattle.sequent.specs.Entry.{Entry, written, moves, variable}
 use Rattle.sequent.specs.Sequent.{Sequent, sequent}
 use Rattle.sequent.specs.Listed.{formulas, base, guarded, moved, allWritten, witnessEntries, parameterWitnesses, invHypotheses}
 use Rattle.sequent.specs.Required.{ownVariables}
 use Rattle.select.specs.declared.Selection.{Selection}
-use Rattle.select.specs.declared.Selection.the-variants.{Tagged, OfEvent, ForParameters, Identifiers}
-use Rattle.select.specs.Selection.{rowOfEvent, parameterWitness, identifierAt, selects}
+use Rattle.select.specs.declared.Selection.the-variants.{Tagged, OfEvent, ForParameters, Identifiers, Variables}
+use Rattle.select.specs.Selection.{rowOfEvent, parameterWitness, identifierAt, variableAt, selects}
 use Rattle.walk.specs.declared.Slot.{Slot}
 use Rattle.walk.specs.Events.{isAbstract, isInitial, isNew, ownKind}
 use Rattle.walk.specs.Groups.{groups, groupAt, groupRows, when, headerKind, headerItem, axiomGroup, abstractInvariantGroup, concreteInvariantGroup, guardGroup, witnessGroup, grdGroup}
 use Rattle.walk.specs.Slots.{slotAt, slotCount}
-use Rattle.walk.proofs.Groups.{roleOf, writtenOf, baseAt, guardedAt, movedAt, witnessOf, made, by-role, variables-own, guards-rows, witnesses-rows, map-identifiers}
+use Rattle.walk.proofs.Groups.{roleOf, writtenOf, baseAt, guardedAt, movedAt, witnessesAt, simulationAt, witnessOf, made, by-role, variables-own, guards-rows, witnesses-rows, map-identifiers}
 use Rattle.entries.specs.Segments.{upTo, ofNone, hasAbstract, hasConcrete, hasMoves, hasWitnesses, hasAbstractMoves}
 use Rattle.entries.specs.Segments.{segmentAt, segmentEntry, segment, hypothesisWalk, goalOf, goalAt, slotSequent}
 
@@ -45,8 +46,12 @@ module _ (t : Rows) where
   abbrev rooted : (ℕ → ℕ) → (ℕ → Bool) → List Entry
   rooted root P = rootedTo (t .size) root P
 
-  abbrev moving : ℕ → ℕ → List Entry
-  moving e kind = map (λ j. moves e (j + 1)) (keep (identifierAt t kind) rows)
+  -- the moves of an event for the identifiers that pass, and for the variables of its machine
+  abbrev movingBy : ℕ → (ℕ → Bool) → List Entry
+  movingBy e P = map (λ j. moves e (j + 1)) (keep P rows)
+
+  abbrev moving : ℕ → List Entry
+  moving e = movingBy e (variableAt t (ownKind t e))
 
   -- rows that are selected where a test passes
   kept-when : (f : ℕ → Entry) (b : Bool) (r : Selection) (ns : List ℕ) → map f (keep (selects t (when b r)) ns) ≡ pick b (map f (keep (selects t r) ns)) []
@@ -64,9 +69,9 @@ module _ (t : Rows) where
       ++ (pick (hasAbstract t s) (rootedTo (upTo t s abstractInvariantGroup) (t .a) (tagged t 31)) []
       ++ (pick (hasConcrete t s) (rootedTo (upTo t s concreteInvariantGroup) (t .a) (tagged t 32)) []
       ++ (pick (not (ofNone s)) (rootedTo (upTo t s guardGroup) (t .b) (rowOfEvent t 50 (s .event))) []
-      ++ (pick (hasMoves t s) (moving (s .event) (ownKind t (s .event))) []
+      ++ (pick (hasMoves t s) (moving (s .event)) []
       ++ (pick (eqb (s .group) grdGroup) (rooted (t .c) (parameterWitness t (s .event))) (pick (hasWitnesses t s) (rooted (t .c) (rowOfEvent t 60 (s .event))) [])
-      ++ (pick (hasAbstractMoves t s) (moving (s .event) 2) []
+      ++ (pick (hasAbstractMoves t s) (movingBy (s .event) (identifierAt t 2)) []
       ++ rest))))))
   unfolding hypothesisWalk segmentAt segmentEntry flatMap numbers
   walk-then s rest =
@@ -75,7 +80,7 @@ module _ (t : Rows) where
       (both (kept-when _ (hasAbstract t s) (Tagged 31) _)
       (both (kept-when _ (hasConcrete t s) (Tagged 32) _)
       (both (kept-when _ (not (ofNone s)) (OfEvent 50 (s .event)) _)
-      (both (kept-when _ (hasMoves t s) (Identifiers (ownKind t (s .event))) rows)
+      (both (kept-when _ (hasMoves t s) (Variables (ownKind t (s .event))) rows)
       (both (kept-witnesses (s .event) (eqb (s .group) grdGroup) (hasWitnesses t s))
       (both (kept-when _ (hasAbstractMoves t s) (Identifiers 2) rows) refl))))))
     where
@@ -114,12 +119,11 @@ module _ (t : Rows) where
       other : Witness → Bool
       other w = not (variable (machineOf t) (w .target))
 
-  moves-own : (e : ℕ) → map (moves e) (ownVariables (machineOf t) (roleOf t e)) ≡ moving e (ownKind t e)
-  moves-own e = ap (map (moves e)) (variables-own t e) ∙ map-identifiers t (ownKind t e) (moves e)
+  moves-own : (e : ℕ) → map (moves e) (ownVariables (machineOf t) (roleOf t e)) ≡ moving e
+  moves-own e = ap (map (moves e)) (variables-own t e) ∙ map-identifiers t (isVariableOf (ownKind t e)) (moves e)
 
-  moves-abstract : (e : ℕ) → map (moves e) (machineOf t .abstractVariables) ≡ moving e 2
-  unfolding machineOf
-  moves-abstract e = map-identifiers t 2 (moves e)
+  moves-unshared : (e : ℕ) → map (moves e) (unsharedVariables (machineOf t)) ≡ movingBy e (identifierAt t 2)
+  moves-unshared e = ap (map (moves e)) (unshared-numbered t) ∙ map-identifiers t (λ k. eqb k 2) (moves e)
 
   -- base, guards and moves, before whatever follows them
   abbrev basic : ℕ → List Entry → List Entry
@@ -150,7 +154,7 @@ module _ (t : Rows) where
       ∙ ap (λ xs. basic e (xs ++ rest)) (guards-written e)
 
   moved-then : (e : ℕ) (rest : List Entry)
-      → moved (machineOf t) (roleOf t e) e ++ rest ≡ basic e (rooted (t .b) (rowOfEvent t 50 e) ++ (moving e (ownKind t e) ++ rest))
+      → moved (machineOf t) (roleOf t e) e ++ rest ≡ basic e (rooted (t .b) (rowOfEvent t 50 e) ++ (moving e ++ rest))
   moved-then e rest =
       append-assoc (guarded (machineOf t) (roleOf t e) e) (map (moves e) (ownVariables (machineOf t) (roleOf t e))) rest
       ∙ guarded-then e (map (moves e) (ownVariables (machineOf t) (roleOf t e)) ++ rest)
@@ -191,42 +195,52 @@ module _ (t : Rows) where
   -- "moves for a variable witness"
   witness-then : (e i : ℕ) (rest : List Entry)
       → pick (variable (machineOf t) (t .b i)) (moved (machineOf t) (roleOf t e) e) (guarded (machineOf t) (roleOf t e) e) ++ rest
-      ≡ basic e (rooted (t .b) (rowOfEvent t 50 e) ++ (pick (isVariableNumber t (t .b i)) (moving e (ownKind t e)) [] ++ rest))
+      ≡ basic e (rooted (t .b) (rowOfEvent t 50 e) ++ (pick (isVariableNumber t (t .b i)) (moving e) [] ++ rest))
   witness-then e i rest =
       ap (λ b. pick b (moved (machineOf t) (roleOf t e) e) (guarded (machineOf t) (roleOf t e) e) ++ rest) (variable-numbered t (t .b i)) ∙ by-test (isVariableNumber t (t .b i))
     where
       by-test : (b : Bool) → pick b (moved (machineOf t) (roleOf t e) e) (guarded (machineOf t) (roleOf t e) e) ++ rest
-          ≡ basic e (rooted (t .b) (rowOfEvent t 50 e) ++ (pick b (moving e (ownKind t e)) [] ++ rest))
+          ≡ basic e (rooted (t .b) (rowOfEvent t 50 e) ++ (pick b (moving e) [] ++ rest))
       by-test true = moved-then e rest
       by-test false = guarded-then e rest
-
-  -- "for a convergent event form 4 of each abstract variable instead of witnesses", and so for an anticipated one
-  invariant-own : (e : ℕ) → invHypotheses (machineOf t) (roleOf t e) e ≡ moved (machineOf t) (roleOf t e) e
-      ++ pick (isNew t e) (map (moves e) (machineOf t .abstractVariables)) (witnessEntries (machineOf t) (machineOf t .witnesses e))
-  invariant-own e =
-      by-role t e
-      (λ a z o v r. invHypotheses (machineOf t) r e ≡ moved (machineOf t) r e
-      ++ pick (not a && not (z || o)) (map (moves e) (machineOf t .abstractVariables)) (witnessEntries (machineOf t) (machineOf t .witnesses e)))
-      (λ o v. refl) (λ o v. refl) refl refl refl refl
-
-  invariant-then : (e : ℕ) (rest : List Entry) → invHypotheses (machineOf t) (roleOf t e) e ++ rest
-      ≡ basic e (rooted (t .b) (rowOfEvent t 50 e) ++ (moving e (ownKind t e)
-      ++ (pick (not (isNew t e)) (rooted (t .c) (rowOfEvent t 60 e)) [] ++ (pick (isNew t e) (moving e 2) [] ++ rest))))
-  invariant-then e rest =
-      ap (λ xs. xs ++ rest)
-      (invariant-own e ∙ ap₂ (λ (xs : List Entry) (ys : List Entry). moved (machineOf t) (roleOf t e) e ++ pick (isNew t e) xs ys) (moves-abstract e) (witnesses-written e))
-      ∙ append-assoc (moved (machineOf t) (roleOf t e) e) (pick (isNew t e) (moving e 2) (rooted (t .c) (rowOfEvent t 60 e))) rest
-      ∙ moved-then e (pick (isNew t e) (moving e 2) (rooted (t .c) (rowOfEvent t 60 e)) ++ rest)
-      ∙ ap (λ xs. basic e (rooted (t .b) (rowOfEvent t 50 e) ++ (moving e (ownKind t e) ++ xs))) (by-test (isNew t e))
-    where
-      by-test : (b : Bool) → pick b (moving e 2) (rooted (t .c) (rowOfEvent t 60 e)) ++ rest
-          ≡ pick (not b) (rooted (t .c) (rowOfEvent t 60 e)) [] ++ (pick b (moving e 2) [] ++ rest)
-      by-test true = refl
-      by-test false = refl
 
   -- two lists, and then the rest
   two-then : (xs : List Entry) {ys zs : List Entry} (rest : List Entry) → ys ≡ zs → (xs ++ ys) ++ rest ≡ xs ++ (zs ++ rest)
   two-then xs {ys} rest p = append-assoc xs ys rest ∙ ap (λ es. xs ++ (es ++ rest)) p
+
+  -- SIM: the witnesses, but not of a new event
+  simulation-then : (e : ℕ) (rest : List Entry) → simulationAt t e ++ rest
+      ≡ basic e (rooted (t .b) (rowOfEvent t 50 e) ++ (moving e ++ (pick (not (isNew t e)) (rooted (t .c) (rowOfEvent t 60 e)) [] ++ rest)))
+  simulation-then e rest = by-test (isNew t e)
+    where
+      by-test : (b : Bool) → pick b (movedAt t e) (movedAt t e ++ witnessesAt t e) ++ rest
+          ≡ basic e (rooted (t .b) (rowOfEvent t 50 e) ++ (moving e ++ (pick (not b) (rooted (t .c) (rowOfEvent t 60 e)) [] ++ rest)))
+      by-test true = moved-then e rest
+      by-test false = two-then (movedAt t e) rest (witnesses-written e) ∙ moved-then e (rooted (t .c) (rowOfEvent t 60 e) ++ rest)
+
+  -- "for a convergent event form 4 of each abstract variable instead of witnesses", and so for an anticipated one
+  invariant-own : (e : ℕ) → invHypotheses (machineOf t) (roleOf t e) e ≡ moved (machineOf t) (roleOf t e) e
+      ++ pick (isNew t e) (map (moves e) (unsharedVariables (machineOf t))) (witnessEntries (machineOf t) (machineOf t .witnesses e))
+  invariant-own e =
+      by-role t e
+      (λ a z o v r. invHypotheses (machineOf t) r e ≡ moved (machineOf t) r e
+      ++ pick (not a && not (z || o)) (map (moves e) (unsharedVariables (machineOf t))) (witnessEntries (machineOf t) (machineOf t .witnesses e)))
+      (λ o v. refl) (λ o v. refl) refl refl refl refl
+
+  invariant-then : (e : ℕ) (rest : List Entry) → invHypotheses (machineOf t) (roleOf t e) e ++ rest
+      ≡ basic e (rooted (t .b) (rowOfEvent t 50 e) ++ (moving e
+      ++ (pick (not (isNew t e)) (rooted (t .c) (rowOfEvent t 60 e)) [] ++ (pick (isNew t e) (movingBy e (identifierAt t 2)) [] ++ rest))))
+  invariant-then e rest =
+      ap (λ xs. xs ++ rest)
+      (invariant-own e ∙ ap₂ (λ (xs : List Entry) (ys : List Entry). moved (machineOf t) (roleOf t e) e ++ pick (isNew t e) xs ys) (moves-unshared e) (witnesses-written e))
+      ∙ append-assoc (moved (machineOf t) (roleOf t e) e) (pick (isNew t e) (movingBy e (identifierAt t 2)) (rooted (t .c) (rowOfEvent t 60 e))) rest
+      ∙ moved-then e (pick (isNew t e) (movingBy e (identifierAt t 2)) (rooted (t .c) (rowOfEvent t 60 e)) ++ rest)
+      ∙ ap (λ xs. basic e (rooted (t .b) (rowOfEvent t 50 e) ++ (moving e ++ xs))) (by-test (isNew t e))
+    where
+      by-test : (b : Bool) → pick b (movingBy e (identifierAt t 2)) (rooted (t .c) (rowOfEvent t 60 e)) ++ rest
+          ≡ pick (not b) (rooted (t .c) (rowOfEvent t 60 e)) [] ++ (pick b (movingBy e (identifierAt t 2)) [] ++ rest)
+      by-test true = refl
+      by-test false = refl
 
   -- group by group: the slot's sequents are made of the segments
   module _ (e i : ℕ) (d : Sequent) where
@@ -245,7 +259,7 @@ module _ (t : Rows) where
         (all-cons (λ r. guarded-then e r ∙ sym (walk-then (slotAt e 6 i 0) r))
         (all-cons (λ r. witness-then e i r ∙ sym (walk-then (slotAt e 7 i 0) r))
         (all-cons (λ r. two-then (guardedAt t e) r (parameters-written e) ∙ guarded-then e (rooted (t .c) (parameterWitness t e) ++ r) ∙ sym (walk-then (slotAt e 8 i 0) r))
-        (all-cons (λ r. two-then (movedAt t e) r (witnesses-written e) ∙ moved-then e (rooted (t .c) (rowOfEvent t 60 e) ++ r) ∙ sym (walk-then (slotAt e 9 i 0) r))
+        (all-cons (λ r. simulation-then e r ∙ sym (walk-then (slotAt e 9 i 0) r))
         (all-cons (λ r. invariant-then e r ∙ sym (walk-then (slotAt e 10 i 0) r))
         (all-cons (λ r. guarded-then e r ∙ sym (walk-then (slotAt e 11 i 0) r))
         (all-cons (λ r. moved-then e r ∙ sym (walk-then (slotAt e 12 i 0) r)) all-nil))))))))))))

@@ -11,11 +11,11 @@ use Rattle.lists.specs.Sum.{sumBelow}
 use Rattle.table.specs.Names.{axiomTag, abstractInvariantTag, concreteInvariantTag, guardTag, witnessTag, abstractVariableKind}
 use Rattle.table.specs.Rows.{Rows}
 use Rattle.table.specs.Lookups.{isVariableNumber}
-use Rattle.sequent.specs.Entry.{Entry, written, primed, defined, moves, feasible, witnessed, natural, decreases, notIncreased}
+use Rattle.sequent.specs.Entry.{Entry, written, primed, defined, moves, feasible, witnessed, natural, decreases, notIncreased, unchanged}
 use Rattle.sequent.specs.Numbers.{writtenForm, movesForm}
 use Rattle.sequent.specs.Sequent.{Sequent, sequent}
 use Rattle.select.specs.declared.Selection.{Selection}
-use Rattle.select.specs.declared.Selection.the-variants.{None, Tagged, OfEvent, ForParameters, Identifiers}
+use Rattle.select.specs.declared.Selection.the-variants.{None, Tagged, OfEvent, ForParameters, Identifiers, Variables}
 use Rattle.select.specs.Selection.{selects}
 use Rattle.walk.specs.declared.Item.{Item}
 use Rattle.walk.specs.declared.Item.the-variants.{A, B, C, Identifier}
@@ -33,6 +33,10 @@ abbrev pub segments : ℕ
 segments = 7
 
 module _ (t : Rows) where
+  -- SIM: "4 of the abstract event"; 02, request 2: of a convergent or anticipated event "its goal there is form 10"
+  abbrev pub simGoal : ℕ → ℕ → Entry
+  simGoal e x = pick (isNew t e) (unchanged x) (moves (matchedBy t e) x)
+
   -- VAR: form 8 of a convergent event, form 9 of an anticipated one
   abbrev pub variantGoal : ℕ → ℕ → Entry
   variantGoal e x = pick (isConvergent t e) (decreases x) (notIncreased x)
@@ -40,7 +44,7 @@ module _ (t : Rows) where
   -- column "goal", kind by kind, of an event and an item; 0 is no kind and counts as 1
   abbrev pub goals : List (ℕ → ℕ → Entry)
   goals =
-      (λ e x. defined x) ∷ (λ e x. defined x) ∷ (λ e x. primed x) ∷ (λ e x. feasible e x) ∷ (λ e x. written x) ∷ (λ e x. moves (matchedBy t e) x)
+      (λ e x. defined x) ∷ (λ e x. defined x) ∷ (λ e x. primed x) ∷ (λ e x. feasible e x) ∷ (λ e x. written x) ∷ (λ e x. simGoal e x)
       ∷ (λ e x. witnessed e x) ∷ (λ e x. natural x) ∷ (λ e x. variantGoal e x) ∷ []
 
   unfoldable pub goalOf : ℕ → ℕ → ℕ → Entry
@@ -69,9 +73,9 @@ module _ (t : Rows) (s : Slot) where
       (eqb (s .group) simGroup || (eqb (s .group) invGroup || eqb (s .group) varGroup))
       || (eqb (s .group) witnessGroup && isVariableNumber t (t .b (s .row)))
 
-  -- SIM, and INV but of a convergent or anticipated event
+  -- SIM and INV, but of a convergent or anticipated event
   abbrev pub hasWitnesses : Bool
-  hasWitnesses = eqb (s .group) simGroup || (eqb (s .group) invGroup && not (isNew t (s .event)))
+  hasWitnesses = (eqb (s .group) simGroup || eqb (s .group) invGroup) && not (isNew t (s .event))
 
   -- "for a convergent event form 4 of each abstract variable instead of witnesses", and so for an anticipated one
   abbrev pub hasAbstractMoves : Bool
@@ -91,10 +95,10 @@ module _ (t : Rows) (s : Slot) where
       -- the guards
       ∷ segmentOf (when (not (ofNone s)) (OfEvent guardTag (s .event))) (upTo guardGroup) writtenForm B
       -- the moves
-      ∷ segmentOf (when hasMoves (Identifiers (ownKind t (s .event)))) (t .size) movesForm Identifier
+      ∷ segmentOf (when hasMoves (Variables (ownKind t (s .event)))) (t .size) movesForm Identifier
       -- the witnesses
       ∷ segmentOf witnessRows (t .size) writtenForm C
-      -- the abstract moves
+      -- the abstract moves; 02, request 2: "Form 4 of it stands once among hypotheses": a shared variable's is among the moves
       ∷ segmentOf (when hasAbstractMoves (Identifiers abstractVariableKind)) (t .size) movesForm Identifier
       ∷ []
 

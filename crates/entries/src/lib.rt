@@ -37,12 +37,12 @@ ghost use Rattle.table.specs.Rows.{rowsOf};
 ghost use Rattle.table.specs.Counts.{countsOf};
 ghost use Rattle.table.specs.Names.{guardTag};
 ghost use Rattle.scan.specs.Spans.{Spanned};
-ghost use Rattle.select.specs.declared.Selection.the-variants.{Tagged, OfEvent, Identifiers};
+ghost use Rattle.select.specs.declared.Selection.the-variants.{Tagged, OfEvent};
 ghost use Rattle.sequent.specs.Numbers.{numbers, numbersOf, writtenForm, movesForm};
 ghost use Rattle.walk.specs.declared.Item.the-variants.{A as columnA, B as columnB, Identifier};
 ghost use Rattle.walk.specs.Groups.{when, guardGroup};
 ghost use Rattle.reply.specs.Printed.{rowsBytes};
-ghost use Rattle.entries.specs.Segments.{segmentOf, variantGoal, goalOf, upTo, ofNone, hasAbstract, hasConcrete, hasMoves, hasWitnesses, hasAbstractMoves, witnessRows};
+ghost use Rattle.entries.specs.Segments.{segmentOf, simGoal, variantGoal, goalOf, upTo, ofNone, hasAbstract, hasConcrete, hasMoves, hasWitnesses, hasAbstractMoves, witnessRows};
 ghost use Rattle.entries.specs.Segments.{segments, segmentAt, segmentEntry, goalAt, hypothesisCount};
 ghost use Rattle.entries.specs.Seek.{cursorAt, entryAt, Stands, SoughtEntry};
 ghost use Rattle.entries.specs.Written.{numbersRow, hypothesisRows, entryRows};
@@ -97,13 +97,13 @@ fn has_moves(words: &[u64], table: Table, slot: Slot) -> bool
         | ((group == Group::WITNESS) & variable)
 }
 
-// SIM, and INV but of a convergent or anticipated event.
+// SIM and INV, but of a convergent or anticipated event.
 fn has_witnesses(words: &[u64], table: Table, slot: Slot) -> bool
     requires { ⌜ table ≡ countsOf (rowsOf (now words)) ⌝ }
     ensures { λ r. ⌜ r ≡ hasWitnesses (rowsOf (now (words .entry))) slot ⌝ }
 {
     let group = slot.group;
-    (group == Group::SIM) | ((group == Group::INV) & !is_new(words, table, slot.event))
+    ((group == Group::SIM) | (group == Group::INV)) & !is_new(words, table, slot.event)
 }
 
 // "for a convergent event form 4 of each abstract variable instead of witnesses", and so for an anticipated one
@@ -194,11 +194,11 @@ fn guards(words: &[u64], slot: Slot) -> Segment
     )
 }
 
-// The moves of an event for the variables of a kind.
-fn moves(words: &[u64], has: bool, kind: u64) -> Segment
-    ensures { λ r. ⌜ r ≡ segmentOf (when has (Identifiers kind)) (rowsOf (now (words .entry)) .size) movesForm Identifier ⌝ }
+// The moves of an event for some variables.
+fn moves(words: &[u64], has: bool, variables: Selection) -> Segment
+    ensures { λ r. ⌜ r ≡ segmentOf (when has variables) (rowsOf (now (words .entry)) .size) movesForm Identifier ⌝ }
 {
-    let rows = when(has, Selection::Identifiers(kind));
+    let rows = when(has, variables);
     Segment::new(rows, size(words), form::MOVES, Item::Identifier)
 }
 
@@ -227,7 +227,7 @@ fn segment_at(words: &[u64], table: Table, slot: Slot, segment: u64) -> Segment
         Segment::MOVES => moves(
             words,
             has_moves(words, table, slot),
-            own_kind(words, table, slot.event),
+            Selection::Variables(own_kind(words, table, slot.event)),
         ),
         Segment::WITNESSES => Segment::new(
             witness_rows(words, table, slot),
@@ -238,19 +238,19 @@ fn segment_at(words: &[u64], table: Table, slot: Slot, segment: u64) -> Segment
         Segment::ABSTRACT_MOVES => moves(
             words,
             has_abstract_moves(words, table, slot),
-            identifier::ABSTRACT_VARIABLE,
+            Selection::Identifiers(identifier::ABSTRACT_VARIABLE),
         ),
         _ => Segment::new(Selection::None, 0, form::WRITTEN, Item::A),
     }
 }
 
-// An entry of one root: its form, the root, then 0.
-fn of_root(form: u64, root: u64) -> Entry
-    ensures { λ r. ⌜ r ≡ numbers form root 0 ⌝ }
+// An entry of one number, a root or a variable: its form, the number, then 0.
+fn of_one(form: u64, number: u64) -> Entry
+    ensures { λ r. ⌜ r ≡ numbers form number 0 ⌝ }
 {
     Entry {
         form,
-        first: root,
+        first: number,
         second: 0,
     }
 }
@@ -266,15 +266,26 @@ fn of_event(form: u64, event: u64, x: u64) -> Entry
     }
 }
 
+// The goal of SIM: form 10 of a convergent or anticipated event, else form 4 of the event that its steps are matched by.
+fn sim_goal(words: &[u64], table: Table, event: u64, x: u64) -> Entry
+    requires { ⌜ table ≡ countsOf (rowsOf (now words)) ⌝ }
+    ensures { λ r. ⌜ r ≡ numbersOf (simGoal (rowsOf (now (words .entry))) event x) ⌝ }
+{
+    if is_new(words, table, event) {
+        return of_one(form::UNCHANGED, x);
+    }
+    of_event(form::MOVES, matched_by(words, table, event), x)
+}
+
 // The goal of VAR: form 8 of a convergent event, form 9 of an anticipated one.
 fn variant_goal(words: &[u64], table: Table, event: u64, root: u64) -> Entry
     requires { ⌜ table ≡ countsOf (rowsOf (now words)) ⌝ }
     ensures { λ r. ⌜ r ≡ numbersOf (variantGoal (rowsOf (now (words .entry))) event root) ⌝ }
 {
     if is_convergent(words, table, event) {
-        return of_root(form::DECREASES, root);
+        return of_one(form::DECREASES, root);
     }
-    of_root(form::NOT_INCREASED, root)
+    of_one(form::NOT_INCREASED, root)
 }
 
 // The goal of a kind, for an event and an item.
@@ -283,14 +294,14 @@ fn goal_of(words: &[u64], table: Table, kind: u64, event: u64, item: u64) -> Ent
     ensures { λ r. ⌜ r ≡ numbersOf (goalOf (rowsOf (now (words .entry))) kind event item) ⌝ }
 {
     match kind {
-        kind::INV => of_root(form::PRIMED, item),
+        kind::INV => of_one(form::PRIMED, item),
         kind::FIS => of_event(form::FEASIBLE, event, item),
-        kind::GRD => of_root(form::WRITTEN, item),
-        kind::SIM => of_event(form::MOVES, matched_by(words, table, event), item),
+        kind::GRD => of_one(form::WRITTEN, item),
+        kind::SIM => sim_goal(words, table, event, item),
         kind::WFIS => of_event(form::WITNESSED, event, item),
-        kind::NAT => of_root(form::NATURAL, item),
+        kind::NAT => of_one(form::NATURAL, item),
         kind::VAR => variant_goal(words, table, event, item),
-        _ => of_root(form::DEFINED, item),
+        _ => of_one(form::DEFINED, item),
     }
 }
 
@@ -322,7 +333,7 @@ fn segment_entry(
     if part.form == form::MOVES {
         return of_event(form::MOVES, slot.event, x);
     }
-    of_root(form::WRITTEN, x)
+    of_one(form::WRITTEN, x)
 }
 
 // A place in the walk of a slot's hypotheses: a row of a segment, and how many hypotheses are left to pass. Past the last segment is the end.

@@ -2,7 +2,7 @@
 use mathlib.Core.Path.{_≡_, sym, ap, _∙_}
 use native.Mathlib.Omega.{arith}
 use Rattle.table.specs.Rows.{rowsOf}
-use Rattle.sequent.specs.Numbers.{numbers, numbersOf}
+use Rattle.sequent.specs.Numbers.{numbersOf}
 use Rattle.entries.specs.Segments.{goalOf}
 use Rattle.entries.proofs.Tables.{goal-rest}
 use borrow.Author.Needs.{needs}
@@ -20,11 +20,10 @@ goal-of-spec = tie.close (tie.spec
     (λ c κs. search needs)
     (λ c κs. search needs)
     (λ c κs. search needs)
-    (λ c κs. search needs)
     (λ c. let a = c .before .before .before .args in
     let t = rowsOf (a .words .now) in
     let e : a .kind ≡ 2 = omega arith in
-    c .of-root .ensures ∙ ap (λ k. numbersOf (goalOf t k (a .event) (a .item))) (sym e))
+    c .of-one .ensures ∙ ap (λ k. numbersOf (goalOf t k (a .event) (a .item))) (sym e))
     (λ c. let a = c .before .before .before .args in
     let t = rowsOf (a .words .now) in
     let e : a .kind ≡ 3 = omega arith in
@@ -32,19 +31,19 @@ goal-of-spec = tie.close (tie.spec
     (λ c. let a = c .before .before .before .args in
     let t = rowsOf (a .words .now) in
     let e : a .kind ≡ 4 = omega arith in
-    c .of-root2 .ensures ∙ ap (λ k. numbersOf (goalOf t k (a .event) (a .item))) (sym e))
-    (λ c. let a = c .before .before .before .before .args in
+    c .of-one2 .ensures ∙ ap (λ k. numbersOf (goalOf t k (a .event) (a .item))) (sym e))
+    (λ c. let a = c .before .before .before .args in
     let t = rowsOf (a .words .now) in
     let e : a .kind ≡ 5 = omega arith in
-    c .of-event2 .ensures ∙ ap (λ f. numbers 4 f (a .item)) (c .before .matched-by .ensures) ∙ ap (λ k. numbersOf (goalOf t k (a .event) (a .item))) (sym e))
+    c .sim-goal .ensures ∙ ap (λ k. numbersOf (goalOf t k (a .event) (a .item))) (sym e))
     (λ c. let a = c .before .before .before .args in
     let t = rowsOf (a .words .now) in
     let e : a .kind ≡ 6 = omega arith in
-    c .of-event3 .ensures ∙ ap (λ k. numbersOf (goalOf t k (a .event) (a .item))) (sym e))
+    c .of-event2 .ensures ∙ ap (λ k. numbersOf (goalOf t k (a .event) (a .item))) (sym e))
     (λ c. let a = c .before .before .before .args in
     let t = rowsOf (a .words .now) in
     let e : a .kind ≡ 7 = omega arith in
-    c .of-root3 .ensures ∙ ap (λ k. numbersOf (goalOf t k (a .event) (a .item))) (sym e))
+    c .of-one3 .ensures ∙ ap (λ k. numbersOf (goalOf t k (a .event) (a .item))) (sym e))
     (λ c. let a = c .before .before .before .args in
     let t = rowsOf (a .words .now) in
     let e : a .kind ≡ 8 = omega arith in
@@ -52,4 +51,4 @@ goal-of-spec = tie.close (tie.spec
     (λ c. let a = c .before .before .before .args in
     let t = rowsOf (a .words .now) in
     let o = c .before .match .rest in
-    c .of-root4 .ensures ∙ ap numbersOf (goal-rest t (a .kind) (a .event) (a .item) (λ e. o .0 .0 .0 .0 .0 .0 .1 e) (λ e. o .0 .0 .0 .0 .0 .1 e) (λ e. o .0 .0 .0 .0 .1 e) (λ e. o .0 .0 .0 .1 e) (λ e. o .0 .0 .1 e) (λ e. o .0 .1 e) (λ e. o .1 e))))
+    c .of-one4 .ensures ∙ ap numbersOf (goal-rest t (a .kind) (a .event) (a .item) (λ e. o .0 .0 .0 .0 .0 .0 .1 e) (λ e. o .0 .0 .0 .0 .0 .1 e) (λ e. o .0 .0 .0 .0 .1 e) (λ e. o .0 .0 .0 .1 e) (λ e. o .0 .0 .1 e) (λ e. o .0 .1 e) (λ e. o .1 e))))

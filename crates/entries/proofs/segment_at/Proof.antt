@@ -5,7 +5,7 @@ use Rattle.lists.specs.All.{all-nil, all-cons}
 use Rattle.lists.specs.Below.{numbers}
 use Rattle.lists.proofs.Range.{table-rest}
 use Rattle.table.specs.Rows.{rowsOf}
-use Rattle.select.specs.declared.Selection.the-variants.{None, Tagged, Identifiers}
+use Rattle.select.specs.declared.Selection.the-variants.{None, Tagged, Identifiers, Variables}
 use Rattle.walk.specs.declared.Item.the-variants.{A, C, Identifier}
 use Rattle.walk.specs.Groups.{when}
 use Rattle.entries.specs.Segments.{segmentOf, upTo, segmentTable, segmentAt}
@@ -46,7 +46,7 @@ segment-at-spec = tie.close (tie.spec
     let g : a .segment ≡ 3 = omega arith in at-number t (a .slot) 3 g (c .guards .ensures))
     (λ c. let a = c .before .before .before .before .before .args in
     let t = rowsOf (a .words .now) in
-    let g : a .segment ≡ 4 = omega arith in at-number t (a .slot) 4 g (c .moves .ensures ∙ ap₂ (λ b k. segmentOf (when b (Identifiers k)) (t .size) 4 Identifier) (c .before .before .has-moves .ensures) (c .before .own-kind .ensures)))
+    let g : a .segment ≡ 4 = omega arith in at-number t (a .slot) 4 g (c .moves .ensures ∙ ap₂ (λ b k. segmentOf (when b (Variables k)) (t .size) 4 Identifier) (c .before .before .has-moves .ensures) (c .before .own-kind .ensures)))
     (λ c. let a = c .before .before .before .before .before .args in
     let t = rowsOf (a .words .now) in
     let g : a .segment ≡ 5 = omega arith in at-number t (a .slot) 5 g (c .new .ensures ∙ ap₂ (λ r n. segmentOf r n 1 C) (c .before .before .witness-rows .ensures) (c .before .size .ensures)))

@@ -17,4 +17,4 @@ segment-entry-spec = tie.close (tie.spec
     (λ c κs. search needs)
     (λ c. let read = c .before .before .before in
     let s = read .before .before .before .before in
-    c .of-root .ensures ∙ entry-written (rowsOf (s .args .words .now)) (s .args .slot) (s .args .segment) (s .args .j) (read .item-at .result) (read .before .segment-at .result) (read .before .segment-at .ensures) (read .item-at .ensures) (c .before .if1 .left)))
+    c .of-one .ensures ∙ entry-written (rowsOf (s .args .words .now)) (s .args .slot) (s .args .segment) (s .args .j) (read .item-at .result) (read .before .segment-at .result) (read .before .segment-at .ensures) (read .item-at .ensures) (c .before .if1 .left)))

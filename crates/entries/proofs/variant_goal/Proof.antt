@@ -8,6 +8,6 @@ pub variant-goal-spec : {M : Type 1} → statement M
 variant-goal-spec = tie.close (tie.spec
     (λ c κs. search needs)
     (λ c κs. search needs)
-    (λ c. rw (sym (c .before .before .is-convergent .ensures) ∙ c .before .if1 .taken) (c .of-root .ensures))
+    (λ c. rw (sym (c .before .before .is-convergent .ensures) ∙ c .before .if1 .taken) (c .of-one .ensures))
     (λ c κs. search needs)
-    (λ c. rw (sym (c .before .before .is-convergent .ensures) ∙ c .before .if1 .left) (c .of-root2 .ensures)))
+    (λ c. rw (sym (c .before .before .is-convergent .ensures) ∙ c .before .if1 .left) (c .of-one2 .ensures)))
