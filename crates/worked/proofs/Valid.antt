@@ -1,7 +1,7 @@
--- The 47 sequents of the worked table are valid. Those of well-definedness without a division hold by one law; the others follow from one to
--- three of their hypotheses, by putting equals for equals, and those of the variant by the order of the whole numbers.
+-- The 45 sequents of the worked table are valid. Those of well-definedness without a division hold by one law; the others follow from one to
+-- three of their hypotheses, by putting equals for equals, and those of the variant and of u ≤ N by the order of the whole numbers.
 use Prim.Native.Nat.{ℕ}
-use mathlib.Core.Path.{_≡_, refl, sym, ap, ap₂, _∙_, subst, subst⁻¹}
+use mathlib.Core.Path.{_≡_, refl, sym, ap, _∙_, subst, subst⁻¹}
 use mathlib.Core.Bool.{false, not}
 use mathlib.Core.List.{List}
 use native.Mathlib.Omega.{arith}
@@ -16,12 +16,12 @@ use Rattle.formula.specs.Tree.{literal, FALSE, equal, atMost, quotient, constan
 use Rattle.formula.specs.Evaluate.{Env, evaluate, totalDivision}
 use Rattle.formula.specs.Formula.{Formula, someValue, someAfterValue, Holds}
 use Rattle.formula.proofs.Values.{equal-value-eq, eq-equal-value}
-use Rattle.formula.proofs.Order.{at-most-gap, gap-at-most, suc-less, less-at-most, at-most-refl}
+use Rattle.formula.proofs.Order.{at-most-gap, gap-at-most, suc-less, less-at-most, at-most-refl, at-most-trans}
 use Rattle.formula.proofs.Override.{override-same, override-other}
 use Rattle.formula.proofs.NoDivision.{noDivision, no-division-defined}
 use Rattle.machine.specs.Operator.{operatorNumbered}
 use Rattle.machine.specs.Described.{treeTo, treeOf, machineOf}
-use Rattle.sequent.specs.Entry.{Entry, written, primed, defined, moves, feasible, witnessed, natural, decreases, notIncreased, formula}
+use Rattle.sequent.specs.Entry.{Entry, written, primed, defined, moves, feasible, witnessed, natural, decreases, notIncreased, unchanged, formula}
 use Rattle.sequent.specs.Sequent.{Meets, Valid, sequent, WD}
 use Rattle.sequent.specs.Listed.{sequents}
 use Rattle.worked.proofs.Decoded.{words}
@@ -34,17 +34,22 @@ unfolding Valid
 defined-anywhere e r hs h ρ hyps = no-division-defined ρ (worked .tree r) h
 
 -- Equals for equals, of any values.
-at-most-from : (v w : AnyValue) → T (equalValue v w) → T (atMostℤ (pos 0) (asNumber w)) → T (atMostℤ (pos 0) (asNumber v))
-at-most-from v w e h = subst (λ z. T (atMostℤ (pos 0) (asNumber z))) (sym (equal-value-eq v w e)) h
+equal-for : (P : AnyValue → Type 0) (v w : AnyValue) → T (equalValue v w) → P w → P v
+equal-for P v w e h = subst P (sym (equal-value-eq v w e)) h
+
+not-negative-from : (v w : AnyValue) → T (equalValue v w) → T (atMostℤ (pos 0) (asNumber w)) → T (atMostℤ (pos 0) (asNumber v))
+not-negative-from = equal-for (λ z. T (atMostℤ (pos 0) (asNumber z)))
+
+at-most-from : (v w n : AnyValue) → T (equalValue v w) → T (atMostℤ (asNumber w) (asNumber n)) → T (atMostℤ (asNumber v) (asNumber n))
+at-most-from v w n = equal-for (λ z. T (atMostℤ (asNumber z) (asNumber n))) v w
 
 nonzero-from : (v w : AnyValue) → T (equalValue v w) → T (not (equalValue w (number (pos 0)))) → T (not (equalValue v (number (pos 0))))
-nonzero-from v w e h = subst (λ z. T (not (equalValue z (number (pos 0))))) (sym (equal-value-eq v w e)) h
+nonzero-from = equal-for (λ z. T (not (equalValue z (number (pos 0)))))
 
--- from k = a and q = p: what holds of k ÷ p holds of a ÷ q
-quotient-from : (a k p q : AnyValue) → T (equalValue k a) → T (equalValue q p) → T (atMostℤ (pos 0) (asNumber (totalDivision quotient k p)))
+-- from q = p: what holds of a ÷ p holds of a ÷ q
+quotient-from : (a q p : AnyValue) → T (equalValue q p) → T (atMostℤ (pos 0) (asNumber (totalDivision quotient a p)))
     → T (atMostℤ (pos 0) (asNumber (totalDivision quotient a q)))
-quotient-from a k p q e f h =
-    subst (λ z. T (atMostℤ (pos 0) (asNumber z))) (ap₂ (totalDivision quotient) (equal-value-eq k a e) (sym (equal-value-eq q p f))) h
+quotient-from a = equal-for (λ z. T (atMostℤ (pos 0) (asNumber (totalDivision quotient a z))))
 
 symmetric : (v w : AnyValue) → T (equalValue v w) → T (equalValue w v)
 symmetric v w e = eq-equal-value w v (sym (equal-value-eq v w e))
@@ -58,7 +63,7 @@ pred-less u =
     suc-less (u -ℤ pos 1) u (subst (λ z. T (atMostℤ z u)) (sym e) (at-most-refl u))
 
 less-from : (v u : AnyValue) → T (equalValue v (number (asNumber u -ℤ pos 1))) → T (lessℤ (asNumber v) (asNumber u))
-less-from v u e = subst (λ z. T (lessℤ (asNumber z) (asNumber u))) (sym (equal-value-eq v (number (asNumber u -ℤ pos 1)) e)) (pred-less (asNumber u))
+less-from v u e = equal-for (λ z. T (lessℤ (asNumber z) (asNumber u))) v (number (asNumber u -ℤ pos 1)) e (pred-less (asNumber u))
 
 minus-at-most : (u r : ℤ) → T (atMostℤ (pos 0) r) → T (atMostℤ (u -ℤ r) u)
 minus-at-most u r h =
@@ -69,9 +74,7 @@ minus-at-most u r h =
 -- from v = u − r and 0 ≤ r
 not-more-from : (v u r : AnyValue) → T (equalValue v (number (asNumber u -ℤ asNumber r))) → T (atMostℤ (pos 0) (asNumber r))
     → T (atMostℤ (asNumber v) (asNumber u))
-not-more-from v u r e h =
-    let kept = minus-at-most (asNumber u) (asNumber r) h in
-    subst (λ z. T (atMostℤ (asNumber z) (asNumber u))) (sym (equal-value-eq v (number (asNumber u -ℤ asNumber r)) e)) kept
+not-more-from v u r e h = at-most-from v (number (asNumber u -ℤ asNumber r)) u e (minus-at-most (asNumber u) (asNumber r) h)
 
 -- a value fits a type
 fits-type : (s t : ValueType) → s ≡ t → (v : Value t) → wrap s (asValue s (wrap t v)) ≡ wrap t v
@@ -99,17 +102,7 @@ module _ (ρ : Env (worked .type)) where
   shown : (e : Entry) {φ : Formula} → formula worked e ≡ φ → Holds ρ φ → Meets worked ρ e
   shown e q h = subst⁻¹ (Holds ρ) q h
 
-  -- some value equals another identifier's
-  some-after : (x y : ℕ) → (y ≡ x → ⊥) → type x ≡ type y → Holds ρ (someAfterValue x (binary equal (after x) (after y)))
-  unfolding evaluate
-  some-after x y n e =
-      let v : Value (type x) = asValue (type x) (next y) in
-      ∣ (
-        v,
-        eq-equal-value _ _ (ap (wrap (type x)) (override-same type (ρ .after) x v) ∙ fits-type (type x) (type y) e (ρ .after y)
-            ∙ ap (wrap (type y)) (sym (override-other type (ρ .after) x v y n))),
-      ) ∣₁
-
+  -- some value equals another identifier's; some after value is FALSE, some is not negative
   some-value : (x y : ℕ) → (y ≡ x → ⊥) → type x ≡ type y → Holds ρ (someValue x (binary equal (identifier x) (identifier y)))
   unfolding evaluate
   some-value x y n e =
@@ -140,7 +133,7 @@ valid0 =
     (all-cons (defined-anywhere 0 6 _ tt)
     (all-cons (defined-anywhere 0 9 _ tt)
     (all-cons (defined-anywhere 0 12 _ tt)
-    (all-cons (defined-anywhere 0 62 _ tt)
+    (all-cons (defined-anywhere 0 56 _ tt)
     all-nil)))))
 
 -- the abstract initialisation: a := N, b := FALSE
@@ -150,9 +143,9 @@ valid1 =
     (all-cons (defined-anywhere 1 13 _ tt)
     (all-cons (defined-anywhere 1 14 _ tt)
     -- INV of 6
-    (all-cons (λ ρ h. shown ρ (primed 6) f.primed-6 (at-most-from (next ρ 2) (now ρ 1) (from ρ (moves 1 2) f.moves-1-2 (all-head (all-tail h))) (from ρ (written 3) f.written-3 (all-head h))))
+    (all-cons (λ ρ h. shown ρ (primed 6) f.primed-6 (not-negative-from (next ρ 2) (now ρ 1) (from ρ (moves 1 2) f.moves-1-2 (all-head (all-tail h))) (from ρ (written 3) f.written-3 (all-head h))))
     -- INV of 9
-    (all-cons (λ ρ h. shown ρ (primed 9) f.primed-9 ((from ρ (moves 1 3) f.moves-1-3 (all-head (all-tail (all-tail h))))))
+    (all-cons (λ ρ h. shown ρ (primed 9) f.primed-9 (from ρ (moves 1 3) f.moves-1-3 (all-head (all-tail (all-tail h)))))
     all-nil))))
 
 -- the abstract event: guards ¬(q = 0) and 0 ≤ a ÷ q, a :| 0 ≤ a′
@@ -161,91 +154,89 @@ unfolding Valid evaluate worked words machineOf treeOf treeTo start countBelow o
 valid2 =
     (all-cons (defined-anywhere 2 18 _ tt)
     -- WD of 23
-    (all-cons (λ ρ h. shown ρ (defined 23) f.defined-23 ((from ρ (written 18) f.written-18 (all-head (all-tail (all-tail (all-tail h)))))))
+    (all-cons (λ ρ h. shown ρ (defined 23) f.defined-23 (from ρ (written 18) f.written-18 (all-head (all-tail (all-tail (all-tail h))))))
     (all-cons (defined-anywhere 2 26 _ tt)
     -- FIS of 2
     (all-cons (λ ρ h. shown ρ (feasible 2 2) f.feasible-2-2 (some-natural ρ 2 f.type-2))
     -- INV of 6
-    (all-cons (λ ρ h. shown ρ (primed 6) f.primed-6 ((from ρ (moves 2 2) f.moves-2-2 (all-head (all-tail (all-tail (all-tail (all-tail (all-tail h)))))))))
+    (all-cons (λ ρ h. shown ρ (primed 6) f.primed-6 (from ρ (moves 2 2) f.moves-2-2 (all-head (all-tail (all-tail (all-tail (all-tail (all-tail h))))))))
     -- INV of 9
     (all-cons (λ ρ h. shown ρ (primed 9) f.primed-9 (transitive (next ρ 3) (now ρ 3) (truth false) (from ρ (moves 2 3) f.moves-2-3 (all-head (all-tail (all-tail (all-tail (all-tail (all-tail (all-tail h)))))))) (from ρ (written 9) f.written-9 (all-head (all-tail (all-tail h))))))
     all-nil))))))
 
--- the concrete initialisation: k := N, u := N
+-- the concrete initialisation: a := N, u := N
 valid3 : All (Valid worked) list3
 unfolding Valid evaluate worked words machineOf treeOf treeTo start countBelow operatorNumbered noDivision
 valid3 =
     (all-cons (defined-anywhere 3 27 _ tt)
     (all-cons (defined-anywhere 3 28 _ tt)
     (all-cons (defined-anywhere 3 31 _ tt)
-    -- WFIS of 2
-    (all-cons (λ ρ h. shown ρ (witnessed 3 2) f.witnessed-3-2 (some-after ρ 2 4 (λ e. omega arith) (f.type-2 ∙ sym f.type-4)))
-    (all-cons (defined-anywhere 3 34 _ tt)
     -- WFIS of 3
     (all-cons (λ ρ h. shown ρ (witnessed 3 3) f.witnessed-3-3 (some-false ρ 3 f.type-3))
     -- SIM of 2
-    (all-cons (λ ρ h. shown ρ (moves 1 2) f.moves-1-2 (transitive (next ρ 2) (next ρ 4) (now ρ 1) (from ρ (written 31) f.written-31 (all-head (all-tail (all-tail (all-tail h))))) (from ρ (moves 3 4) f.moves-3-4 (all-head (all-tail h)))))
+    (all-cons (λ ρ h. shown ρ (moves 1 2) f.moves-1-2 (from ρ (moves 3 2) f.moves-3-2 (all-head (all-tail h))))
     -- SIM of 3
-    (all-cons (λ ρ h. shown ρ (moves 1 3) f.moves-1-3 ((from ρ (written 34) f.written-34 (all-head (all-tail (all-tail (all-tail (all-tail h))))))))
+    (all-cons (λ ρ h. shown ρ (moves 1 3) f.moves-1-3 (from ρ (written 31) f.written-31 (all-head (all-tail (all-tail (all-tail h))))))
     -- INV of 12
-    (all-cons (λ ρ h. shown ρ (primed 12) f.primed-12 (symmetric (next ρ 2) (next ρ 4) (from ρ (written 31) f.written-31 (all-head (all-tail (all-tail (all-tail h)))))))
-    all-nil)))))))))
+    (all-cons (λ ρ h. shown ρ (primed 12) f.primed-12 (at-most-from (next ρ 4) (now ρ 1) (now ρ 1) (from ρ (moves 3 4) f.moves-3-4 (all-head (all-tail (all-tail h)))) (at-most-refl (asNumber (now ρ 1)))))
+    all-nil)))))))
 
--- the refining event: guards ¬(p = 0) and 0 ≤ k ÷ p, k := k ÷ p
+-- the refining event: guards ¬(p = 0) and 0 ≤ a ÷ p, a := a ÷ p
 valid4 : All (Valid worked) list4
 unfolding Valid evaluate worked words machineOf treeOf treeTo start countBelow operatorNumbered noDivision
 valid4 =
-    (all-cons (defined-anywhere 4 38 _ tt)
+    (all-cons (defined-anywhere 4 35 _ tt)
+    -- WD of 40
+    (all-cons (λ ρ h. shown ρ (defined 40) f.defined-40 (from ρ (written 35) f.written-35 (all-head (all-tail (all-tail (all-tail (all-tail h)))))))
     -- WD of 43
-    (all-cons (λ ρ h. shown ρ (defined 43) f.defined-43 ((from ρ (written 38) f.written-38 (all-head (all-tail (all-tail (all-tail (all-tail h))))))))
-    -- WD of 46
-    (all-cons (λ ρ h. shown ρ (defined 46) f.defined-46 ((from ρ (written 38) f.written-38 (all-head (all-tail (all-tail (all-tail (all-tail h))))))))
+    (all-cons (λ ρ h. shown ρ (defined 43) f.defined-43 (from ρ (written 35) f.written-35 (all-head (all-tail (all-tail (all-tail (all-tail h)))))))
+    (all-cons (defined-anywhere 4 46 _ tt)
+    -- WFIS of 5
+    (all-cons (λ ρ h. shown ρ (witnessed 4 5) f.witnessed-4-5 (some-value ρ 5 6 (λ e. omega arith) (f.type-5 ∙ sym f.type-6)))
     (all-cons (defined-anywhere 4 49 _ tt)
-    -- WFIS of 6
-    (all-cons (λ ρ h. shown ρ (witnessed 4 6) f.witnessed-4-6 (some-value ρ 6 7 (λ e. omega arith) (f.type-6 ∙ sym f.type-7)))
-    (all-cons (defined-anywhere 4 52 _ tt)
-    -- WFIS of 2
-    (all-cons (λ ρ h. shown ρ (witnessed 4 2) f.witnessed-4-2 (some-after ρ 2 4 (λ e. omega arith) (f.type-2 ∙ sym f.type-4)))
-    (all-cons (defined-anywhere 4 55 _ tt)
     -- WFIS of 3
     (all-cons (λ ρ h. shown ρ (witnessed 4 3) f.witnessed-4-3 (some-false ρ 3 f.type-3))
     -- GRD of 18
-    (all-cons (λ ρ h. shown ρ (written 18) f.written-18 (nonzero-from (now ρ 6) (now ρ 7) (from ρ (written 49) f.written-49 (all-head (all-tail (all-tail (all-tail (all-tail (all-tail (all-tail h)))))))) (from ρ (written 38) f.written-38 (all-head (all-tail (all-tail (all-tail (all-tail h))))))))
+    (all-cons (λ ρ h. shown ρ (written 18) f.written-18 (nonzero-from (now ρ 5) (now ρ 6) (from ρ (written 46) f.written-46 (all-head (all-tail (all-tail (all-tail (all-tail (all-tail (all-tail h)))))))) (from ρ (written 35) f.written-35 (all-head (all-tail (all-tail (all-tail (all-tail h))))))))
     -- GRD of 23
-    (all-cons (λ ρ h. shown ρ (written 23) f.written-23 (quotient-from (now ρ 2) (now ρ 4) (now ρ 7) (now ρ 6) (from ρ (written 12) f.written-12 (all-head (all-tail (all-tail (all-tail h))))) (from ρ (written 49) f.written-49 (all-head (all-tail (all-tail (all-tail (all-tail (all-tail (all-tail h)))))))) (from ρ (written 43) f.written-43 (all-head (all-tail (all-tail (all-tail (all-tail (all-tail h)))))))))
+    (all-cons (λ ρ h. shown ρ (written 23) f.written-23 (quotient-from (now ρ 2) (now ρ 5) (now ρ 6) (from ρ (written 46) f.written-46 (all-head (all-tail (all-tail (all-tail (all-tail (all-tail (all-tail h)))))))) (from ρ (written 40) f.written-40 (all-head (all-tail (all-tail (all-tail (all-tail (all-tail h)))))))))
     -- SIM of 2
-    (all-cons (λ ρ h. shown ρ (moves 2 2) f.moves-2-2 (at-most-from (next ρ 2) (next ρ 4) (from ρ (written 52) f.written-52 (all-head (all-tail (all-tail (all-tail (all-tail (all-tail (all-tail (all-tail (all-tail (all-tail h))))))))))) (at-most-from (next ρ 4) (totalDivision quotient (now ρ 4) (now ρ 7)) (from ρ (moves 4 4) f.moves-4-4 (all-head (all-tail (all-tail (all-tail (all-tail (all-tail (all-tail h)))))))) (from ρ (written 43) f.written-43 (all-head (all-tail (all-tail (all-tail (all-tail (all-tail h))))))))))
+    (all-cons (λ ρ h. shown ρ (moves 2 2) f.moves-2-2 (not-negative-from (next ρ 2) (totalDivision quotient (now ρ 2) (now ρ 6)) (from ρ (moves 4 2) f.moves-4-2 (all-head (all-tail (all-tail (all-tail (all-tail (all-tail (all-tail h)))))))) (from ρ (written 40) f.written-40 (all-head (all-tail (all-tail (all-tail (all-tail (all-tail h)))))))))
     -- SIM of 3
-    (all-cons (λ ρ h. shown ρ (moves 2 3) f.moves-2-3 (transitive (next ρ 3) (truth false) (now ρ 3) (from ρ (written 55) f.written-55 (all-head (all-tail (all-tail (all-tail (all-tail (all-tail (all-tail (all-tail (all-tail (all-tail (all-tail h)))))))))))) (symmetric (now ρ 3) (truth false) (from ρ (written 9) f.written-9 (all-head (all-tail (all-tail h)))))))
+    (all-cons (λ ρ h. shown ρ (moves 2 3) f.moves-2-3 (transitive (next ρ 3) (truth false) (now ρ 3) (from ρ (written 49) f.written-49 (all-head (all-tail (all-tail (all-tail (all-tail (all-tail (all-tail (all-tail (all-tail (all-tail h))))))))))) (symmetric (now ρ 3) (truth false) (from ρ (written 9) f.written-9 (all-head (all-tail (all-tail h)))))))
     -- INV of 12
-    (all-cons (λ ρ h. shown ρ (primed 12) f.primed-12 (symmetric (next ρ 2) (next ρ 4) (from ρ (written 52) f.written-52 (all-head (all-tail (all-tail (all-tail (all-tail (all-tail (all-tail (all-tail (all-tail (all-tail h)))))))))))))
-    all-nil))))))))))))))
+    (all-cons (λ ρ h. shown ρ (primed 12) f.primed-12 (at-most-from (next ρ 4) (now ρ 4) (now ρ 1) (from ρ (moves 4 4) f.moves-4-4 (all-head (all-tail (all-tail (all-tail (all-tail (all-tail (all-tail (all-tail h))))))))) (from ρ (written 12) f.written-12 (all-head (all-tail (all-tail (all-tail h)))))))
+    all-nil))))))))))))
 
 -- the convergent event: guard 0 < u, u := u − 1
 valid5 : All (Valid worked) list5
 unfolding Valid evaluate worked words machineOf treeOf treeTo start countBelow operatorNumbered noDivision
 valid5 =
-    (all-cons (defined-anywhere 5 58 _ tt)
-    (all-cons (defined-anywhere 5 61 _ tt)
+    (all-cons (defined-anywhere 5 52 _ tt)
+    (all-cons (defined-anywhere 5 55 _ tt)
+    -- SIM of 2
+    (all-cons (λ ρ h. shown ρ (unchanged 2) f.unchanged-2 (from ρ (moves 5 2) f.moves-5-2 (all-head (all-tail (all-tail (all-tail (all-tail (all-tail h))))))))
     -- INV of 12
-    (all-cons (λ ρ h. shown ρ (primed 12) f.primed-12 (transitive (next ρ 4) (now ρ 4) (next ρ 2) (from ρ (moves 5 4) f.moves-5-4 (all-head (all-tail (all-tail (all-tail (all-tail (all-tail h))))))) (transitive (now ρ 4) (now ρ 2) (next ρ 2) (from ρ (written 12) f.written-12 (all-head (all-tail (all-tail (all-tail h))))) (symmetric (next ρ 2) (now ρ 2) (from ρ (moves 5 2) f.moves-5-2 (all-head (all-tail (all-tail (all-tail (all-tail (all-tail (all-tail (all-tail h)))))))))))))
-    -- NAT of 62
-    (all-cons (λ ρ h. shown ρ (natural 62) f.natural-62 (less-at-most (pos 0) (asNumber (now ρ 5)) (from ρ (written 58) f.written-58 (all-head (all-tail (all-tail (all-tail (all-tail h))))))))
-    -- VAR of 62
-    (all-cons (λ ρ h. shown ρ (decreases 62) f.decreases-62 (less-from (next ρ 5) (now ρ 5) (from ρ (moves 5 5) f.moves-5-5 (all-head (all-tail (all-tail (all-tail (all-tail (all-tail (all-tail h))))))))))
-    all-nil)))))
+    (all-cons (λ ρ h. shown ρ (primed 12) f.primed-12 (at-most-trans (asNumber (next ρ 4)) (asNumber (now ρ 4)) (asNumber (now ρ 1)) (less-at-most (asNumber (next ρ 4)) (asNumber (now ρ 4)) (less-from (next ρ 4) (now ρ 4) (from ρ (moves 5 4) f.moves-5-4 (all-head (all-tail (all-tail (all-tail (all-tail (all-tail (all-tail h)))))))))) (from ρ (written 12) f.written-12 (all-head (all-tail (all-tail (all-tail h)))))))
+    -- NAT of 56
+    (all-cons (λ ρ h. shown ρ (natural 56) f.natural-56 (less-at-most (pos 0) (asNumber (now ρ 4)) (from ρ (written 52) f.written-52 (all-head (all-tail (all-tail (all-tail (all-tail h))))))))
+    -- VAR of 56
+    (all-cons (λ ρ h. shown ρ (decreases 56) f.decreases-56 (less-from (next ρ 4) (now ρ 4) (from ρ (moves 5 4) f.moves-5-4 (all-head (all-tail (all-tail (all-tail (all-tail (all-tail (all-tail h))))))))))
+    all-nil))))))
 
 -- the anticipated event: guard 0 ≤ r, u := u − r
 valid6 : All (Valid worked) list6
 unfolding Valid evaluate worked words machineOf treeOf treeTo start countBelow operatorNumbered noDivision
 valid6 =
-    (all-cons (defined-anywhere 6 65 _ tt)
-    (all-cons (defined-anywhere 6 68 _ tt)
+    (all-cons (defined-anywhere 6 59 _ tt)
+    (all-cons (defined-anywhere 6 62 _ tt)
+    -- SIM of 2
+    (all-cons (λ ρ h. shown ρ (unchanged 2) f.unchanged-2 (from ρ (moves 6 2) f.moves-6-2 (all-head (all-tail (all-tail (all-tail (all-tail (all-tail h))))))))
     -- INV of 12
-    (all-cons (λ ρ h. shown ρ (primed 12) f.primed-12 (transitive (next ρ 4) (now ρ 4) (next ρ 2) (from ρ (moves 6 4) f.moves-6-4 (all-head (all-tail (all-tail (all-tail (all-tail (all-tail h))))))) (transitive (now ρ 4) (now ρ 2) (next ρ 2) (from ρ (written 12) f.written-12 (all-head (all-tail (all-tail (all-tail h))))) (symmetric (next ρ 2) (now ρ 2) (from ρ (moves 6 2) f.moves-6-2 (all-head (all-tail (all-tail (all-tail (all-tail (all-tail (all-tail (all-tail h)))))))))))))
-    -- VAR of 62
-    (all-cons (λ ρ h. shown ρ (notIncreased 62) f.notIncreased-62 (not-more-from (next ρ 5) (now ρ 5) (now ρ 8) (from ρ (moves 6 5) f.moves-6-5 (all-head (all-tail (all-tail (all-tail (all-tail (all-tail (all-tail h)))))))) (from ρ (written 65) f.written-65 (all-head (all-tail (all-tail (all-tail (all-tail h))))))))
-    all-nil))))
+    (all-cons (λ ρ h. shown ρ (primed 12) f.primed-12 (at-most-trans (asNumber (next ρ 4)) (asNumber (now ρ 4)) (asNumber (now ρ 1)) (not-more-from (next ρ 4) (now ρ 4) (now ρ 7) (from ρ (moves 6 4) f.moves-6-4 (all-head (all-tail (all-tail (all-tail (all-tail (all-tail (all-tail h)))))))) (from ρ (written 59) f.written-59 (all-head (all-tail (all-tail (all-tail (all-tail h))))))) (from ρ (written 12) f.written-12 (all-head (all-tail (all-tail (all-tail h)))))))
+    -- VAR of 56
+    (all-cons (λ ρ h. shown ρ (notIncreased 56) f.notIncreased-56 (not-more-from (next ρ 4) (now ρ 4) (now ρ 7) (from ρ (moves 6 4) f.moves-6-4 (all-head (all-tail (all-tail (all-tail (all-tail (all-tail (all-tail h)))))))) (from ρ (written 59) f.written-59 (all-head (all-tail (all-tail (all-tail (all-tail h))))))))
+    all-nil)))))
 
 pub valid : All (Valid worked) (sequents worked)
 valid =
