@@ -16,7 +16,7 @@ use Rattle.table.specs.Rows.{section, count, start}
 use Rattle.formula.specs.Values.{AnyValue, number}
 use Rattle.formula.specs.Evaluate.{readTree}
 use Rattle.machine.specs.Operator.{operatorNumbered}
-use Rattle.machine.specs.Described.{typeNumbered, kindNumbered, roleNumbered, treeTo, treeOf, actionOf, belonging, identifiersOf, machineOf}
+use Rattle.machine.specs.Described.{typeNumbered, kindNumbered, roleNumbered, treeTo, treeOf, actionOf, belonging, variablesOf, machineOf}
 use Rattle.rules.specs.Decoded.{lineOf, wordsOf}
 use Rattle.reply.specs.Printed.{rowsBytes}
 use Rattle.run.specs.Run.{blank, Follows}
@@ -24,16 +24,16 @@ use Rattle.run.specs.SafeRun.{withinBound, Unbroken, convergentSteps, Bounded, 
 use Rattle.marked.specs.Cases.{falling, withU, stepTo, readIn}
 
 one-step : Follows falling (blank falling) (withU (pos 0)) (stepTo (negsuc 0) ∷ [])
-unfolding falling flatMap columnsOf numberOf scanFrom rowBytes rowsBytes lineOf wordsOf machineOf treeOf treeTo start count countBelow operatorNumbered typeNumbered kindNumbered roleNumbered actionOf first belonging section identifiersOf numbers keep readTree
+unfolding falling flatMap columnsOf numberOf scanFrom rowBytes rowsBytes lineOf wordsOf machineOf treeOf treeTo start count countBelow operatorNumbered typeNumbered kindNumbered roleNumbered actionOf first belonging section variablesOf numbers keep readTree
 one-step = (there (there (here refl)), tt, record { enabled = all-cons refl all-nil; allowed = all-cons refl all-nil }, tt)
 
 -- the variant is node 8, which is read as 0
 variants-are : falling .variants ≡ 8 ∷ []
-unfolding falling flatMap columnsOf numberOf scanFrom rowBytes rowsBytes lineOf wordsOf machineOf treeOf treeTo start count countBelow operatorNumbered typeNumbered kindNumbered roleNumbered actionOf first belonging section identifiersOf numbers keep
+unfolding falling flatMap columnsOf numberOf scanFrom rowBytes rowsBytes lineOf wordsOf machineOf treeOf treeTo start count countBelow operatorNumbered typeNumbered kindNumbered roleNumbered actionOf first belonging section variablesOf numbers keep
 variants-are = refl
 
 variant-is : readTree (readIn (pos 0)) (falling .tree 8) ≡ some (number (pos 0))
-unfolding falling flatMap columnsOf numberOf scanFrom rowBytes rowsBytes lineOf wordsOf machineOf treeOf treeTo start count countBelow operatorNumbered typeNumbered kindNumbered roleNumbered actionOf first belonging section identifiersOf numbers keep readTree
+unfolding falling flatMap columnsOf numberOf scanFrom rowBytes rowsBytes lineOf wordsOf machineOf treeOf treeTo start count countBelow operatorNumbered typeNumbered kindNumbered roleNumbered actionOf first belonging section variablesOf numbers keep readTree
 variant-is = refl
 
 -- both steps are convergent

@@ -11,7 +11,7 @@ use Rattle.table.specs.Rows.{section, count, start}
 use Rattle.formula.specs.Evaluate.{readTree}
 use Rattle.formula.specs.Mentions.{mentions}
 use Rattle.machine.specs.Operator.{operatorNumbered, operandSort, resultSort}
-use Rattle.machine.specs.Described.{typeNumbered, kindNumbered, roleNumbered, treeTo, treeOf, actionOf, belonging, identifiersOf, machineOf}
+use Rattle.machine.specs.Described.{typeNumbered, kindNumbered, roleNumbered, treeTo, treeOf, actionOf, belonging, variablesOf, machineOf}
 use Rattle.sequent.specs.Listed.{inOrder, eventSequents, sequents}
 use Rattle.rules.specs.Decoded.{lineOf, wordsOf}
 use Rattle.rules.specs.Tags.{columnsUsed, rowLimit}
@@ -25,5 +25,5 @@ use Rattle.reply.specs.Replies.{writeRows, writeSequent, output}
 use Rattle.marked.specs.Cases.{falling, cases, allAgree}
 
 marked : allAgree cases ≡ true
-unfolding cases falling flatMap over countBelow first numbers keep columnsOf numberOf scanFrom rowBytes section count start readTree mentions operatorNumbered typeNumbered kindNumbered roleNumbered treeTo treeOf actionOf belonging identifiersOf machineOf inOrder eventSequents sequents lineOf wordsOf columnsUsed rowLimit shapeOf operandSort resultSort sortOf mayMention mayMentionAfter seesOnly tagOffends fullOffends eventOffends identifierOffends rootAt referenceOffends rootSort sortOffends usesTo useOffends sightOffends twiceOffends offends missing firstCheck judge verdict sequentRows rowsBytes writeRows writeSequent output
+unfolding cases falling flatMap over countBelow first numbers keep columnsOf numberOf scanFrom rowBytes section count start readTree mentions operatorNumbered typeNumbered kindNumbered roleNumbered treeTo treeOf actionOf belonging variablesOf machineOf inOrder eventSequents sequents lineOf wordsOf columnsUsed rowLimit shapeOf operandSort resultSort sortOf mayMention mayMentionAfter seesOnly tagOffends fullOffends eventOffends identifierOffends rootAt referenceOffends rootSort sortOffends usesTo useOffends sightOffends twiceOffends offends missing firstCheck judge verdict sequentRows rowsBytes writeRows writeSequent output
 marked = refl
