@@ -16,10 +16,10 @@ use Rattle.sequent.specs.declared.Entry.{Entry as Numbers}
 use Rattle.sequent.specs.Entry.{Entry, written, variable, formula}
 use Rattle.sequent.specs.Forms.{forms, entryOf}
 use Rattle.reply.specs.Spelled.{spelled, spellTree, spell}
-use Rattle.spell.specs.Spell.{shownRows, definedRows, movesRows, witnessNode, entryRows}
+use Rattle.spell.specs.Spell.{unchangedRows, shownRows, definedRows, movesRows, witnessNode, entryRows}
 
--- a number that is no form from 2 to 9 counts as form 1
-other-form : (n : ℕ) → (2 ≤ n → 9 < n) → (λ a b. written a) ≡ getD forms n (λ a b. written a)
+-- a number that is no form from 2 to 10 counts as form 1
+other-form : (n : ℕ) → (2 ≤ n → 10 < n) → (λ a b. written a) ≡ getD forms n (λ a b. written a)
 other-form zero h = refl
 other-form (suc zero) h = refl
 other-form (suc (suc n)) h = sym (List·getD-eq-default forms (λ a b. written a) {n = suc (suc n)} (omega (arith, h (omega arith))))
@@ -37,7 +37,7 @@ module _ (t : Rows) (h : Numbers) where
   form-numbered : (k : ℕ) → h .form ≡ k → spell (formula (machineOf t) (getD forms k (λ a b. written a) (h .first) (h .second))) ≡ entryRows t h
   form-numbered k e = form-as (getD forms k (λ a b. written a)) (ap (λ k. getD forms k (λ a b. written a)) (sym e))
 
-  pub written-rows : (2 ≤ h .form → 9 < h .form) → shownRows t false (h .first) ≡ entryRows t h
+  pub written-rows : (2 ≤ h .form → 10 < h .form) → shownRows t false (h .first) ≡ entryRows t h
   unfolding shownRows spell machineOf
   written-rows f = form-as (λ a b. written a) (other-form (h .form) f)
 
@@ -77,3 +77,7 @@ module _ (t : Rows) (h : Numbers) where
   pub not-increased-rows : h .form ≡ 9 → (spelled 22 0 ∷ shownRows t true (h .first)) ++ shownRows t false (h .first) ≡ entryRows t h
   unfolding shownRows spell spellTree machineOf
   not-increased-rows e = form-numbered 9 e
+
+  pub unchanged-rows : h .form ≡ 10 → unchangedRows (h .first) ≡ entryRows t h
+  unfolding spell spellTree
+  unchanged-rows e = form-numbered 10 e

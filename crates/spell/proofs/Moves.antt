@@ -2,7 +2,7 @@
 use Prim.Native.Nat.{ℕ, _≤_, _<_}
 use mathlib.Core.Path.{_≡_, refl, sym, ap, ap₂, _∙_}
 use mathlib.Core.Bool.{Bool, true, false}
-use mathlib.Core.List.{[], _∷_, _++_}
+use mathlib.Core.List.{_∷_}
 use lib.Dec.{ltb}
 use borrow.Author.Tests.{lt-ltb, le-ltb, eq-eqb, ne-eqb}
 use Rattle.lists.specs.Choice.{pick}
@@ -12,7 +12,7 @@ use Rattle.machine.specs.Machine.{Action, unassigned, becomesEqual, becomesSuch
 use Rattle.machine.specs.Described.{sets, actionOf, machineOf}
 use Rattle.sequent.specs.Entry.{actionTree}
 use Rattle.reply.specs.Spelled.{spelled, spellTree}
-use Rattle.spell.specs.Spell.{shownRows, movesRows}
+use Rattle.spell.specs.Spell.{shownRows, unchangedRows, movesRows}
 
 module _ (t : Rows) (e x i : ℕ) (found : i ≡ first (sets t e x) (t .size) 0) where
   -- the action by two tests of the row: that it is one, and its tag
@@ -27,7 +27,7 @@ module _ (t : Rows) (e x i : ℕ) (found : i ≡ first (sets t e x) (t .size) 0)
   unfolding movesRows machineOf
   moves-by b c f g = ap (λ a. spellTree (actionTree (machineOf t) a x)) (action-by b c f g)
 
-  pub moves-unassigned : t .size ≤ i → (spelled 20 0 ∷ spelled 3 x ∷ []) ++ (spelled 2 x ∷ []) ≡ movesRows t e x
+  pub moves-unassigned : t .size ≤ i → unchangedRows x ≡ movesRows t e x
   unfolding spellTree
   moves-unassigned h = moves-by false (tagged t 51 i) (le-ltb i (t .size) h) refl
 

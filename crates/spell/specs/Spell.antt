@@ -83,6 +83,10 @@ guardRows operator left = pick (eqb operator andNumber || eqb operator impliesNu
 unfoldable pub closingRows : ℕ → List Row → List Row
 closingRows operator right = pick (divides operator) (spelled notNumber 0 ∷ ((spelled equalsNumber 0 ∷ right) ++ (spelled literalNumber 0 ∷ []))) []
 
+-- "after equals before", the after side first: form 4 "if unassigned", and form 10
+abbrev pub unchangedRows : ℕ → List Row
+unchangedRows x = spelled equalsNumber 0 ∷ spelled afterNumber x ∷ spelled identifierNumber x ∷ []
+
 module _ (t : Rows) where
   -- what node n is spelled by: the operator and b of its row, how many operands follow it, and their nodes; primed is form 2
   unfoldable pub nodeOf : Bool → ℕ → Node

@@ -28,7 +28,7 @@ ghost use Rattle.table.specs.Counts.{countsOf};
 ghost use Rattle.rule_references.specs.Operator.{meantShape};
 ghost use Rattle.reply.specs.Spelled.{spelled, someValueNumber, someAfterValueNumber};
 ghost use Rattle.spell.specs.Operators.{literalNumber, identifierNumber, afterNumber, equalsNumber};
-ghost use Rattle.spell.specs.Spell.{capped, restStart, Spelled, leaf, nodeBy, operandRows, nodeOf, shownRows, definedRows, openingRows, guardRows, closingRows, movesRows, witnessNode, entryRows};
+ghost use Rattle.spell.specs.Spell.{capped, restStart, Spelled, leaf, nodeBy, operandRows, nodeOf, shownRows, definedRows, openingRows, guardRows, closingRows, unchangedRows, movesRows, witnessNode, entryRows};
 
 // More rows than any buffer has room for.
 const ROWS_CAP: u64 = 1152921504606846976;
@@ -313,6 +313,13 @@ fn spell_equation(x: u64, left: u64, right: u64, out: &mut [u8]) -> u64
     add_rows(to_left, second)
 }
 
+// "after equals before": form 10, and form 4 of a variable that is unassigned.
+fn spell_unchanged(x: u64, out: &mut [u8]) -> u64
+    ensures { λ r. ⌜ Spelled (unchangedRows x) r (now (out .entry)) (now (out .exit)) ⌝ }
+{
+    spell_equation(x, operator::AFTER, operator::IDENTIFIER, out)
+}
+
 // A comparison: its row, the row of its left side, and the tree of its right side's root.
 fn spell_comparison(
     words: &[u64],
@@ -343,7 +350,7 @@ fn spell_moves(words: &[u64], table: Table, e: u64, x: u64, out: &mut [u8]) -> u
     };
     let i = find_row(words, query);
     if size(words) <= i {
-        return spell_equation(x, operator::AFTER, operator::IDENTIFIER, out);
+        return spell_unchanged(x, out);
     }
     let root = c_at(words, i);
     if tag_at(words, i) == tag::BECOMES_EQUAL {
@@ -431,6 +438,7 @@ pub fn spell(words: &[u64], table: Table, entry: Entry, out: &mut [u8]) -> u64
         ),
         form::DECREASES => spell_variants(words, table, operator::LESS, first, out),
         form::NOT_INCREASED => spell_variants(words, table, operator::AT_MOST, first, out),
+        form::UNCHANGED => spell_unchanged(first, out),
         _ => spell_expression(words, table, first, false, out),
     }
 }

@@ -18,7 +18,7 @@ spell-moves-spec = tie.close (tie.spec
     let f = h .before .before .before in
     let i = f .before .find-row in
     let a = f .before .before .before .before .args in
-    spelled-as (moves-unassigned (rowsOf (a .words .now)) (a .e) (a .x) (i .result) (i .ensures) (omega (arith, f .size .ensures, h .before .before .if1 .taken))) (h .spell-equation .ensures))
+    spelled-as (moves-unassigned (rowsOf (a .words .now)) (a .e) (a .x) (i .result) (i .ensures) (omega (arith, f .size .ensures, h .before .before .if1 .taken))) (h .spell-unchanged .ensures))
     (λ c κs. search needs)
     (λ c κs. search needs)
     (λ c κs. search needs)
