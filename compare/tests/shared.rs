@@ -2,7 +2,7 @@
 
 mod common;
 
-use common::{refusal, rows, table, RICH};
+use common::{changed, refusal, rows, table, RICH};
 use compare::checks::accept;
 use compare::refute::counterexample;
 use compare::rows::{bytes_of, Row};
@@ -132,14 +132,6 @@ fn wanted() -> Vec<Row> {
 fn mixed_table_prints() {
     assert_eq!(print(&table(MIXED)), bytes_of(&wanted()));
     assert_eq!(check(&table(MIXED)), Ok(50));
-}
-
-/// This text of a table with one row changed.
-fn changed(text: &str, row: usize, numbers: [i32; 4]) -> Vec<u8> {
-    let mut rows = rows(text);
-    let [tag, a, b, c] = numbers;
-    rows[row - 1] = Row::new(tag, a, b, c);
-    bytes_of(&rows)
 }
 
 /// One variable, set by both initialisations: SIM is all that the second one adds.

@@ -15,6 +15,14 @@ pub fn rows(text: &str) -> Vec<Row> {
     layout(text).expect("four numbers a row")
 }
 
+/// This text of a table with one row changed.
+pub fn changed(text: &str, row: usize, numbers: [i32; 4]) -> Vec<u8> {
+    let mut rows = rows(text);
+    let [tag, a, b, c] = numbers;
+    rows[row - 1] = Row::new(tag, a, b, c);
+    bytes_of(&rows)
+}
+
 pub fn refusal(number: i32, row: usize) -> Refusal {
     Refusal { number, row }
 }
