@@ -32,7 +32,7 @@ use Rattle.rules.proofs.References.{rootTag, targetTest, root-row}
 use Rattle.rules.proofs.Sorts.{sort-type, root-sort}
 use Rattle.rules.proofs.Twice.{witness-once}
 use Rattle.rules.proofs.Missing.{convergent-variant}
-use Rattle.run.proofs.WellFormed.{constants, abstractState, concreteState, bothStates, WellFormed}
+use Rattle.run.proofs.WellFormed.{onlyConstants, abstractStateKinds, concreteStateKinds, bothStateKinds, WellFormed}
 use Rattle.run.proofs.AcceptedSight.{roleIn, kind-seen, variable-seen, formulas-see, guards-see, variable-kind, action-sees, witness-target, witness-hidden, witness-sees}
 
 -- the root of a witness whose target no other witness has
@@ -149,18 +149,18 @@ module _ (t : Rows) (ok : Obeys t) where
 pub accepted-well-formed : (t : Rows) → Obeys t → WellFormed (machineOf t)
 unfolding machineOf kindNumbered
 accepted-well-formed t ok = record {
-  axiomsSee = formulas-see t ok 30 constants tt (λ i. refl) (λ i x s. kind-seen t constants 1 x tt s) (λ i x s. s);
+  axiomsSee = formulas-see t ok 30 onlyConstants tt (λ i. refl) (λ i x s. kind-seen t onlyConstants 1 x tt s) (λ i x s. s);
   abstractInvariantsSee =
-      formulas-see t ok 31 abstractState tt (λ i. refl)
-      (λ i x s. or-cases (hasKind t 1 x) (variableOf t 2 x) s (kind-seen t abstractState 1 x tt) (variable-seen t abstractState 2 x tt tt)) (λ i x s. s);
+      formulas-see t ok 31 abstractStateKinds tt (λ i. refl)
+      (λ i x s. or-cases (hasKind t 1 x) (variableOf t 2 x) s (kind-seen t abstractStateKinds 1 x tt) (variable-seen t abstractStateKinds 2 x tt tt)) (λ i x s. s);
   concreteInvariantsSee =
-      formulas-see t ok 32 bothStates tt (λ i. refl)
-      (λ i x s. or-cases (hasKind t 1 x) (hasKind t 2 x || variableOf t 3 x) s (kind-seen t bothStates 1 x tt)
-      (λ s. or-cases (hasKind t 2 x) (variableOf t 3 x) s (kind-seen t bothStates 2 x tt) (variable-seen t bothStates 3 x tt tt)))
+      formulas-see t ok 32 bothStateKinds tt (λ i. refl)
+      (λ i x s. or-cases (hasKind t 1 x) (hasKind t 2 x || variableOf t 3 x) s (kind-seen t bothStateKinds 1 x tt)
+      (λ s. or-cases (hasKind t 2 x) (variableOf t 3 x) s (kind-seen t bothStateKinds 2 x tt) (variable-seen t bothStateKinds 3 x tt tt)))
       (λ i x s. s);
   variantsSee =
-      formulas-see t ok 70 concreteState tt (λ i. refl)
-      (λ i x s. or-cases (hasKind t 1 x) (variableOf t 3 x) s (kind-seen t concreteState 1 x tt) (variable-seen t concreteState 3 x tt tt)) (λ i x s. s);
+      formulas-see t ok 70 concreteStateKinds tt (λ i. refl)
+      (λ i x s. or-cases (hasKind t 1 x) (variableOf t 3 x) s (kind-seen t concreteStateKinds 1 x tt) (variable-seen t concreteStateKinds 3 x tt tt)) (λ i x s. s);
   variantsInteger = all-map (t .a) (all-in (section t 70) (λ i j. let q = section-row t 70 i j in variant-type t ok i (q .0) (q .1)));
   guardsSee = λ e i. guards-see t ok e (event-named t e i);
   actionsSee = λ e i. all-in (ownVariables (machineOf t) (roleIn t e)) (λ x j.

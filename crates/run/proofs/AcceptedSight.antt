@@ -38,7 +38,7 @@ use Rattle.rules.proofs.References.{rootTag, rootOf, root-row, witness-row}
 use Rattle.rules.proofs.Sorts.{sort-type, root-sort}
 use Rattle.rules.proofs.Sight.{seen, seenAfter, root-seen}
 use Rattle.rules.proofs.Missing.{initial-action}
-use Rattle.run.proofs.WellFormed.{constants, abstractMachine, concreteMachine, concreteVariables, hiddenKinds, ownKinds, never, among, ActionSees}
+use Rattle.run.proofs.WellFormed.{onlyConstants, abstractEventKinds, concreteEventKinds, concreteVariableKinds, hiddenKinds, ownKinds, never, among, ActionSees}
 
 -- the kinds of a machine's variables and of its parameters
 abbrev OwnKind : ℕ → ℕ → Type 0
@@ -60,11 +60,11 @@ own-seen : (ro : Role) (machine class refined k : ℕ) → RoleSays machine clas
     → T (ownKinds ro (kindNumbered k))
 unfolding kindNumbered
 own-seen abstractInitialisation machine class refined k s n d = absurd (subst (λ c. T (not (eqb c 0))) (s .1) n)
-own-seen abstractOrdinary machine class refined k s n d = machine-in abstractMachine 1 machine k (s .0) tt tt tt d
+own-seen abstractOrdinary machine class refined k s n d = machine-in abstractEventKinds 1 machine k (s .0) tt tt tt d
 own-seen (concreteInitialisation f) machine class refined k s n d = absurd (subst (λ c. T (not (eqb c 0))) (s .1) n)
-own-seen (refining f) machine class refined k s n d = machine-in concreteMachine 2 machine k (s .0) tt tt tt d
-own-seen convergent machine class refined k s n d = machine-in concreteMachine 2 machine k (s .0) tt tt tt d
-own-seen anticipated machine class refined k s n d = machine-in concreteMachine 2 machine k (s .0) tt tt tt d
+own-seen (refining f) machine class refined k s n d = machine-in concreteEventKinds 2 machine k (s .0) tt tt tt d
+own-seen convergent machine class refined k s n d = machine-in concreteEventKinds 2 machine k (s .0) tt tt tt d
+own-seen anticipated machine class refined k s n d = machine-in concreteEventKinds 2 machine k (s .0) tt tt tt d
 
 constant-seen : (ro : Role) → T (ownKinds ro constantKind)
 constant-seen abstractInitialisation = tt
@@ -194,10 +194,10 @@ module _ (t : Rows) where
 
     -- "parameter witness, constants, concrete variables, the concrete event's parameters and its own identifier; variable witness, the same with concrete
     -- after values, and its own after value in place of the identifier"
-    concrete-seen : (e x : ℕ) → T (named t 40 e) → T (named t 10 x) → machineNumber t e ≡ 2 → T (eventSees t e x) → T (concreteMachine (kindIn x))
+    concrete-seen : (e x : ℕ) → T (named t 40 e) → T (named t 10 x) → machineNumber t e ≡ 2 → T (eventSees t e x) → T (concreteEventKinds (kindIn x))
     concrete-seen e x n m q s = go (roleIn e) (event-says t ok e (roleIn e) n refl) (event-sees e x n m s)
       where
-        only : (K : Kind) → T (constants K) → T (concreteMachine K)
+        only : (K : Kind) → T (onlyConstants K) → T (concreteEventKinds K)
         only constantKind h = tt
         only abstractVariable h = absurd h
         only concreteVariable h = tt
@@ -206,7 +206,7 @@ module _ (t : Rows) where
         only sharedVariable h = tt
 
         go : (ro : Role) → RoleSays (machineNumber t e) (classOf t e) (refinedBy t e) ro → T (ownKinds ro (kindIn x))
-            → T (concreteMachine (kindIn x))
+            → T (concreteEventKinds (kindIn x))
         go abstractInitialisation s h = only (kindIn x) h
         go abstractOrdinary s h = absurd (omega (arith, s .0))
         go (concreteInitialisation f) s h = only (kindIn x) h
@@ -228,8 +228,8 @@ module _ (t : Rows) where
         (kind-seen hiddenKinds 2 (t .b i) tt) (kind-seen hiddenKinds 4 (t .b i) tt)
 
     pub witness-sees : (e i : ℕ) → In i (belonging t 60 e)
-        → T (mentions (λ y. concreteMachine (kindNumbered (kindOf t y)) || eqb y (t .b i))
-        (λ y. concreteVariables (kindNumbered (kindOf t y)) || eqb y (t .b i)) (treeOf t (t .c i)))
+        → T (mentions (λ y. concreteEventKinds (kindNumbered (kindOf t y)) || eqb y (t .b i))
+        (λ y. concreteVariableKinds (kindNumbered (kindOf t y)) || eqb y (t .b i)) (treeOf t (t .c i)))
     unfolding kindNumbered
     witness-sees e i j = row-sees 60 i _ _ (q .0) (q .1) tt present after
       where
@@ -239,15 +239,15 @@ module _ (t : Rows) where
         w : T (named t 40 e) × (machineNumber t e ≡ 2) × T (hasKind t 2 (t .b i) || hasKind t 4 (t .b i))
         w = witness-target e i j
 
-        present : (y : ℕ) → T (named t 10 y) → T (seen t 60 i y) → T (concreteMachine (kindIn y) || eqb y (t .b i))
+        present : (y : ℕ) → T (named t 10 y) → T (seen t 60 i y) → T (concreteEventKinds (kindIn y) || eqb y (t .b i))
         present y m s =
             or-cases (eventSees t (t .a i) y) (hasKind t 4 y && eqb y (t .b i)) s
-            (λ p. or-left (concreteMachine (kindIn y)) (eqb y (t .b i))
+            (λ p. or-left (concreteEventKinds (kindIn y)) (eqb y (t .b i))
             (concrete-seen e y (w .0) m (w .1) (subst (λ e. T (eventSees t e y)) (q .2) p)))
-            (λ p. or-right (concreteMachine (kindIn y)) (eqb y (t .b i)) (and-split (hasKind t 4 y) (eqb y (t .b i)) p .1))
+            (λ p. or-right (concreteEventKinds (kindIn y)) (eqb y (t .b i)) (and-split (hasKind t 4 y) (eqb y (t .b i)) p .1))
 
-        after : (y : ℕ) → T (seenAfter t 60 i y) → T (concreteVariables (kindIn y) || eqb y (t .b i))
+        after : (y : ℕ) → T (seenAfter t 60 i y) → T (concreteVariableKinds (kindIn y) || eqb y (t .b i))
         after y s =
             or-cases (variableOf t 3 y) (eqb y (t .b i)) (and-split (hasKind t 2 (t .b i)) (variableOf t 3 y || eqb y (t .b i)) s .1)
-            (λ p. or-left (concreteVariables (kindIn y)) (eqb y (t .b i)) (variable-seen concreteVariables 3 y tt tt p))
-            (or-right (concreteVariables (kindIn y)) (eqb y (t .b i)))
+            (λ p. or-left (concreteVariableKinds (kindIn y)) (eqb y (t .b i)) (variable-seen concreteVariableKinds 3 y tt tt p))
+            (or-right (concreteVariableKinds (kindIn y)) (eqb y (t .b i)))

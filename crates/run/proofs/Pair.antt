@@ -11,7 +11,7 @@ use Rattle.sequent.specs.Sequent.{Meets, Valid}
 use Rattle.sequent.specs.Listed.{allWritten, base, formulas, sequents}
 use Rattle.run.specs.Run.{State, blank, world, AgreeOnShared}
 use Rattle.run.specs.SafeRun.{notInitial, PairSafe}
-use Rattle.run.proofs.WellFormed.{constants, abstractState, concreteState, bothStates, WellFormed}
+use Rattle.run.proofs.WellFormed.{onlyConstants, abstractStateKinds, concreteStateKinds, bothStateKinds, WellFormed}
 use Rattle.run.proofs.Reading.{AllTrue, well-defined-defined, in-order-read}
 use Rattle.run.proofs.Agreement.{all-true-agree, defined-agree}
 use Rattle.run.proofs.Views.{same-shared, world-agree}
@@ -38,7 +38,7 @@ module _ (m : Machine) (wf : WellFormed m) where
   pub axioms-world : (c : State m) → AxiomsTrue m c → (a k q p a′ k′ : State m) → AllTrue m (world m c a k q p a′ k′) (m .axioms)
   axioms-world c h a k q p a′ k′ =
       all-true-agree m _ _
-      (world-agree m constants c _ _ _ _ _ _ a k q p a′ k′ (λ t. absurd t) (λ t. absurd t) (λ t. absurd t) (λ t. absurd t) (λ t. absurd t))
+      (world-agree m onlyConstants c _ _ _ _ _ _ a k q p a′ k′ (λ t. absurd t) (λ t. absurd t) (λ t. absurd t) (λ t. absurd t) (λ t. absurd t))
       (wf .axiomsSee) h
 
   -- abstract invariants mention nothing of the concrete state but the shared variables
@@ -46,13 +46,13 @@ module _ (m : Machine) (wf : WellFormed m) where
       → AllTrue m (world m c a k₂ q p a′ k′) (m .abstractInvariants)
   abstract-world c a k h k₂ q p a′ k′ z =
       all-true-agree m _ _
-      (world-agree m abstractState c a k _ _ _ _ a k₂ q p a′ k′ (λ t. refl) (λ t. absurd t) (λ t. absurd t) (λ t. absurd t) (λ t. z))
+      (world-agree m abstractStateKinds c a k _ _ _ _ a k₂ q p a′ k′ (λ t. refl) (λ t. absurd t) (λ t. absurd t) (λ t. absurd t) (λ t. z))
       (wf .abstractInvariantsSee) (h .abstractInvariants)
 
   concrete-world : (c a k : State m) → PairTrue m c a k → (q p a′ k′ : State m) → AllTrue m (world m c a k q p a′ k′) (m .concreteInvariants)
   concrete-world c a k h q p a′ k′ =
       all-true-agree m _ _
-      (world-agree m bothStates c a k _ _ _ _ a k q p a′ k′ (λ t. refl) (λ t. refl) (λ t. absurd t) (λ t. absurd t) (λ t. same-shared m k))
+      (world-agree m bothStateKinds c a k _ _ _ _ a k q p a′ k′ (λ t. refl) (λ t. refl) (λ t. absurd t) (λ t. absurd t) (λ t. same-shared m k))
       (wf .concreteInvariantsSee) (h .concreteInvariants)
 
   -- the base hypotheses of every event that is no initialisation are true
@@ -81,11 +81,11 @@ module _ (m : Machine) (wf : WellFormed m) where
   module _ (c a k q p a′ k′ : State m) where
     pub abstract-after : All (λ r. Meets m (world m c a k q p a′ k′) (primed r)) (m .abstractInvariants) → AllTrue m (pairOf m c a′ k′) (m .abstractInvariants)
     abstract-after ts =
-        after-true m abstractState (λ t. t) (λ t. t) c a k q p a′ k′ a′ (λ t. refl) (wf .abstractInvariantsSee) ts
+        after-true m abstractStateKinds (λ t. t) (λ t. t) c a k q p a′ k′ a′ (λ t. refl) (wf .abstractInvariantsSee) ts
 
     pub concrete-after : All (λ r. Meets m (world m c a k q p a′ k′) (primed r)) (m .concreteInvariants) → AllTrue m (pairOf m c a′ k′) (m .concreteInvariants)
     concrete-after ts =
-        after-true m bothStates (λ t. t) (λ t. t) c a k q p a′ k′ a′ (λ t. refl) (wf .concreteInvariantsSee) ts
+        after-true m bothStateKinds (λ t. t) (λ t. t) c a k q p a′ k′ a′ (λ t. refl) (wf .concreteInvariantsSee) ts
 
   module _ (vs : All (Valid m) (sequents m)) where
     pub pair-safe : (c a k : State m) → PairTrue m c a k → PairSafe m c a k
@@ -98,7 +98,7 @@ module _ (m : Machine) (wf : WellFormed m) where
           invariants = all-right (m .axioms) (in-order-read m ρ 0 [] (formulas m) (formulas-valid m vs) all-nil ts);
           variant = all-in (m .variants) (λ r i.
               defined-agree m ρ (pairOf m c (blank m) k)
-              (world-agree m concreteState c a k _ _ _ _ (blank m) k _ _ _ _ (λ t. absurd t) (λ t. refl) (λ t. absurd t) (λ t. absurd t)
+              (world-agree m concreteStateKinds c a k _ _ _ _ (blank m) k _ _ _ _ (λ t. absurd t) (λ t. refl) (λ t. absurd t) (λ t. absurd t)
               (λ t. same-shared m k))
               r (all-at (wf .variantsSee) i) (well-defined-defined m ρ r (all-at (variants-valid m vs) i ρ (all-map written ts))));
           events = λ e i l p.

@@ -19,7 +19,7 @@ use Rattle.sequent.specs.Entry.{natural, decreases, notIncreased, variable}
 use Rattle.sequent.specs.Sequent.{Meets}
 use Rattle.run.specs.Run.{State, blank, world, Defined}
 use Rattle.run.specs.SafeRun.{withinBound, Bounded}
-use Rattle.run.proofs.WellFormed.{concreteState, WellFormed}
+use Rattle.run.proofs.WellFormed.{concreteStateKinds, WellFormed}
 use Rattle.run.proofs.Reading.{defined-reads, evaluate-typed}
 use Rattle.run.proofs.Views.{same-shared, world-agree}
 use Rattle.run.proofs.AfterState.{after-evaluate}
@@ -44,7 +44,7 @@ module _ (m : Machine) (wf : WellFormed m) where
     before : (r : ℕ) → In r (m .variants) → evaluate W (m .tree r) ≡ evaluate (pairOf m c (blank m) k) (m .tree r)
     before r i =
         evaluate-agree _ _
-        (world-agree m concreteState c a k q p a′ k′ (blank m) k _ _ _ _ (λ t. absurd t) (λ t. refl) (λ t. absurd t) (λ t. absurd t) (λ t. same-shared m k))
+        (world-agree m concreteStateKinds c a k q p a′ k′ (blank m) k _ _ _ _ (λ t. absurd t) (λ t. refl) (λ t. absurd t) (λ t. absurd t) (λ t. same-shared m k))
         (m .tree r) (all-at (wf .variantsSee) i)
 
     -- what VAR compares are the variant's values at k′ and at k
@@ -53,7 +53,7 @@ module _ (m : Machine) (wf : WellFormed m) where
     compared P r i h =
         subst (λ v. P (variantAt c k′ r) (asNumber v)) (before r i)
         (subst (λ v. P (asNumber v) (asNumber (evaluate W (m .tree r))))
-        (after-evaluate m concreteState (λ t. t) (λ t. t) c a k q p a′ k′ (blank m) (λ t. absurd t) r
+        (after-evaluate m concreteStateKinds (λ t. t) (λ t. t) c a k q p a′ k′ (blank m) (λ t. absurd t) r
         (all-at (wf .variantsSee) i)) h)
 
     -- a bound at k′ gives one at k

@@ -17,7 +17,7 @@ use Rattle.sequent.specs.Required.{isConcrete}
 use Rattle.sequent.proofs.Places.{isIn-in}
 use Rattle.run.specs.Run.{byKind, State, blank, world, view, AgreeOnShared}
 use Rattle.run.specs.SafeRun.{ownState, notInitial}
-use Rattle.run.proofs.WellFormed.{ownKinds, never, variableKind, among, Variable, constants, abstractMachine, concreteMachine}
+use Rattle.run.proofs.WellFormed.{ownKinds, never, variableKind, among, Variable, onlyConstants, abstractEventKinds, concreteEventKinds}
 
 -- choices that agree at each kind of a set agree at every kind in it
 pub by-kind-agree : {A : Type 0} (S : Kind → Bool) (K : Kind) {c a k q p z c₂ a₂ k₂ q₂ p₂ z₂ : A} →
@@ -94,20 +94,20 @@ module _ (m : Machine) (ro : Role) (c a k q p a′ k′ r : State m) (h : T (not
   pub guard-agree : (n : State m) → Agree (among m (ownKinds ro)) never W (view m ro c (ownState m ro a k) r n)
   guard-agree n = go ro h z
     where
-      initial : (a₂ k₂ q₂ p₂ a₂′ k₂′ : State m) → Agree (among m constants) never W (world m c a₂ k₂ q₂ p₂ a₂′ k₂′)
+      initial : (a₂ k₂ q₂ p₂ a₂′ k₂′ : State m) → Agree (among m onlyConstants) never W (world m c a₂ k₂ q₂ p₂ a₂′ k₂′)
       initial a₂ k₂ q₂ p₂ a₂′ k₂′ =
-          world-agree m constants c a k q p a′ k′ a₂ k₂ q₂ p₂ a₂′ k₂′ (λ t. absurd t) (λ t. absurd t) (λ t. absurd t) (λ t. absurd t) (λ t. absurd t)
+          world-agree m onlyConstants c a k q p a′ k′ a₂ k₂ q₂ p₂ a₂′ k₂′ (λ t. absurd t) (λ t. absurd t) (λ t. absurd t) (λ t. absurd t) (λ t. absurd t)
 
-      concrete : p ≡ r → Agree (among m concreteMachine) never W (world m c (blank m) k (blank m) r (blank m) n)
+      concrete : p ≡ r → Agree (among m concreteEventKinds) never W (world m c (blank m) k (blank m) r (blank m) n)
       concrete e =
-          world-agree m concreteMachine c a k q p a′ k′ (blank m) k (blank m) r (blank m) n (λ t. absurd t) (λ t. refl) (λ t. absurd t) (λ t. e)
+          world-agree m concreteEventKinds c a k q p a′ k′ (blank m) k (blank m) r (blank m) n (λ t. absurd t) (λ t. refl) (λ t. absurd t) (λ t. e)
           (λ t. same-shared m k)
 
       go : (ro : Role) → (T (notInitial m ro) → ownState m ro q p ≡ r) → Shares m ro a k
           → Agree (among m (ownKinds ro)) never W (view m ro c (ownState m ro a k) r n)
       go abstractInitialisation g z = initial a a r (blank m) n n
       go abstractOrdinary g z =
-          world-agree m abstractMachine c a k q p a′ k′ a a r (blank m) n n (λ t. refl) (λ t. absurd t) (λ t. g tt) (λ t. absurd t)
+          world-agree m abstractEventKinds c a k q p a′ k′ a a r (blank m) n n (λ t. refl) (λ t. absurd t) (λ t. g tt) (λ t. absurd t)
           (λ t. all-imp (λ x e. sym e) (z tt))
       go (concreteInitialisation f) g z = initial (blank m) k (blank m) r (blank m) n
       go (refining f) g z = concrete (g tt)

@@ -26,40 +26,40 @@ kinds c a k q p z concreteParameter = p
 kinds c a k q p z sharedVariable = z
 
 -- constants, alone and with the abstract state, the concrete state, or both
-abbrev pub constants : Kind → Bool
-constants = kinds true false false false false false
+abbrev pub onlyConstants : Kind → Bool
+onlyConstants = kinds true false false false false false
 
-abbrev pub abstractState : Kind → Bool
-abstractState = kinds true true false false false true
+abbrev pub abstractStateKinds : Kind → Bool
+abstractStateKinds = kinds true true false false false true
 
-abbrev pub concreteState : Kind → Bool
-concreteState = kinds true false true false false true
+abbrev pub concreteStateKinds : Kind → Bool
+concreteStateKinds = kinds true false true false false true
 
-abbrev pub bothStates : Kind → Bool
-bothStates = kinds true true true false false true
+abbrev pub bothStateKinds : Kind → Bool
+bothStateKinds = kinds true true true false false true
 
 -- with a machine's parameters beside its state
-abbrev pub abstractMachine : Kind → Bool
-abstractMachine = kinds true true false true false true
+abbrev pub abstractEventKinds : Kind → Bool
+abstractEventKinds = kinds true true false true false true
 
-abbrev pub concreteMachine : Kind → Bool
-concreteMachine = kinds true false true false true true
+abbrev pub concreteEventKinds : Kind → Bool
+concreteEventKinds = kinds true false true false true true
 
 -- the concrete machine's variables, and what is hidden in it, for which witnesses are
-abbrev pub concreteVariables : Kind → Bool
-concreteVariables = kinds false false true false false true
+abbrev pub concreteVariableKinds : Kind → Bool
+concreteVariableKinds = kinds false false true false false true
 
 abbrev pub hiddenKinds : Kind → Bool
 hiddenKinds = kinds false true false true false false
 
 -- what an event's guards and actions mention
 abbrev pub ownKinds : Role → Kind → Bool
-ownKinds abstractInitialisation = constants
-ownKinds abstractOrdinary = abstractMachine
-ownKinds (concreteInitialisation f) = constants
-ownKinds (refining f) = concreteMachine
-ownKinds convergent = concreteMachine
-ownKinds anticipated = concreteMachine
+ownKinds abstractInitialisation = onlyConstants
+ownKinds abstractOrdinary = abstractEventKinds
+ownKinds (concreteInitialisation f) = onlyConstants
+ownKinds (refining f) = concreteEventKinds
+ownKinds convergent = concreteEventKinds
+ownKinds anticipated = concreteEventKinds
 
 abbrev pub never : ℕ → Bool
 never x = false
@@ -95,14 +95,14 @@ module _ (m : Machine) where
   -- form 6 names
   pub record WitnessSees (e : ℕ) (w : Witness) : Type 0 where
     pub hidden : T (hiddenKinds (m .kind (w .target)))
-    pub mentioned : T (mentions (λ y. concreteMachine (m .kind y) || eqb y (w .target)) (λ y. concreteVariables (m .kind y) || eqb y (w .target)) (m .tree (w .root)))
+    pub mentioned : T (mentions (λ y. concreteEventKinds (m .kind y) || eqb y (w .target)) (λ y. concreteVariableKinds (m .kind y) || eqb y (w .target)) (m .tree (w .root)))
     pub found : witnessRoot (m .witnesses e) (w .target) ≡ w .root
 
   pub record WellFormed : Type 0 where
-    pub axiomsSee : All (Sees constants never) (m .axioms)
-    pub abstractInvariantsSee : All (Sees abstractState never) (m .abstractInvariants)
-    pub concreteInvariantsSee : All (Sees bothStates never) (m .concreteInvariants)
-    pub variantsSee : All (Sees concreteState never) (m .variants)
+    pub axiomsSee : All (Sees onlyConstants never) (m .axioms)
+    pub abstractInvariantsSee : All (Sees abstractStateKinds never) (m .abstractInvariants)
+    pub concreteInvariantsSee : All (Sees bothStateKinds never) (m .concreteInvariants)
+    pub variantsSee : All (Sees concreteStateKinds never) (m .variants)
     pub variantsInteger : All (λ r. treeType (m .type) (m .tree r) ≡ integer) (m .variants)
     pub guardsSee : (e : ℕ) → In e (m .events) → All (Sees (ownKinds (m .role e)) never) (m .guards e)
     pub actionsSee : (e : ℕ) → In e (m .events) → All (λ x. ActionSees (ownKinds (m .role e)) x (m .action e x)) (ownVariables m (m .role e))

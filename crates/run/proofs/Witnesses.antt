@@ -26,7 +26,7 @@ use Rattle.sequent.specs.Entry.{written, witnessed, variable, witnessTree}
 use Rattle.sequent.specs.Sequent.{Meets, Valid, sequent, WFIS}
 use Rattle.sequent.specs.Listed.{guarded, moved, witnessEntries, parameterWitnesses}
 use Rattle.run.specs.Run.{State, blank, world, AgreeOnShared}
-use Rattle.run.proofs.WellFormed.{concreteMachine, concreteVariables, hiddenKinds, WitnessSees}
+use Rattle.run.proofs.WellFormed.{concreteEventKinds, concreteVariableKinds, hiddenKinds, WitnessSees}
 use Rattle.run.proofs.Agreement.{true-agree}
 use Rattle.run.proofs.Views.{by-kind-agree}
 use Rattle.run.proofs.Events.{EventValid}
@@ -84,34 +84,34 @@ module _ (m : Machine) (c a k p k′ : State m) where
   matched w = world m c a k w p w k′
 
   put-agree : (w : State m) (x : ℕ) (K : Kind) → m .kind x ≡ K → T (hiddenKinds K) →
-      Agree (λ y. concreteMachine (m .kind y) || eqb y x) (λ y. concreteVariables (m .kind y) || eqb y x)
+      Agree (λ y. concreteEventKinds (m .kind y) || eqb y x) (λ y. concreteVariableKinds (m .kind y) || eqb y x)
       (put m K unmatched x (w x)) (matched w)
   put-agree w x K kx h = record { present = before K kx h; after = later K kx h }
     where
-      seen : (y : ℕ) → T (concreteMachine (m .kind y)) → unmatched .present y ≡ matched w .present y
-      seen y t = by-kind-agree concreteMachine (m .kind y) (λ s. refl) (λ s. absurd s) (λ s. refl) (λ s. absurd s) (λ s. refl) (λ e s. refl) t
+      seen : (y : ℕ) → T (concreteEventKinds (m .kind y)) → unmatched .present y ≡ matched w .present y
+      seen y t = by-kind-agree concreteEventKinds (m .kind y) (λ s. refl) (λ s. absurd s) (λ s. refl) (λ s. absurd s) (λ s. refl) (λ e s. refl) t
 
-      seen-after : (y : ℕ) → T (concreteVariables (m .kind y)) → unmatched .after y ≡ matched w .after y
+      seen-after : (y : ℕ) → T (concreteVariableKinds (m .kind y)) → unmatched .after y ≡ matched w .after y
       seen-after y t =
-          by-kind-agree concreteVariables (m .kind y) (λ s. absurd s) (λ s. absurd s) (λ s. refl) (λ s. absurd s) (λ s. absurd s) (λ e s. refl) t
+          by-kind-agree concreteVariableKinds (m .kind y) (λ s. absurd s) (λ s. absurd s) (λ s. refl) (λ s. absurd s) (λ s. absurd s) (λ e s. refl) t
 
-      before : (K : Kind) → m .kind x ≡ K → T (hiddenKinds K) → (y : ℕ) → T (concreteMachine (m .kind y) || eqb y x) →
+      before : (K : Kind) → m .kind x ≡ K → T (hiddenKinds K) → (y : ℕ) → T (concreteEventKinds (m .kind y) || eqb y x) →
           put m K unmatched x (w x) .present y ≡ matched w .present y
       before constantKind kx h = absurd h
-      before abstractVariable kx h = beside m concreteMachine x (unmatched .present) (matched w .present) seen (rw kx)
+      before abstractVariable kx h = beside m concreteEventKinds x (unmatched .present) (matched w .present) seen (rw kx)
       before concreteVariable kx h = absurd h
       before abstractParameter kx h =
-          replaced m concreteMachine x (unmatched .present) (matched w .present) seen (rw kx (λ t. t)) (w x) (rw kx)
+          replaced m concreteEventKinds x (unmatched .present) (matched w .present) seen (rw kx (λ t. t)) (w x) (rw kx)
       before concreteParameter kx h = absurd h
       before sharedVariable kx h = absurd h
 
-      later : (K : Kind) → m .kind x ≡ K → T (hiddenKinds K) → (y : ℕ) → T (concreteVariables (m .kind y) || eqb y x) →
+      later : (K : Kind) → m .kind x ≡ K → T (hiddenKinds K) → (y : ℕ) → T (concreteVariableKinds (m .kind y) || eqb y x) →
           put m K unmatched x (w x) .after y ≡ matched w .after y
       later constantKind kx h = absurd h
       later abstractVariable kx h =
-          replaced m concreteVariables x (unmatched .after) (matched w .after) seen-after (rw kx (λ t. t)) (w x) (rw kx)
+          replaced m concreteVariableKinds x (unmatched .after) (matched w .after) seen-after (rw kx (λ t. t)) (w x) (rw kx)
       later concreteVariable kx h = absurd h
-      later abstractParameter kx h = beside m concreteVariables x (unmatched .after) (matched w .after) seen-after (rw kx)
+      later abstractParameter kx h = beside m concreteVariableKinds x (unmatched .after) (matched w .after) seen-after (rw kx)
       later concreteParameter kx h = absurd h
       later sharedVariable kx h = absurd h
 
