@@ -106,7 +106,7 @@ fn has_witnesses(words: &[u64], table: Table, slot: Slot) -> bool
     ((group == Group::SIM) | (group == Group::INV)) & !is_new(words, table, slot.event)
 }
 
-// "for a convergent event form 4 of each abstract variable instead of witnesses", and so for an anticipated one
+// "for a convergent event form 4 of each abstract variable instead of witnesses", and so for an anticipated one; a shared variable's is among the moves
 fn has_abstract_moves(words: &[u64], table: Table, slot: Slot) -> bool
     requires { ⌜ table ≡ countsOf (rowsOf (now words)) ⌝ }
     ensures { λ r. ⌜ r ≡ hasAbstractMoves (rowsOf (now (words .entry))) slot ⌝ }

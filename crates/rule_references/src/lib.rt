@@ -179,7 +179,7 @@ fn action_target(words: &[u64], table: Table, e: u64, x: u64) -> bool
     event & (identifier & fits)
 }
 
-// "witnesses: class 0 or 1, with an abstract variable or a parameter of the refined event"
+// "witnesses: class 0 or 1, with an abstract variable or a parameter of the refined event"; 02, request 2: a shared variable "has no witness"
 fn witness_target(words: &[u64], table: Table, e: u64, x: u64) -> bool
     requires { ⌜ table ≡ countsOf (rowsOf (now words)) ⌝ }
     ensures { λ r. ⌜ r ≡ witnessTarget (rowsOf (now (words .entry))) e x ⌝ }
