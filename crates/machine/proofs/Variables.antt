@@ -2,6 +2,7 @@
 use Prim.Native.Nat.{ℕ, _<_}
 use mathlib.Core.Path.{_≡_, refl, sym, ap, ap₂, _∙_, subst, fun-ext}
 use mathlib.Core.List.{List, _++_}
+use mathlib.Core.Logic.{_↔_}
 use mathlib.Core.Bool.{Bool, true, false, not, _&&_, _||_}
 use native.Mathlib.Omega.{arith}
 use lib.Dec.{T, eqb, eqb→eq}
@@ -9,18 +10,18 @@ use borrow.Author.Tests.{eqb-true, ne-eqb}
 use Rattle.lists.specs.Choice.{pick}
 use Rattle.lists.specs.All.{In}
 use Rattle.lists.specs.Below.{numbers, keep}
-use Rattle.lists.proofs.Below.{numbers-in, keep-in, in-keep}
+use Rattle.lists.proofs.Below.{numbers-in, in-numbers, keep-in, in-keep}
 use Rattle.lists.proofs.Distinct.{Distinct, pairwise-join, pairwise-keep, rising-distinct}
 use Rattle.lists.proofs.Flat.{keep-keep}
 use Rattle.table.specs.Names.{isVariableOf}
 use Rattle.table.specs.Rows.{Rows, count, named, kindOf}
 use Rattle.table.specs.Lookups.{isVariableNumber}
-use Rattle.table.proofs.Sections.{named-bounds}
-use Rattle.formula.proofs.Truth.{eq→eqb, or-cases}
+use Rattle.table.proofs.Sections.{named-bounds, bounds-named}
+use Rattle.formula.proofs.Truth.{eq→eqb, or-right, or-cases}
 use Rattle.machine.specs.Machine.{Kind, isVariable, isShared, constantKind, abstractVariable, concreteVariable, abstractParameter, concreteParameter, sharedVariable}
 use Rattle.machine.specs.Machine.{sharedVariables, unsharedVariables}
 use Rattle.machine.specs.Described.{kindNumbered, variablesOf, machineOf}
-use Rattle.machine.proofs.Described.{variable-named, variables-rise}
+use Rattle.machine.proofs.Described.{variable-named, named-variable, variables-rise}
 
 -- a kind by the tests that its number meets
 abbrev by-tests : Bool → Bool → Bool → Bool → Bool → Kind
@@ -106,6 +107,26 @@ module _ (t : Rows) where
       let b = named-bounds t 10 x n in
       subst (In x) (sym shared-numbered)
       (keep-in (λ x. eqb (kindOf t x) 6) (numbers-in (count t 10) 1 x (b .0) (omega (arith, b .1))) (eq→eqb (kindOf t x) 6 k))
+
+  -- 02, request 2: "a variable of both machines"
+  pub shared-both : (x : ℕ) → In x (sharedVariables (machineOf t)) ↔ (In x (machineOf t .abstractVariables) × In x (machineOf t .concreteVariables))
+  unfolding machineOf
+  shared-both x = (both, common)
+    where
+      both : In x (sharedVariables (machineOf t)) → In x (variablesOf t 2) × In x (variablesOf t 3)
+      both i =
+          let (j, k) = in-keep (λ x. eqb (kindOf t x) 6) identifiers (subst (In x) shared-numbered i) in
+          let r = in-numbers (count t 10) 1 x j in
+          let n = bounds-named t 10 x (r .0) (omega (arith, r .1)) in
+          (named-variable t 2 x n (or-right (eqb (kindOf t x) 2) _ k), named-variable t 3 x n (or-right (eqb (kindOf t x) 3) _ k))
+
+      common : In x (variablesOf t 2) × In x (variablesOf t 3) → In x (sharedVariables (machineOf t))
+      common (i, j) =
+          let (n, k) = variable-named t 2 x i in
+          or-cases (eqb (kindOf t x) 2) (eqb (kindOf t x) 6) k
+          (λ p. absurd (or-cases (eqb (kindOf t x) 3) (eqb (kindOf t x) 6) (variable-named t 3 x j .1)
+          (λ q. omega (arith, eqb→eq (kindOf t x) 2 p, eqb→eq (kindOf t x) 3 q)) (λ q. omega (arith, eqb→eq (kindOf t x) 2 p, eqb→eq (kindOf t x) 6 q))))
+          (λ p. named-shared x n (eqb→eq (kindOf t x) 6 p))
 
   pub unshared-kind : (x : ℕ) → In x (unsharedVariables (machineOf t)) → kindOf t x ≡ 2
   unshared-kind x i = eqb→eq (kindOf t x) 2 (in-keep (λ x. eqb (kindOf t x) 2) identifiers (subst (In x) unshared-numbered i) .1)
