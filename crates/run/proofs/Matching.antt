@@ -1,5 +1,6 @@
--- One concrete step is matched and leaves a pair of states at which the invariants are true. With the hidden values that meet the witnesses, GRD and SIM
--- make the abstract event's guards and moves true, so that it has a step there, and INV of both events holds in the same world.
+-- One concrete step is matched and leaves a pair of states that agree on the shared variables and at which the invariants are true. With the hidden values
+-- that meet the witnesses, and the concrete ones of the shared variables, GRD and SIM make the abstract event's guards and moves true, so that it has a step
+-- there, and INV of both events holds in the same world. At a new event's step the abstract state stays, and SIM keeps the shared variables.
 use mathlib.Core.Path.{_≡_, refl, sym, subst, _∙_}
 use mathlib.Core.Bool.{not}
 use mathlib.Core.Logic.{⊎-elim}

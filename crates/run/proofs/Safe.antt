@@ -1,5 +1,5 @@
 -- Demand 3 for a well-formed machine: where every listed sequent is valid, its runs are safe. One matched step after another, by recursion on the
--- list of steps; what is carried along is that the axioms and all invariants are true at the matched pair of states.
+-- list of steps; what is carried along is that the matched pair of states agree on the shared variables and that the axioms and all invariants are true there.
 use mathlib.Core.Path.{_≡_, refl, sym, subst}
 use mathlib.Core.List.{List, [], _∷_}
 use Prim.Native.Nat.{ℕ}
