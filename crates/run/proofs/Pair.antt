@@ -1,4 +1,5 @@
--- A matched pair of states that agree on the shared variables and at which the axioms and all invariants are true: the base hypotheses of every event hold there, and the pair is safe.
+-- A matched pair of states that agree on the shared variables and at which the axioms and all invariants are true: the base hypotheses of every event hold
+-- there, and the pair is safe.
 use mathlib.Core.Path.{refl}
 use mathlib.Core.List.{[]}
 use lib.Dec.{T}
