@@ -11,7 +11,7 @@ use Rattle.formula.proofs.Truth.{eq→eqb, and-join, or-left, or-neither, not-f
 use Rattle.table.specs.Names.{isVariableOf}
 use Rattle.table.specs.Rows.{Rows, tagged, named, rowOf, numberIn, machineNumber, classOf}
 use Rattle.table.proofs.Sections.{named-row, number-of-row}
-use Rattle.rules.specs.Sight.{variableOf}
+use Rattle.rules.specs.Sight.{hasVariableKind}
 use Rattle.rules.specs.Rules.{initialises, assigned, lacksAction, lacksWitness, eventLacks, ofClass, someOfClass, someVariant, lacksVariant, lacksNewEvent, missing}
 use Rattle.rules.proofs.Obeys.{Obeys}
 use Rattle.rules.proofs.Tags.{tagged-test, tags-rising}
@@ -73,7 +73,7 @@ module _ (t : Rows) (ok : Obeys t) where
       }
 
   -- "an initial action for a variable"
-  pub initial-action : (e x : ℕ) → T (named t 40 e) → classOf t e ≡ 0 → T (named t 10 x) → T (variableOf t (1 + machineNumber t e) x) → T (assigned t e x)
+  pub initial-action : (e x : ℕ) → T (named t 40 e) → classOf t e ≡ 0 → T (named t 10 x) → T (hasVariableKind t (1 + machineNumber t e) x) → T (assigned t e x)
   initial-action e x n c m k =
       let up = tags-rising t ok in
       let i = rowOf t 40 e in

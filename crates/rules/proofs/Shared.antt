@@ -10,7 +10,7 @@ use Rattle.lists.specs.Choice.{pick}
 use Rattle.table.specs.Names.{isVariableOf}
 use Rattle.table.specs.Rows.{Rows, tagged, named, kindOf, ownerOf, machineNumber, classOf}
 use Rattle.formula.proofs.Truth.{and-join, or-cases}
-use Rattle.rules.specs.Sight.{hasKind, variableOf, mayMention, mayMentionAfter}
+use Rattle.rules.specs.Sight.{hasKind, hasVariableKind, mayMention, mayMentionAfter}
 use Rattle.rules.specs.Rules.{actionTarget, assigned}
 use Rattle.rules.proofs.Obeys.{Obeys}
 use Rattle.rules.proofs.Identifiers.{unowned}
@@ -19,7 +19,7 @@ use Rattle.rules.proofs.Missing.{initial-action}
 
 module _ (t : Rows) where
   -- a shared variable is one of either machine, by the kind of its own
-  shared-of : (own x : ℕ) → kindOf t x ≡ 6 → T (variableOf t own x)
+  shared-of : (own x : ℕ) → kindOf t x ≡ 6 → T (hasVariableKind t own x)
   shared-of own x k = subst (λ k. T (isVariableOf own k)) (sym k) (go (eqb 6 own))
     where
       go : (b : Bool) → T (b || true)
@@ -29,7 +29,7 @@ module _ (t : Rows) where
   -- "both machines' events may assign it"
   pub shared-assignable : (e x : ℕ) → T (named t 40 e) → T (named t 10 x) → kindOf t x ≡ 6 → T (actionTarget t e x)
   shared-assignable e x n m k =
-      let own = variableOf t (1 + machineNumber t e) x in
+      let own = hasVariableKind t (1 + machineNumber t e) x in
       and-join (named t 40 e) (named t 10 x && own) n (and-join (named t 10 x) own m (shared-of (1 + machineNumber t e) x k))
 
   -- what a table that meets every rule has of a shared variable

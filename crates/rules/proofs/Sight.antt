@@ -9,7 +9,7 @@ use Rattle.formula.proofs.Mentions.{mentions-and}
 use Rattle.formula.proofs.Truth.{rule-met}
 use Rattle.table.specs.Rows.{Rows, named}
 use Rattle.machine.specs.Described.{treeOf}
-use Rattle.rules.specs.Sight.{hasKind, variableOf, eventSees, mayMention, mayMentionAfter, seesOnly}
+use Rattle.rules.specs.Sight.{hasKind, hasVariableKind, eventSees, mayMention, mayMentionAfter, seesOnly}
 use Rattle.rules.specs.Rules.{namedVariable, namesRoot, rootAt, sightOffends}
 use Rattle.rules.proofs.Obeys.{Obeys}
 use Rattle.rules.proofs.References.{rootTag, rootOf, names-root, root-row, tree-named}
@@ -19,14 +19,14 @@ module _ (t : Rows) where
   abbrev pub seen : ℕ → ℕ → ℕ → Bool
   seen k i x =
       pick (eqb k 30) (hasKind t 1 x)
-      (pick (eqb k 31) (hasKind t 1 x || variableOf t 2 x)
-      (pick (eqb k 32) (hasKind t 1 x || (hasKind t 2 x || variableOf t 3 x))
-      (pick (eqb k 70) (hasKind t 1 x || variableOf t 3 x)
+      (pick (eqb k 31) (hasKind t 1 x || hasVariableKind t 2 x)
+      (pick (eqb k 32) (hasKind t 1 x || (hasKind t 2 x || hasVariableKind t 3 x))
+      (pick (eqb k 70) (hasKind t 1 x || hasVariableKind t 3 x)
       (pick (eqb k 60) (eventSees t (t .a i) x || (hasKind t 4 x && eqb x (t .b i))) (eventSees t (t .a i) x)))))
 
   abbrev pub seenAfter : ℕ → ℕ → ℕ → Bool
   seenAfter k i x =
-      pick (eqb k 52) (eqb x (t .b i)) (pick (eqb k 60) (hasKind t 2 (t .b i) && (variableOf t 3 x || eqb x (t .b i))) false)
+      pick (eqb k 52) (eqb x (t .b i)) (pick (eqb k 60) (hasKind t 2 (t .b i) && (hasVariableKind t 3 x || eqb x (t .b i))) false)
 
   pub root-seen : Obeys t → (k i : ℕ) → i < t .size → t .tag i ≡ k → T (rootTag k)
       → T (mentions (λ x. named t 10 x && seen k i x) (λ x. namedVariable t x && seenAfter k i x) (treeOf t (rootOf t k i)))

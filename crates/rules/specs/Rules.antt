@@ -12,7 +12,7 @@ use Rattle.table.specs.Rows.{Rows, tagged, named, numberIn, isAction, typeOf, o
 use Rattle.machine.specs.Operator.{equalNumber, operandSort}
 use Rattle.rules.specs.Tags.{columnsUsed, rowLimit}
 use Rattle.rules.specs.Sorts.{Shape, value, anIdentifier, aVariable, none, one, two, unknown, shapeOf, operandCount, sortOf, fitting}
-use Rattle.rules.specs.Sight.{hasKind, variableOf, seesOnly}
+use Rattle.rules.specs.Sight.{hasKind, hasVariableKind, seesOnly}
 
 module _ (t : Rows) where
   -- 3 tag: "unknown, falling, or unused column not 0"
@@ -74,7 +74,7 @@ module _ (t : Rows) where
   earlierNode i n = leb 1 n && ltb n (numberIn t nodeTag i)
 
   abbrev pub namedVariable : ℕ → Bool
-  namedVariable x = named t identifierTag x && (hasKind t abstractVariableKind x || variableOf t concreteVariableKind x)
+  namedVariable x = named t identifierTag x && (hasKind t abstractVariableKind x || hasVariableKind t concreteVariableKind x)
 
   abbrev pub goodColumns : Shape → ℕ → Bool
   goodColumns value i = eqb (t .c i) 0
@@ -91,7 +91,7 @@ module _ (t : Rows) where
 
   -- actions: "event, variable of its machine"; 02, request 2: "both machines' events may assign it"
   abbrev pub actionTarget : ℕ → ℕ → Bool
-  actionTarget e x = named t eventTag e && (named t identifierTag x && variableOf t (1 + machineNumber t e) x)
+  actionTarget e x = named t eventTag e && (named t identifierTag x && hasVariableKind t (1 + machineNumber t e) x)
 
   -- "witnesses: class 0 or 1, with an abstract variable or a parameter of the refined event"
   abbrev pub witnessTarget : ℕ → ℕ → Bool

@@ -23,7 +23,7 @@ use Rattle.machine.proofs.Roles.{RoleSays}
 use Rattle.machine.proofs.Variables.{named-shared, unshared-kind}
 use Rattle.sequent.specs.Entry.{witnessRoot}
 use Rattle.sequent.specs.Required.{isNew, ownVariables}
-use Rattle.rules.specs.Sight.{hasKind, variableOf}
+use Rattle.rules.specs.Sight.{hasKind, hasVariableKind}
 use Rattle.rules.specs.Rules.{guardEvent, actionTarget}
 use Rattle.rules.proofs.Obeys.{Obeys}
 use Rattle.rules.proofs.Events.{event-says, event-refines, first-event, concrete-initialisation}
@@ -63,7 +63,7 @@ module _ (t : Rows) where
   role-is e machine class p q = ap₂ (λ m c. roleNumbered m c (refinedBy t e)) p q
 
   -- a variable of a machine is of its own kind or shared
-  variable-either : (own x : ℕ) → T (named t 10 x) → T (variableOf t own x)
+  variable-either : (own x : ℕ) → T (named t 10 x) → T (hasVariableKind t own x)
       → (kindNumbered (kindOf t x) ≡ kindNumbered own) ⊎ ((kindNumbered (kindOf t x) ≡ kindNumbered 6) × In x (sharedVariables (machineOf t)))
   variable-either own x n h =
       or-cases (eqb (kindOf t x) own) (eqb (kindOf t x) 6) h (λ p. inl (ap kindNumbered (eqb→eq (kindOf t x) own p)))
@@ -120,7 +120,7 @@ module _ (t : Rows) (ok : Obeys t) where
       never-set : (k i : ℕ) → SetBy t k e x i → T (rootTag k) → (T (targetTest t k i) → T (actionTarget t (t .a i) (t .b i))) → ⊥
       never-set k i by r f =
           let h = subst₂ (λ e x. T (actionTarget t e x)) (by .eventIs) (by .variableIs) (f (root-row t ok k i (by .inside) (by .tagIs) r .0)) in
-          let own = variableOf t (1 + machineNumber t e) x in
+          let own = hasVariableKind t (1 + machineNumber t e) x in
           let p = and-split (named t 10 x) own (and-split (named t 40 e) (named t 10 x && own) h .1) .1 in
           or-cases (eqb (kindOf t x) (1 + machineNumber t e)) (eqb (kindOf t x) 6) p
           (λ q. omega (arith, eqb→eq (kindOf t x) (1 + machineNumber t e) q)) (λ q. omega (arith, eqb→eq (kindOf t x) 6 q))
@@ -152,15 +152,15 @@ accepted-well-formed t ok = record {
   axiomsSee = formulas-see t ok 30 onlyConstants tt (λ i. refl) (λ i x s. kind-seen t onlyConstants 1 x tt s) (λ i x s. s);
   abstractInvariantsSee =
       formulas-see t ok 31 abstractStateKinds tt (λ i. refl)
-      (λ i x s. or-cases (hasKind t 1 x) (variableOf t 2 x) s (kind-seen t abstractStateKinds 1 x tt) (variable-seen t abstractStateKinds 2 x tt tt)) (λ i x s. s);
+      (λ i x s. or-cases (hasKind t 1 x) (hasVariableKind t 2 x) s (kind-seen t abstractStateKinds 1 x tt) (variable-seen t abstractStateKinds 2 x tt tt)) (λ i x s. s);
   concreteInvariantsSee =
       formulas-see t ok 32 bothStateKinds tt (λ i. refl)
-      (λ i x s. or-cases (hasKind t 1 x) (hasKind t 2 x || variableOf t 3 x) s (kind-seen t bothStateKinds 1 x tt)
-      (λ s. or-cases (hasKind t 2 x) (variableOf t 3 x) s (kind-seen t bothStateKinds 2 x tt) (variable-seen t bothStateKinds 3 x tt tt)))
+      (λ i x s. or-cases (hasKind t 1 x) (hasKind t 2 x || hasVariableKind t 3 x) s (kind-seen t bothStateKinds 1 x tt)
+      (λ s. or-cases (hasKind t 2 x) (hasVariableKind t 3 x) s (kind-seen t bothStateKinds 2 x tt) (variable-seen t bothStateKinds 3 x tt tt)))
       (λ i x s. s);
   variantsSee =
       formulas-see t ok 70 concreteStateKinds tt (λ i. refl)
-      (λ i x s. or-cases (hasKind t 1 x) (variableOf t 3 x) s (kind-seen t concreteStateKinds 1 x tt) (variable-seen t concreteStateKinds 3 x tt tt)) (λ i x s. s);
+      (λ i x s. or-cases (hasKind t 1 x) (hasVariableKind t 3 x) s (kind-seen t concreteStateKinds 1 x tt) (variable-seen t concreteStateKinds 3 x tt tt)) (λ i x s. s);
   variantsInteger = all-map (t .a) (all-in (section t 70) (λ i j. let q = section-row t 70 i j in variant-type t ok i (q .0) (q .1)));
   guardsSee = λ e i. guards-see t ok e (event-named t e i);
   actionsSee = λ e i. all-in (ownVariables (machineOf t) (roleIn t e)) (λ x j.

@@ -29,7 +29,7 @@ use Rattle.sequent.specs.Order.{isIn}
 use Rattle.sequent.specs.Required.{ownVariables}
 use Rattle.sequent.proofs.Places.{isIn-member}
 use Rattle.rules.specs.Sorts.{sortOf}
-use Rattle.rules.specs.Sight.{hasKind, variableOf, presentVariable, ownParameter, eventSees}
+use Rattle.rules.specs.Sight.{hasKind, hasVariableKind, presentVariable, ownParameter, eventSees}
 use Rattle.rules.specs.Rules.{namedVariable}
 use Rattle.rules.proofs.Obeys.{Obeys}
 use Rattle.rules.proofs.Events.{event-says}
@@ -87,7 +87,7 @@ module _ (t : Rows) where
   pub kind-seen : (S : Kind → Bool) (k x : ℕ) → T (S (kindNumbered k)) → T (hasKind t k x) → T (S (kindIn x))
   kind-seen S k x s h = kind-in S (kindOf t x) k (eqb→eq (kindOf t x) k h) s
 
-  pub variable-seen : (S : Kind → Bool) (own x : ℕ) → T (S (kindNumbered own)) → T (S (kindNumbered 6)) → T (variableOf t own x) → T (S (kindIn x))
+  pub variable-seen : (S : Kind → Bool) (own x : ℕ) → T (S (kindNumbered own)) → T (S (kindNumbered 6)) → T (hasVariableKind t own x) → T (S (kindIn x))
   variable-seen S own x v z h = variable-in S own (kindOf t x) v z h
 
   -- what is named and of a set of kinds is among them: a shared variable that is named is one of the machine's
@@ -126,7 +126,7 @@ module _ (t : Rows) where
         or-cases (hasKind t 1 x) (ownParameter t e x || presentVariable t e x) s (kind-seen (ownKinds (roleIn e)) 1 x (constant-seen (roleIn e)))
         (λ s. or-cases (ownParameter t e x) (presentVariable t e x) s
         (λ s. let p = parameter-owner t ok e x m s in own-seen (roleIn e) (machineNumber t e) (classOf t e) (refinedBy t e) (kindOf t x) says (p .1) (inr (p .0)))
-        (λ s. let p = and-split (variableOf t (1 + machineNumber t e) x) (not (eqb (classOf t e) 0)) s in
+        (λ s. let p = and-split (hasVariableKind t (1 + machineNumber t e) x) (not (eqb (classOf t e) 0)) s in
         own-seen (roleIn e) (machineNumber t e) (classOf t e) (refinedBy t e) (kindOf t x) says (p .1) (inl (p .0))))
       where
         says : RoleSays (machineNumber t e) (classOf t e) (refinedBy t e) (roleIn e)
@@ -147,15 +147,15 @@ module _ (t : Rows) where
         let q = belonging-row t 50 e i j in own-row-sees 50 e i never n (q .0) (q .1) (q .2) tt (λ x s. s) (λ x s. s)))
 
     -- the variables of an event's machine
-    pub variable-kind : (e x : ℕ) → T (named t 40 e) → In x (ownVariables (machineOf t) (roleIn e)) → T (named t 10 x) × T (variableOf t (1 + machineNumber t e) x)
+    pub variable-kind : (e x : ℕ) → T (named t 40 e) → In x (ownVariables (machineOf t) (roleIn e)) → T (named t 10 x) × T (hasVariableKind t (1 + machineNumber t e) x)
     unfolding machineOf
     variable-kind e x n = go (roleIn e) (event-says t ok e (roleIn e) n refl)
       where
-        of : (own : ℕ) → own ≡ 1 + machineNumber t e → In x (variablesOf t own) → T (named t 10 x) × T (variableOf t (1 + machineNumber t e) x)
-        of own q i = let p = variable-named t own x i in (p .0, subst (λ own. T (variableOf t own x)) q (p .1))
+        of : (own : ℕ) → own ≡ 1 + machineNumber t e → In x (variablesOf t own) → T (named t 10 x) × T (hasVariableKind t (1 + machineNumber t e) x)
+        of own q i = let p = variable-named t own x i in (p .0, subst (λ own. T (hasVariableKind t own x)) q (p .1))
 
         go : (ro : Role) → RoleSays (machineNumber t e) (classOf t e) (refinedBy t e) ro → In x (ownVariables (machineOf t) ro)
-            → T (named t 10 x) × T (variableOf t (1 + machineNumber t e) x)
+            → T (named t 10 x) × T (hasVariableKind t (1 + machineNumber t e) x)
         go abstractInitialisation s i = of 2 (omega (arith, s .0)) i
         go abstractOrdinary s i = of 2 (omega (arith, s .0)) i
         go (concreteInitialisation f) s i = of 3 (omega (arith, s .0)) i
@@ -171,7 +171,7 @@ module _ (t : Rows) where
         sort-type t (t .c i) (named-bounds t 20 (t .c i) root .0) (subst (λ s. T (isType s)) (sym q) (identifier-type t ok x m)) ∙ ap typeNumbered q
 
     -- a variable that its event leaves alone is seen: the event is no initialisation, which assigns all
-    unassigned-seen : (e x : ℕ) → T (named t 40 e) → T (named t 10 x) → T (variableOf t (1 + machineNumber t e) x)
+    unassigned-seen : (e x : ℕ) → T (named t 40 e) → T (named t 10 x) → T (hasVariableKind t (1 + machineNumber t e) x)
         → ((i : ℕ) → i < t .size → T (sets t e x i) → ⊥) → T (ownKinds (roleIn e) (kindIn x))
     unassigned-seen e x n m k none =
         own-seen (roleIn e) (machineNumber t e) (classOf t e) (refinedBy t e) (kindOf t x) (event-says t ok e (roleIn e) n refl)
@@ -182,7 +182,7 @@ module _ (t : Rows) where
             let r = some-found (sets t e x) (t .size) (initial-action t ok e x n (eqb→eq (classOf t e) 0 c) m k) in
             none (r .0) (r .1) (r .2)
 
-    pub action-sees : (e x : ℕ) → T (named t 40 e) → T (named t 10 x) → T (variableOf t (1 + machineNumber t e) x)
+    pub action-sees : (e x : ℕ) → T (named t 40 e) → T (named t 10 x) → T (hasVariableKind t (1 + machineNumber t e) x)
         → ActionSees (machineOf t) (ownKinds (roleIn e)) x (actionOf t e x)
     unfolding machineOf
     action-sees e x n m k =
@@ -248,6 +248,6 @@ module _ (t : Rows) where
 
         after : (y : ℕ) → T (seenAfter t 60 i y) → T (concreteVariableKinds (kindIn y) || eqb y (t .b i))
         after y s =
-            or-cases (variableOf t 3 y) (eqb y (t .b i)) (and-split (hasKind t 2 (t .b i)) (variableOf t 3 y || eqb y (t .b i)) s .1)
+            or-cases (hasVariableKind t 3 y) (eqb y (t .b i)) (and-split (hasKind t 2 (t .b i)) (hasVariableKind t 3 y || eqb y (t .b i)) s .1)
             (λ p. or-left (concreteVariableKinds (kindIn y)) (eqb y (t .b i)) (variable-seen concreteVariableKinds 3 y tt tt p))
             (or-right (concreteVariableKinds (kindIn y)) (eqb y (t .b i)))
