@@ -9,21 +9,17 @@ use Rattle.lists.specs.All.{All, In}
 use Rattle.formula.specs.Values.{integer}
 use Rattle.formula.specs.Mentions.{mentions}
 use Rattle.formula.proofs.Sort.{treeType}
-use Rattle.machine.specs.Machine.{Kind, constantKind, abstractVariable, concreteVariable, abstractParameter, concreteParameter, sharedVariable}
+use Rattle.machine.specs.Machine.{Kind, abstractVariable, concreteVariable, sharedVariable}
 use Rattle.machine.specs.Machine.{Action, unassigned, becomesEqual, becomesSuchThat, Witness, Machine, isShared, sharedVariables, unsharedVariables}
 use Rattle.machine.specs.Machine.{Role, abstractInitialisation, abstractOrdinary, concreteInitialisation, refining, convergent, anticipated}
 use Rattle.sequent.specs.Entry.{witnessRoot}
 use Rattle.sequent.specs.Order.{isIn}
 use Rattle.sequent.specs.Required.{isNew, ownVariables}
+use Rattle.run.specs.Run.{byKind}
 
 -- a set of kinds: constant, abstract variable, concrete variable, abstract parameter, concrete parameter, shared variable
 abbrev pub kinds : Bool → Bool → Bool → Bool → Bool → Bool → Kind → Bool
-kinds c a k q p z constantKind = c
-kinds c a k q p z abstractVariable = a
-kinds c a k q p z concreteVariable = k
-kinds c a k q p z abstractParameter = q
-kinds c a k q p z concreteParameter = p
-kinds c a k q p z sharedVariable = z
+kinds c a k q p z K = byKind K c a k q p z
 
 -- constants, alone and with the abstract state, the concrete state, or both
 abbrev pub onlyConstants : Kind → Bool
