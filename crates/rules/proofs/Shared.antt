@@ -9,9 +9,9 @@ use lib.Dec.{T, eqb, eqb→eq}
 use Rattle.lists.specs.Choice.{pick}
 use Rattle.table.specs.Names.{isVariableOf}
 use Rattle.table.specs.Rows.{Rows, tagged, named, kindOf, ownerOf, machineNumber, classOf}
-use Rattle.formula.proofs.Truth.{and-join, or-cases}
+use Rattle.formula.proofs.Truth.{and-join, or-right, or-cases}
 use Rattle.rules.specs.Sight.{hasKind, hasVariableKind, mayMention, mayMentionAfter}
-use Rattle.rules.specs.Rules.{actionTarget, assigned}
+use Rattle.rules.specs.Rules.{namedVariable, actionTarget, assigned}
 use Rattle.rules.proofs.Obeys.{Obeys}
 use Rattle.rules.proofs.Identifiers.{unowned}
 use Rattle.rules.proofs.References.{witness-row}
@@ -25,6 +25,11 @@ module _ (t : Rows) where
       go : (b : Bool) → T (b || true)
       go true = tt
       go false = tt
+
+  -- "3 after value of a variable" takes it
+  pub shared-named : (x : ℕ) → T (named t 10 x) → kindOf t x ≡ 6 → T (namedVariable t x)
+  shared-named x n k =
+      and-join (named t 10 x) (hasKind t 2 x || hasVariableKind t 3 x) n (or-right (hasKind t 2 x) (hasVariableKind t 3 x) (shared-of 3 x k))
 
   -- "both machines' events may assign it"
   pub shared-assignable : (e x : ℕ) → T (named t 40 e) → T (named t 10 x) → kindOf t x ≡ 6 → T (actionTarget t e x)
