@@ -1,5 +1,4 @@
 // 01, Refusal 12 missing: whether a table lacks an initialisation, an initial action, a witness, a variant, or an event for its variant.
-use rule_references::variable_kind;
 use scan::Query;
 use scan::some_row;
 use scan::span_at;
@@ -13,6 +12,7 @@ use table::number_in;
 use table::size;
 use table::tag;
 use table::tag_at;
+use table::variable_kind;
 ghost use mathlib.Core.Path.{_≡_};
 ghost use mathlib.Core.Bool.{not, _&&_};
 ghost use Prim.Native.Nat.{_<_, _^_};

@@ -15,9 +15,8 @@ use table::named_node;
 use table::operator;
 use table::tag;
 use table::tag_at;
+use table::variable_kind;
 ghost use mathlib.Core.Path.{_≡_};
-ghost use Prim.Native.Nat.{_+_};
-ghost use Rattle.table.specs.Names.{isVariableOf};
 ghost use Rattle.table.specs.Rows.{rowsOf};
 ghost use Rattle.table.specs.Counts.{countsOf};
 ghost use Rattle.rules.specs.Sorts.{operandCount, namesIdentifier};
@@ -154,16 +153,6 @@ fn guard_event(words: &[u64], table: Table, e: u64) -> bool
     let named = named_event(words, table, e);
     let class = event_field(words, table, e, Table::CLASS);
     named & !(class == event::INITIALISATION)
-}
-
-// Whether identifiers of a kind are variables of a machine: its own, whose kind is one more than its number, or shared.
-pub fn variable_kind(kind: u64, machine: u64) -> bool
-    ensures { λ r. ⌜ r ≡ isVariableOf (1 + machine) kind ⌝ }
-{
-    if kind == 0 {
-        return false;
-    }
-    (kind - 1 == machine) | (kind == identifier::SHARED_VARIABLE)
 }
 
 // Actions: "event, variable of its machine"; 02, request 2: "both machines' events may assign it".

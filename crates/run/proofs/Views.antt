@@ -65,18 +65,23 @@ module _ (m : Machine) where
   -- the after value of an event's own variable, in a world and in the event's view
   pub world-after : (ro : Role) (c a k q p a′ k′ : State m) → Shares ro a′ k′ → (x : ℕ) → Variable m (variableKind ro) x
       → world m c a k q p a′ k′ .after x ≡ ownState m ro a′ k′ x
-  world-after abstractInitialisation c a k q p a′ k′ z x (inl e) = rw e
-  world-after abstractInitialisation c a k q p a′ k′ z x (inr e) = rw (e .0) (sym (all-at (z tt) (e .1)))
-  world-after abstractOrdinary c a k q p a′ k′ z x (inl e) = rw e
-  world-after abstractOrdinary c a k q p a′ k′ z x (inr e) = rw (e .0) (sym (all-at (z tt) (e .1)))
-  world-after (concreteInitialisation f) c a k q p a′ k′ z x (inl e) = rw e
-  world-after (concreteInitialisation f) c a k q p a′ k′ z x (inr e) = rw (e .0)
-  world-after (refining f) c a k q p a′ k′ z x (inl e) = rw e
-  world-after (refining f) c a k q p a′ k′ z x (inr e) = rw (e .0)
-  world-after convergent c a k q p a′ k′ z x (inl e) = rw e
-  world-after convergent c a k q p a′ k′ z x (inr e) = rw (e .0)
-  world-after anticipated c a k q p a′ k′ z x (inl e) = rw e
-  world-after anticipated c a k q p a′ k′ z x (inr e) = rw (e .0)
+  world-after ro c a k q p a′ k′ z x v = go ro z v
+    where
+      abstract : AgreeOnShared m a′ k′ → Variable m abstractVariable x → world m c a k q p a′ k′ .after x ≡ a′ x
+      abstract z (inl e) = rw e
+      abstract z (inr e) = rw (e .0) (sym (all-at z (e .1)))
+
+      concrete : Variable m concreteVariable x → world m c a k q p a′ k′ .after x ≡ k′ x
+      concrete (inl e) = rw e
+      concrete (inr e) = rw (e .0)
+
+      go : (ro : Role) → Shares ro a′ k′ → Variable m (variableKind ro) x → world m c a k q p a′ k′ .after x ≡ ownState m ro a′ k′ x
+      go abstractInitialisation z v = abstract (z tt) v
+      go abstractOrdinary z v = abstract (z tt) v
+      go (concreteInitialisation f) z v = concrete v
+      go (refining f) z v = concrete v
+      go convergent z v = concrete v
+      go anticipated z v = concrete v
 
   pub view-after : (ro : Role) (c s r n : State m) (x : ℕ) → Variable m (variableKind ro) x → view m ro c s r n .after x ≡ n x
   view-after abstractInitialisation c s r n = world-after abstractInitialisation c s s r (blank m) n n (λ t. same-shared n)

@@ -215,6 +215,16 @@ pub fn is_variable_of(own: u64, kind: u64) -> bool
     (kind == own) | (kind == identifier::SHARED_VARIABLE)
 }
 
+// Whether identifiers of a kind are variables of a machine: its own, whose kind is one more than its number, or shared.
+pub fn variable_kind(kind: u64, machine: u64) -> bool
+    ensures { λ r. ⌜ r ≡ isVariableOf (1 + machine) kind ⌝ }
+{
+    if kind == 0 {
+        return false;
+    }
+    (kind - 1 == machine) | (kind == identifier::SHARED_VARIABLE)
+}
+
 // Whether an identifier is a variable of one of the machines.
 pub fn is_variable(words: &[u64], table: Table, x: u64) -> bool
     requires { ⌜ table ≡ countsOf (rowsOf (now words)) ⌝ }

@@ -7,8 +7,8 @@ use native.Mathlib.Decide.{ℕ-discrete}
 use lib.Dec.{eqb}
 use borrow.Author.Needs.{needs}
 use borrow.Author.Tests.{eq-eqb, ne-eqb}
-use Rattle.rule_references.proofs.variable_kind.Statement.{statement}
-use Rattle.rule_references.proofs.variable_kind.Tie as tie
+use Rattle.table.proofs.variable_kind.Statement.{statement}
+use Rattle.table.proofs.variable_kind.Tie as tie
 
 below-equal : (k m : ℕ) → (k ≡ 0 → ⊥) → eqb (k - 1) m ≡ eqb k (1 + m)
 below-equal k m f = go (ℕ-discrete (k - 1) m)
