@@ -2,6 +2,7 @@
 pub mod event;
 pub mod identifier;
 pub mod operator;
+pub mod sort;
 pub mod tag;
 
 use row::Row;

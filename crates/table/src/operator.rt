@@ -1,4 +1,4 @@
-// 01, Rows: the operators by number.
+// 01, Rows: the operators by number. "1 literal (b its value), 2 identifier (b), 3 after value of a variable (b), 4 TRUE, 5 FALSE, 6 bool"
 pub const LITERAL: u64 = 1;
 
 pub const IDENTIFIER: u64 = 2;
@@ -11,14 +11,20 @@ pub const FALSE: u64 = 5;
 
 pub const BOOL: u64 = 6;
 
+// "integers 10 plus, 11 minus, 12 times, 13 ÷, 14 mod, 15 negation"
 pub const PLUS: u64 = 10;
 
-pub const REMAINDER: u64 = 14;
+pub const MINUS: u64 = 11;
+
+pub const TIMES: u64 = 12;
 
 pub const QUOTIENT: u64 = 13;
 
+pub const REMAINDER: u64 = 14;
+
 pub const NEGATION: u64 = 15;
 
+// "predicates 20 = (both integer or both boolean), 21 <, 22 ≤, 30 ⊤, 31 ⊥, 32 ¬, 33 ∧, 34 ∨, 35 ⇒, 36 ⇔"
 pub const EQUAL: u64 = 20;
 
 pub const LESS: u64 = 21;
