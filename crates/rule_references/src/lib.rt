@@ -1,4 +1,6 @@
 // 01, refusal 7, reference: "unknown operator, nonzero unused node column, or a number that names nothing fitting". Rows are words, four a row.
+use operators::Shape;
+use operators::find_operator;
 use table::Table;
 use table::a_at;
 use table::among;
@@ -12,100 +14,14 @@ use table::is_variable;
 use table::named_event;
 use table::named_identifier;
 use table::named_node;
-use table::operator;
 use table::tag;
 use table::tag_at;
 use table::variable_kind;
 ghost use mathlib.Core.Path.{_≡_};
 ghost use Rattle.table.specs.Rows.{rowsOf};
 ghost use Rattle.table.specs.Counts.{countsOf};
-ghost use Rattle.rules.specs.Sorts.{operandCount, namesIdentifier};
 ghost use Rattle.rules.specs.Rules.{earlierNode, namedVariable, goodColumns, guardEvent, actionTarget, witnessTarget, rootAt, namesRoot, goodTarget, referenceOffends};
-ghost use Rattle.rule_references.specs.Operator.{operatorAt, usageOf, meant, meantShape};
-
-// How an operator uses its columns b and c: a literal's value, an identifier, a variable, or operands.
-pub enum Shape {
-    Value,
-    Identifier,
-    Variable,
-    NoOperand,
-    OneOperand,
-    TwoOperands,
-    Unknown,
-}
-
-// An operator: the sort of its operands and its own, 1 integer, 2 boolean, 3 predicate; 0 where an identifier or the other operand decides.
-pub struct Operator {
-    pub number: u64,
-    pub shape: Shape,
-    pub operands: u64,
-    pub sort: u64,
-}
-
-impl Operator {
-    // An operator of a number, from its columns in the operators' table.
-    fn new(number: u64, shape: Shape, operands: u64, sort: u64) -> Self
-        ensures { λ r. ⌜ r ≡ operatorAt number shape operands sort ⌝ }
-    {
-        Self {
-            number,
-            shape,
-            operands,
-            sort,
-        }
-    }
-}
-
-// The operator that a number names.
-pub fn find_operator(number: u64) -> Operator
-    ensures { λ r. ⌜ meant r ≡ usageOf number ⌝ }
-{
-    match number {
-        operator::LITERAL => Operator::new(number, Shape::Value, 0, 1),
-        operator::IDENTIFIER => Operator::new(number, Shape::Identifier, 0, 0),
-        operator::AFTER => Operator::new(number, Shape::Variable, 0, 0),
-        operator::TRUE..=operator::FALSE => Operator::new(number, Shape::NoOperand, 0, 2),
-        operator::BOOL => Operator::new(number, Shape::OneOperand, 3, 2),
-        operator::PLUS..=operator::REMAINDER => Operator::new(number, Shape::TwoOperands, 1, 1),
-        operator::NEGATION => Operator::new(number, Shape::OneOperand, 1, 1),
-        operator::EQUAL => Operator::new(number, Shape::TwoOperands, 0, 3),
-        operator::LESS..=operator::AT_MOST => Operator::new(number, Shape::TwoOperands, 1, 3),
-        operator::TOP..=operator::BOTTOM => Operator::new(number, Shape::NoOperand, 0, 3),
-        operator::NOT => Operator::new(number, Shape::OneOperand, 3, 3),
-        operator::AND..=operator::IFF => Operator::new(number, Shape::TwoOperands, 3, 3),
-        _ => Operator::new(number, Shape::Unknown, 0, 0),
-    }
-}
-
-// How many of b and c are operands.
-pub fn operand_count(shape: Shape) -> u64
-    ensures { λ r. ⌜ r ≡ operandCount (meantShape shape) ⌝ }
-{
-    match shape {
-        Shape::Value => 0,
-        Shape::Identifier => 0,
-        Shape::Variable => 0,
-        Shape::NoOperand => 0,
-        Shape::OneOperand => 1,
-        Shape::TwoOperands => 2,
-        Shape::Unknown => 0,
-    }
-}
-
-// Whether column b names an identifier.
-pub fn names_identifier(shape: Shape) -> bool
-    ensures { λ r. ⌜ r ≡ namesIdentifier (meantShape shape) ⌝ }
-{
-    match shape {
-        Shape::Value => false,
-        Shape::Identifier => true,
-        Shape::Variable => true,
-        Shape::NoOperand => false,
-        Shape::OneOperand => false,
-        Shape::TwoOperands => false,
-        Shape::Unknown => false,
-    }
-}
+ghost use Rattle.operators.specs.Operator.{meantShape};
 
 // Whether the row at i may have the node n as an operand: "an earlier node".
 pub fn earlier_node(words: &[u64], table: Table, i: usize, n: u64) -> bool

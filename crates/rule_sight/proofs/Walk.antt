@@ -14,10 +14,10 @@ use Rattle.machine.proofs.Described.{tree-step}
 use Rattle.rules.specs.Sorts.{Shape, value, anIdentifier, aVariable, none, one, two, unknown, shape, shapeOf}
 use Rattle.rules.specs.Sight.{mayMention, mayMentionAfter, seesOnly}
 use Rattle.rules.proofs.Sight.{seen, seenAfter}
-use Rattle.rule_references.specs.declared.Operator as found
-use Rattle.rule_references.specs.declared.Shape as held
-use Rattle.rule_references.specs.Operator.{usageOf, meant, meantShape}
-use Rattle.rule_references.proofs.Found.{shape-found}
+use Rattle.operators.specs.declared.Operator as found
+use Rattle.operators.specs.declared.Shape as held
+use Rattle.operators.specs.Operator.{usageOf, meant, meantShape}
+use Rattle.operators.proofs.Found.{shape-found}
 
 module _ (P Q : ℕ → Bool) where
   abbrev pub mentionsBy : Shape → ℕ → Bool → Bool → Bool

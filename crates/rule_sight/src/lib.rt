@@ -1,6 +1,6 @@
 // 01, refusal 10, sight: "a formula mentions what it may not". It runs after check 9, where each node has one use, so that a walk meets no node twice.
-use rule_references::Shape;
-use rule_references::find_operator;
+use operators::Shape;
+use operators::find_operator;
 use rule_references::names_root;
 use rule_references::root_at;
 use table::Table;

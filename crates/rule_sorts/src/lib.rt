@@ -1,9 +1,9 @@
 // 01, refusals 8, sort: "operand or root of the wrong sort", and 9, use: "a node without its one use". Sorts are 1 integer, 2 boolean, 3 predicate.
 // A node's sort comes from its operator alone, so that no walk follows shared operands.
-use rule_references::find_operator;
-use rule_references::names_identifier;
+use operators::find_operator;
+use operators::names_identifier;
+use operators::operand_count;
 use rule_references::names_root;
-use rule_references::operand_count;
 use rule_references::root_at;
 use scan::clear;
 use table::Table;

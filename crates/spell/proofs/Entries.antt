@@ -18,6 +18,10 @@ use Rattle.sequent.specs.Forms.{forms, entryOf}
 use Rattle.reply.specs.Spelled.{spelled, spellTree, spell}
 use Rattle.spell.specs.Spell.{unchangedRows, shownRows, definedRows, movesRows, witnessNode, entryRows}
 
+-- a number from lo on that is not lo itself
+pub past : (lo n : ℕ) → lo ≤ n → (n ≡ lo → ⊥) → lo < n
+past lo n h f = omega arith
+
 -- a number that is no form from 2 to 10 counts as form 1
 other-form : (n : ℕ) → (2 ≤ n → 10 < n) → (λ a b. written a) ≡ getD forms n (λ a b. written a)
 other-form zero h = refl

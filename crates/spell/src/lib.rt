@@ -1,9 +1,9 @@
 // 01, Sequents: an entry spelled out as rows 83. Each function gives the count of its rows, capped, and writes as many of them as there
 // is room for into the front of the buffer; with an empty buffer it only counts.
+use operators::Shape;
+use operators::find_operator;
 use reply::tags;
 use row::Row;
-use rule_references::Shape;
-use rule_references::find_operator;
 use scan::Query;
 use scan::find_row;
 use sequent::Entry;
@@ -25,7 +25,7 @@ ghost use Rattle.lists.specs.Choice.{pick};
 ghost use Rattle.table.specs.Rows.{rowsOf};
 ghost use Rattle.table.specs.Lookups.{isVariableNumber};
 ghost use Rattle.table.specs.Counts.{countsOf};
-ghost use Rattle.rule_references.specs.Operator.{meantShape};
+ghost use Rattle.operators.specs.Operator.{meantShape};
 ghost use Rattle.reply.specs.Spelled.{spelled, someValueNumber, someAfterValueNumber};
 ghost use Rattle.spell.specs.Operators.{literalNumber, identifierNumber, afterNumber, equalsNumber};
 ghost use Rattle.spell.specs.Spell.{capped, restStart, Spelled, leaf, nodeBy, operandRows, nodeOf, shownRows, definedRows, openingRows, guardRows, closingRows, unchangedRows, movesRows, witnessNode, entryRows};

@@ -7,7 +7,7 @@ use borrow.Author.Tests.{not-true, not-false}
 use Rattle.table.specs.Rows.{Rows, rowsOf, named}
 use Rattle.rules.specs.Sorts.{shapeOf}
 use Rattle.rules.specs.Rules.{goodColumns, goodTarget, rootAt, referenceOffends}
-use Rattle.rule_references.proofs.Found.{shape-found}
+use Rattle.operators.proofs.Found.{shape-found}
 use Rattle.rule_references.proofs.Parts.{node-part, root-part, no-part}
 use Rattle.rule_references.proofs.reference_offends.Statement.{statement}
 use Rattle.rule_references.proofs.reference_offends.Tie as tie

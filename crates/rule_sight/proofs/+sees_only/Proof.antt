@@ -10,10 +10,10 @@ use Rattle.table.specs.Rows.{rowsOf}
 use Rattle.table.specs.Lookups.{operandNode}
 use Rattle.machine.proofs.Described.{operand-falls}
 use Rattle.rules.specs.Sight.{mayMention, mayMentionAfter, seesOnly}
-use Rattle.rule_references.specs.declared.Shape.{Shape}
-use Rattle.rule_references.specs.declared.Shape.the-variants as shape
-use Rattle.rule_references.specs.Operator.{meantShape}
-use Rattle.rule_references.proofs.find_operator.Reads as find-operator-reads
+use Rattle.operators.specs.declared.Shape.{Shape}
+use Rattle.operators.specs.declared.Shape.the-variants as shape
+use Rattle.operators.specs.Operator.{meantShape}
+use Rattle.operators.proofs.find_operator.Reads as find-operator-reads
 use Rattle.table.proofs.node_field.Reads as node-field-reads
 use Rattle.table.proofs.operand.Reads as operand-reads
 use Rattle.rule_sight.proofs.Walk.{operand-seen, seesBy, sees-none, sees-found}

@@ -2,7 +2,7 @@
 use mathlib.Core.Path.{ap, sym, _∙_}
 use Rattle.table.specs.Rows.{rowsOf}
 use Rattle.rules.specs.Sorts.{shapeOf, operandCount}
-use Rattle.rule_references.proofs.Found.{shape-found, operands-found}
+use Rattle.operators.proofs.Found.{shape-found, operands-found}
 use Rattle.rule_sorts.proofs.Sorts.{operands-none, operands-one, operands-two}
 use borrow.Author.Needs.{needs}
 use Rattle.rule_sorts.proofs.good_operands.Statement.{statement}

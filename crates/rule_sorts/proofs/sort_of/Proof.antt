@@ -3,7 +3,7 @@ use mathlib.Core.Path.{ap, _∙_}
 use Rattle.table.specs.Rows.{rowsOf}
 use Rattle.machine.specs.Operator.{resultSort}
 use Rattle.rules.specs.Sorts.{shapeOf, namesIdentifier}
-use Rattle.rule_references.proofs.Found.{shape-found, sort-found}
+use Rattle.operators.proofs.Found.{shape-found, sort-found}
 use Rattle.rule_sorts.proofs.Sorts.{sort-when}
 use borrow.Author.Needs.{needs}
 use Rattle.rule_sorts.proofs.sort_of.Statement.{statement}

@@ -5,7 +5,7 @@ use lib.Dec.{ltb}
 use lib.ListN.{getD}
 use Rattle.table.specs.Rows.{rowsOf}
 use Rattle.rules.specs.Sorts.{shapeOf, operandCount}
-use Rattle.rule_references.proofs.Found.{shape-found}
+use Rattle.operators.proofs.Found.{shape-found}
 use Rattle.rule_sorts.specs.Uses.{usedIf, UsedTo}
 use Rattle.rule_sorts.proofs.Uses.{used-fit, left-fit, node-used, root-used}
 use borrow.Author.Needs.{needs}

@@ -1,7 +1,7 @@
 -- Each part that was read is the table's.
 use mathlib.Core.Path.{_∙_}
 use Rattle.table.specs.Rows.{rowsOf}
-use Rattle.rule_references.proofs.Found.{shape-found}
+use Rattle.operators.proofs.Found.{shape-found}
 use Rattle.spell.proofs.Nodes.{node-none, node-from}
 use borrow.Author.Needs.{needs}
 use Rattle.spell.proofs.node_at.Statement.{statement}

@@ -1,8 +1,7 @@
 -- By the form.
 use Rattle.table.specs.Rows.{rowsOf}
-use Rattle.rule_references.proofs.Found.{past}
 use Rattle.spell.proofs.Entries.{written-rows, primed-rows, defined-rows, moves-rows, feasible-rows, witnessed-rows, natural-rows, decreases-rows}
-use Rattle.spell.proofs.Entries.{not-increased-rows, unchanged-rows}
+use Rattle.spell.proofs.Entries.{not-increased-rows, unchanged-rows, past}
 use Rattle.spell.proofs.Written.{spelled-as}
 use borrow.Author.Needs.{needs}
 use Rattle.spell.proofs.spell.Statement.{statement}

@@ -3,9 +3,9 @@ use Prim.Native.Nat.{ℕ}
 use Rattle.machine.specs.Operator.{operandSort, resultSort}
 use Rattle.rules.specs.Sorts as sorts
 use Rattle.rules.specs.Sorts.{value, anIdentifier, aVariable, none, one, two, unknown, shapeOf}
-use Rattle.rule_references.specs.declared.Shape.{Shape}
-use Rattle.rule_references.specs.declared.Shape.the-variants as shape
-use Rattle.rule_references.specs.declared.Operator.{Operator}
+use Rattle.operators.specs.declared.Shape.{Shape}
+use Rattle.operators.specs.declared.Shape.the-variants as shape
+use Rattle.operators.specs.declared.Operator.{Operator}
 
 -- an operator's number, its columns, the sort of its operands and its own
 pub record Usage : Type 0 where
