@@ -10,26 +10,27 @@ use table::Table;
 use table::a_at;
 use table::b_at;
 use table::c_at;
-use table::identifier;
 use table::identifier_field;
 use table::node_field;
 use table::number_in;
-use table::operator;
 use table::size;
+use table::sort;
 use table::tag;
 use table::tag_at;
 ghost use mathlib.Core.Path.{_≡_};
 ghost use Prim.Native.Nat.{ℕ, _+_, _^_, _≤_, _<_};
 ghost use lib.ListN.{length, getD};
-ghost use Rattle.table.specs.Rows.{rowsOf};
+ghost use Rattle.table.specs.Names.{nodeTag};
+ghost use Rattle.table.specs.Rows.{rowsOf, tagged};
 ghost use Rattle.table.specs.Counts.{countsOf};
 ghost use Rattle.table.specs.Lookups.{mostRows, mostWords};
 ghost use mathlib.Core.Bool.{_||_};
 ghost use lib.Dec.{eqb};
+ghost use Rattle.machine.specs.Operator.{resultSort};
 ghost use Rattle.rules.specs.Sorts.{shapeOf, operandCount, sortOf};
 ghost use Rattle.rules.specs.Verdict.{firstRow};
 ghost use Rattle.rule_sorts.specs.Uses.{usedIf, UsedTo};
-ghost use Rattle.rule_sorts.specs.Walk.{firstBefore, ofPredicate};
+ghost use Rattle.rule_sorts.specs.Walk.{firstBefore};
 ghost use Rattle.lists.specs.Choice.{pick};
 ghost use Rattle.rules.specs.Rules.{goodOperands, rootSort, sortOffends, useOffends};
 
@@ -47,12 +48,12 @@ pub fn sort_of(words: &[u64], table: Table, n: u64) -> u64
     found.sort
 }
 
-// Whether an operand of this sort fits the wanted one, 0 for either type.
+// Whether an operand of this sort fits the wanted one: either type where both operands are to have the same.
 fn fits(wanted: u64, sort: u64) -> bool
     ensures { λ r. ⌜ r ≡ pick (eqb wanted 0) (eqb sort 1 || eqb sort 2) (eqb sort wanted) ⌝ }
 {
-    if wanted == 0 {
-        return (sort == identifier::INTEGER) | (sort == identifier::BOOLEAN);
+    if wanted == sort::SAME_TYPE {
+        return (sort == sort::INTEGER) | (sort == sort::BOOLEAN);
     }
     sort == wanted
 }
@@ -62,8 +63,7 @@ fn good_operands(words: &[u64], table: Table, i: usize) -> bool
     requires { ⌜ table ≡ countsOf (rowsOf (now words)) ⌝ }
     ensures { λ r. ⌜ r ≡ goodOperands (rowsOf (now (words .entry))) (operandCount (shapeOf (rowsOf (now (words .entry)) .a i))) i ⌝ }
 {
-    let number = a_at(words, i);
-    let found = find_operator(number);
+    let found = find_operator(a_at(words, i));
     let shape = found.shape;
     let wanted = found.operands;
     let count = operand_count(shape);
@@ -75,7 +75,7 @@ fn good_operands(words: &[u64], table: Table, i: usize) -> bool
         return fits(wanted, left);
     }
     let right = sort_of(words, table, c_at(words, i));
-    fits(wanted, left) & (fits(wanted, right) & (!(number == operator::EQUAL) | (left == right)))
+    fits(wanted, left) & (fits(wanted, right) & (!(wanted == sort::SAME_TYPE) | (left == right)))
 }
 
 // "Roots are predicates, but 51 takes the variable's type and 70 an integer."
@@ -88,9 +88,9 @@ fn root_sort(words: &[u64], table: Table, i: usize) -> u64
         return identifier_field(words, table, b_at(words, i), Table::TYPE);
     }
     if tag == tag::VARIANT {
-        return 1;
+        return sort::INTEGER;
     }
-    3
+    sort::PREDICATE
 }
 
 // Whether row i offends against check 8: a node by its operands, another row by its root.
@@ -107,15 +107,16 @@ fn sort_offends(words: &[u64], table: Table, i: usize) -> bool
     !(sort_of(words, table, root_at(words, i)) == root_sort(words, table, i))
 }
 
-// Whether row i is of a predicate: a node of an operator from 20 on, or a row whose root is a predicate.
-fn of_predicate(words: &[u64], i: usize) -> bool
-    ensures { λ r. ⌜ r ≡ ofPredicate (rowsOf (now (words .entry))) i ⌝ }
+// The sort of what row i holds: of a node the one that its operator makes, of another row the one that its root is to have.
+fn sort_at(words: &[u64], table: Table, i: usize) -> u64
+    requires { ⌜ table ≡ countsOf (rowsOf (now words)) ⌝ }
+    ensures { λ r. ⌜ r ≡ pick (tagged (rowsOf (now (words .entry))) nodeTag i) (resultSort (rowsOf (now (words .entry)) .a i)) (rootSort (rowsOf (now (words .entry))) i) ⌝ }
 {
-    let tag = tag_at(words, i);
-    if tag == tag::NODE {
-        return operator::EQUAL <= a_at(words, i);
+    if tag_at(words, i) == tag::NODE {
+        let found = find_operator(a_at(words, i));
+        return found.sort;
     }
-    !((tag == tag::BECOMES_EQUAL) | (tag == tag::VARIANT))
+    root_sort(words, table, i)
 }
 
 // The row where it offends, else the one found before.
@@ -135,7 +136,7 @@ fn first_expression(words: &[u64], table: Table, i: usize, found: usize) -> usiz
         return found;
     }
     let row = i - 1;
-    if of_predicate(words, row) {
+    if sort_at(words, table, row) == sort::PREDICATE {
         return first_predicate(words, table, i, found);
     }
     first_expression(

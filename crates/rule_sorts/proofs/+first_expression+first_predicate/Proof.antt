@@ -18,7 +18,7 @@ use Rattle.rule_sorts.proofs.first_predicate.Reads as first-predicate
 use Rattle.rule_sorts.proofs.first_predicate.Kinds as first-predicate-kinds
 use Rattle.rule_sorts.proofs.+first_expression+first_predicate.Lts-first_predicate as first-predicate-lts
 use Rattle.rule_sorts.proofs.fault_or.Reads as fault-or-reads
-use Rattle.rule_sorts.proofs.of_predicate.Reads as of-predicate-reads
+use Rattle.rule_sorts.proofs.sort_at.Reads as sort-at-reads
 use Rattle.rule_sorts.proofs.sort_offends.Reads as sort-offends-reads
 use Rattle.rule_sorts.proofs.+first_expression+first_predicate.{statement}
 use Rattle.rule_sorts.proofs.+first_expression+first_predicate.Tie.{close}
@@ -64,8 +64,8 @@ first-predicate-below t =
 pub +first-expression+first-predicate-spec : {M : Type 1} → statement M
 +first-expression+first-predicate-spec =
     close μ-first-expression μ-first-predicate (λ t. first-expression-lts.spec (
-      of-predicate-reads.Asked,
-      of-predicate-reads.Learnt,
+      sort-at-reads.Asked,
+      sort-at-reads.Learnt,
       first-predicate-below t,
       first-predicate.Post,
       sort-offends-reads.Asked,

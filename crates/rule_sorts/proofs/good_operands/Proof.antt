@@ -42,4 +42,4 @@ good-operands-spec = tie.close (tie.spec
       operands-found (o .find-operator .result) (n .a-at .result) (o .find-operator .ensures),
       n .a-at .ensures,
     )
-    (operands-two t (operandCount (shapeOf (t .a (a .i)))) (a .i) (λ e. left .before .before .if1 .left (count ∙ e)) (λ e. more .if2 .left (count ∙ e)))))
+    (operands-two t (a .i) (λ e. left .before .before .if1 .left (count ∙ e)) (λ e. more .if2 .left (count ∙ e)))))
