@@ -1,7 +1,9 @@
-// 01, Rows: the sorts of formulas. Integer and boolean have the numbers of types.
-pub const INTEGER: u64 = 1;
+// 01, Rows: the sorts of formulas, integer and boolean by the numbers of the types.
+use crate::identifier;
 
-pub const BOOLEAN: u64 = 2;
+pub const INTEGER: u64 = identifier::INTEGER;
+
+pub const BOOLEAN: u64 = identifier::BOOLEAN;
 
 pub const PREDICATE: u64 = 3;
 
