@@ -7,6 +7,9 @@ use Rattle.machine.specs.Operator.{Numbered, operators, rowNumbered, operatorNu
 use Rattle.rules.specs.Sorts.{Shape, shape, shapeOf}
 use Rattle.operators.specs.declared.Operator.{Operator}
 use Rattle.operators.specs.declared.Shape as held
+use Rattle.operators.specs.declared.Condition.{Condition}
+use Rattle.operators.specs.declared.Condition.the-variants.{Nothing}
+use Rattle.operators.specs.Condition.{conditionOf}
 use Rattle.operators.specs.Operator.{Usage, usageOf, meant, meantShape}
 
 abbrev usage : Shape → ℕ → ℕ → ℕ → Usage
@@ -46,6 +49,15 @@ row-other n (o ∷ os) arms h =
 pub found-other : {made : Operator} {n : ℕ} → made ≡ record { number = n; shape = held.the-variants.Unknown; operands = 0; sort = 0 }
     → Other n operators Unit → meant made ≡ usageOf n
 found-other {n} made h = ap meant made ∙ ap (λ row. rowUsage row n) (row-other n operators Unit h) ∙ tabled-used n
+
+-- the condition by a row of the table, and by none
+pub condition-at : (k : ℕ) {n : ℕ} {made : Condition} → n ≡ k → made ≡ conditionOf (rowNumbered operators k .operator) → made ≡ conditionOf (operatorNumbered n)
+unfolding operatorNumbered
+condition-at k e row = row ∙ ap (λ n. conditionOf (rowNumbered operators n .operator)) (sym e)
+
+pub condition-other : {n : ℕ} → Other n operators Unit → Nothing ≡ conditionOf (operatorNumbered n)
+unfolding operatorNumbered
+condition-other {n} h = ap (λ row. conditionOf (row .operator)) (row-other n operators Unit h)
 
 module _ (o : Operator) (n : ℕ) (e : meant o ≡ usageOf n) where
   pub shape-found : meantShape (o .shape) ≡ shapeOf n

@@ -34,7 +34,7 @@ constantIs FALSE n = eqb 5 n
 constantIs top n = eqb 30 n
 constantIs bottom n = eqb 31 n
 
-abbrev pub numberIs : Operator → ℕ → Bool
+abbrev numberIs : Operator → ℕ → Bool
 numberIs literalOf n = eqb 1 n
 numberIs identifierOf n = true
 numberIs afterOf n = eqb 3 n
@@ -45,7 +45,7 @@ numberIs (divisionOf o) n = eqb (divisionNumber o) n
 numberIs (connectiveOf o) n = eqb (connectiveNumber o) n
 numberIs meaning.unknown n = true
 
-pub operator-numbered : (n : ℕ) → T (numberIs (operatorNumbered n) n)
+operator-numbered : (n : ℕ) → T (numberIs (operatorNumbered n) n)
 unfolding operatorNumbered
 operator-numbered n = numbered-passes (λ o. o .operator) numberIs (λ n. tt) tt n
 
@@ -59,7 +59,7 @@ abbrev rowsBy : Node → List Row → List Row → List Row
 rowsBy d l r = spelled (d .operator) (d .b) ∷ operandRows (d .operands) l r
 
 -- what depends only on the operands that a node has
-pub operands-same : (s : Shape) (o : ℕ) (primed : Bool) (b x y : ℕ) (f : ℕ → ℕ → ℕ → List Row)
+operands-same : (s : Shape) (o : ℕ) (primed : Bool) (b x y : ℕ) (f : ℕ → ℕ → ℕ → List Row)
     → ((x y x′ y′ : ℕ) → f 0 x y ≡ f 0 x′ y′) → ((x y y′ : ℕ) → f 1 x y ≡ f 1 x y′)
     → f (nodeBy s o primed b x y .operands) x y ≡ f (nodeBy s o primed b x y .operands) (nodeBy s o primed b x y .left) (nodeBy s o primed b x y .right)
 operands-same value o primed b x y f g h = g x y 0 0

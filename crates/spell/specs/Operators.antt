@@ -1,7 +1,7 @@
 -- 01, Rows: the operators that well-definedness and the forms of entries add to a formula, by name.
 use Prim.Native.Nat.{ℕ}
-use Rattle.formula.specs.Tree.{equal, logicalNot, quotient, remainder, and, or, implies}
-use Rattle.reply.specs.Spelled.{unaryNumber, binaryNumber, divisionNumber, connectiveNumber}
+use Rattle.formula.specs.Tree.{equal, logicalNot, and, or, implies}
+use Rattle.reply.specs.Spelled.{unaryNumber, binaryNumber, connectiveNumber}
 
 abbrev pub literalNumber : ℕ
 literalNumber = 1
@@ -11,12 +11,6 @@ identifierNumber = 2
 
 abbrev pub afterNumber : ℕ
 afterNumber = 3
-
-abbrev pub quotientNumber : ℕ
-quotientNumber = divisionNumber quotient
-
-abbrev pub remainderNumber : ℕ
-remainderNumber = divisionNumber remainder
 
 abbrev pub equalsNumber : ℕ
 equalsNumber = binaryNumber equal

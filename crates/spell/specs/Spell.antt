@@ -2,7 +2,7 @@
 -- the buffer."
 use Prim.Native.Nat.{ℕ, zero, suc, _*_, _/_, _≤_, _^_}
 use mathlib.Core.Path.{_≡_}
-use mathlib.Core.Bool.{Bool, _&&_, _||_}
+use mathlib.Core.Bool.{Bool, true, false, _&&_}
 use mathlib.Core.List.{List, [], _∷_, _++_}
 use lib.Dec.{eqb, ltb}
 use lib.ListN.{length, take}
@@ -15,15 +15,19 @@ use Rattle.formula.specs.AfterValues.{atAfter}
 use Rattle.formula.specs.WellDefined.{wellDefined}
 use Rattle.table.specs.Rows.{Rows, operatorOf, leftOf, rightOf}
 use Rattle.table.specs.Lookups.{isVariableNumber, operandNode}
+use Rattle.machine.specs.Operator.{operatorNumbered}
 use Rattle.machine.specs.Described.{treeOf, machineOf}
 use Rattle.sequent.specs.declared.Entry.{Entry as Numbers}
 use Rattle.sequent.specs.Entry.{variable, actionTree, witnessRoot, formula}
 use Rattle.sequent.specs.Forms.{entryOf}
 use Rattle.rules.specs.Sorts.{Shape, value, anIdentifier, aVariable, none, one, two, unknown, shapeOf}
+use Rattle.operators.specs.declared.Condition.{Condition}
+use Rattle.operators.specs.declared.Condition.the-variants.{Nothing, Divisor, LeftTrue, LeftFalse}
+use Rattle.operators.specs.Condition.{conditionOf}
 use Rattle.reply.specs.Printed.{rowsBytes}
 use Rattle.reply.specs.Spelled.{spelled, spellTree, spell}
 use Rattle.spell.specs.declared.Node.{Node}
-use Rattle.spell.specs.Operators.{literalNumber, identifierNumber, afterNumber, quotientNumber, remainderNumber, equalsNumber, bottomNumber}
+use Rattle.spell.specs.Operators.{literalNumber, identifierNumber, afterNumber, equalsNumber, bottomNumber}
 use Rattle.spell.specs.Operators.{notNumber, andNumber, orNumber, impliesNumber}
 
 -- refusal 15, room: a count above every buffer's room is as good as the cap, since a buffer has fewer than 2^64 bytes
@@ -68,16 +72,31 @@ operandRows (suc (suc k)) l r = l ++ r
 
 -- 01, Well-definedness, of a pair in prefix order: the rows before WD(a), those between it and WD(b), given a's, and those after it, given b's
 -- "÷ and mod"
+abbrev pub isDivisor : Condition → Bool
+isDivisor Nothing = false
+isDivisor Divisor = true
+isDivisor LeftTrue = false
+isDivisor LeftFalse = false
+
 abbrev pub divides : ℕ → Bool
-divides operator = eqb operator quotientNumber || eqb operator remainderNumber
+divides operator = isDivisor (conditionOf (operatorNumbered operator))
 
 -- "Other pairs: WD(a) ∧ WD(b), but ÷ and mod: (WD(a) ∧ WD(b)) ∧ ¬(b = 0)": one ∧, or two
 unfoldable pub openingRows : ℕ → List Row
 openingRows operator = pick (divides operator) (spelled andNumber 0 ∷ spelled andNumber 0 ∷ []) (spelled andNumber 0 ∷ [])
 
--- "P ∧ Q and P ⇒ Q: WD(P) ∧ (P ⇒ WD(Q)); P ∨ Q: WD(P) ∧ (P ∨ WD(Q))"
+-- "P ∧ Q and P ⇒ Q: WD(P) ∧ (P ⇒ WD(Q)); P ∨ Q: WD(P) ∧ (P ∨ WD(Q))": what P stands under before WD(Q), or 0
+abbrev pub guardOf : Condition → ℕ
+guardOf Nothing = 0
+guardOf Divisor = 0
+guardOf LeftTrue = impliesNumber
+guardOf LeftFalse = orNumber
+
+abbrev pub guardNumber : ℕ → ℕ
+guardNumber operator = guardOf (conditionOf (operatorNumbered operator))
+
 unfoldable pub guardRows : ℕ → List Row → List Row
-guardRows operator left = pick (eqb operator andNumber || eqb operator impliesNumber) (spelled impliesNumber 0 ∷ left) (pick (eqb operator orNumber) (spelled orNumber 0 ∷ left) [])
+guardRows operator left = pick (eqb (guardNumber operator) 0) [] (spelled (guardNumber operator) 0 ∷ left)
 
 -- "¬(b = 0)" of ÷ and mod
 unfoldable pub closingRows : ℕ → List Row → List Row

@@ -1,6 +1,8 @@
 // 01, Sequents: an entry spelled out as rows 83. Each function gives the count of its rows, capped, and writes as many of them as there
 // is room for into the front of the buffer; with an empty buffer it only counts.
+use operators::Condition;
 use operators::Shape;
+use operators::find_condition;
 use operators::find_operator;
 use reply::tags;
 use row::Row;
@@ -15,6 +17,7 @@ use table::node_field;
 use table::operand;
 use table::operator;
 use table::size;
+use table::sort;
 use table::tag;
 use table::tag_at;
 ghost use mathlib.Core.Path.{_≡_};
@@ -28,7 +31,7 @@ ghost use Rattle.table.specs.Counts.{countsOf};
 ghost use Rattle.operators.specs.Operator.{meantShape};
 ghost use Rattle.reply.specs.Spelled.{spelled, someValueNumber, someAfterValueNumber};
 ghost use Rattle.spell.specs.Operators.{literalNumber, identifierNumber, afterNumber, equalsNumber};
-ghost use Rattle.spell.specs.Spell.{capped, restStart, Spelled, leaf, nodeBy, operandRows, nodeOf, shownRows, definedRows, openingRows, guardRows, closingRows, unchangedRows, movesRows, witnessNode, entryRows};
+ghost use Rattle.spell.specs.Spell.{capped, restStart, Spelled, leaf, nodeBy, operandRows, nodeOf, shownRows, definedRows, divides, guardNumber, openingRows, guardRows, closingRows, unchangedRows, movesRows, witnessNode, entryRows};
 
 // More rows than any buffer has room for.
 const ROWS_CAP: u64 = 1152921504606846976;
@@ -158,7 +161,8 @@ pub fn spell_expression(words: &[u64], table: Table, n: u64, primed: bool, out: 
     ensures { λ r. ⌜ Spelled (shownRows (rowsOf (now (words .entry))) primed n) r (now (out .entry)) (now (out .exit)) ⌝ }
 {
     let node = node_at(words, table, n, primed);
-    if operator::NEGATION < node.operator {
+    let found = find_operator(node.operator);
+    if found.sort == sort::PREDICATE {
         return spell_predicate(words, table, n, primed, out);
     }
     let head = row_83(out, node.operator, node.b);
@@ -215,12 +219,38 @@ fn spell_under(
     add_rows(head, tree)
 }
 
+// Whether the WD of an operator's nodes has ¬(b = 0).
+fn divides(operator: u64) -> bool
+    ensures { λ r. ⌜ r ≡ divides operator ⌝ }
+{
+    let condition = find_condition(operator);
+    match condition {
+        Condition::Nothing => false,
+        Condition::Divisor => true,
+        Condition::LeftTrue => false,
+        Condition::LeftFalse => false,
+    }
+}
+
+// The operator under which P stands again before WD(Q); 0 where it doesn't.
+fn guard_operator(operator: u64) -> u64
+    ensures { λ r. ⌜ r ≡ guardNumber operator ⌝ }
+{
+    let condition = find_condition(operator);
+    match condition {
+        Condition::Nothing => 0,
+        Condition::Divisor => 0,
+        Condition::LeftTrue => operator::IMPLIES,
+        Condition::LeftFalse => operator::OR,
+    }
+}
+
 // What stands before WD(a) in the WD of a pair: ∧, and one more for ÷ and mod.
 fn spell_opening(operator: u64, out: &mut [u8]) -> u64
     ensures { λ r. ⌜ Spelled (openingRows operator) r (now (out .entry)) (now (out .exit)) ⌝ }
 {
     let head = row_83(out, operator::AND, 0);
-    if (operator == operator::QUOTIENT) | (operator == operator::REMAINDER) {
+    if divides(operator) {
         let at = rest_start(out.len(), head);
         let second = row_83(&mut out[at..], operator::AND, 0);
         return add_rows(head, second);
@@ -233,13 +263,11 @@ fn spell_guard(words: &[u64], table: Table, operator: u64, left: u64, out: &mut 
     requires { ⌜ table ≡ countsOf (rowsOf (now words)) ⌝ }
     ensures { λ r. ⌜ Spelled (guardRows operator (shownRows (rowsOf (now (words .entry))) false left)) r (now (out .entry)) (now (out .exit)) ⌝ }
 {
-    if (operator == operator::AND) | (operator == operator::IMPLIES) {
-        return spell_under(words, table, operator::IMPLIES, 0, left, false, out);
+    let guard = guard_operator(operator);
+    if guard == 0 {
+        return 0;
     }
-    if operator == operator::OR {
-        return spell_under(words, table, operator::OR, 0, left, false, out);
-    }
-    0
+    spell_under(words, table, guard, 0, left, false, out)
 }
 
 // The equation of node n and the literal 0.
@@ -258,7 +286,7 @@ fn spell_closing(words: &[u64], table: Table, operator: u64, right: u64, out: &m
     requires { ⌜ table ≡ countsOf (rowsOf (now words)) ⌝ }
     ensures { λ r. ⌜ Spelled (closingRows operator (shownRows (rowsOf (now (words .entry))) false right)) r (now (out .entry)) (now (out .exit)) ⌝ }
 {
-    if (operator == operator::QUOTIENT) | (operator == operator::REMAINDER) {
+    if divides(operator) {
         let head = row_83(out, operator::NOT, 0);
         let equal_at = rest_start(out.len(), head);
         let equal = spell_equals_zero(words, table, right, &mut out[equal_at..]);

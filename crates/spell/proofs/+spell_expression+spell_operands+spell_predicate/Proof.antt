@@ -19,6 +19,7 @@ use Rattle.spell.proofs.+spell_expression+spell_operands+spell_predicat
 use Rattle.spell.proofs.spell_predicate.Reads as spell-predicate
 use Rattle.spell.proofs.spell_predicate.Kinds as spell-predicate-kinds
 use Rattle.spell.proofs.+spell_expression+spell_operands+spell_predicate.Lts-spell_predicate as spell-predicate-lts
+use Rattle.operators.proofs.find_operator.Reads as find-operator-reads
 use Rattle.spell.proofs.add_rows.Reads as add-rows-reads
 use Rattle.spell.proofs.node_at.Reads as node-at-reads
 use Rattle.spell.proofs.rest_start.Reads as rest-start-reads
@@ -58,6 +59,8 @@ pub +spell-expression+spell-operands+spell-predicate-spec : {M : Type 1} → sta
     close μ-spell-expression μ-spell-operands μ-spell-predicate (λ t. spell-expression-lts.spec (
       node-at-reads.Asked,
       node-at-reads.Learnt,
+      find-operator-reads.Asked,
+      find-operator-reads.Learnt,
       spell-predicate-below t,
       spell-predicate.Post,
       row-83-reads.Asked,
@@ -73,6 +76,7 @@ pub +spell-expression+spell-operands+spell-predicate-spec : {M : Type 1} → sta
     spell-expression.Post
     (λ c κs. search needs)
     (λ c κs. search needs)
+    (λ c κs. search needs)
     (λ c. search needs)
     (λ c. search needs)
     (λ c κs. search needs)
@@ -80,7 +84,7 @@ pub +spell-expression+spell-operands+spell-predicate-spec : {M : Type 1} → sta
     (λ c. search needs)
     (λ c. search needs)
     (λ c. search needs)
-    (λ c κs. let k = c .before .before .before .before .before .before .before .before in
+    (λ c κs. let k = c .before .before .before .before .before .before .before .before .before in
     let s = k .before .before .before in
     let a = s .args in
     (omega (arith, above-falls (rowsOf (a .words .now)) (a .primed) (a .n) (k .node-at .result) (k .node-at .ensures), s .pre .0), s .pre .1))
@@ -89,7 +93,7 @@ pub +spell-expression+spell-operands+spell-predicate-spec : {M : Type 1} → sta
     (λ c. let o = c .before .before .before in
     let r = o .before .before in
     let h = r .before .before .before in
-    let k = h .before .before .before .before in
+    let k = h .before .before .before .before .before in
     let s = k .before .before .before in
     let a = s .args in
     spelled-as (shown-read (rowsOf (a .words .now)) (a .primed) (a .n) (k .node-at .result) (k .node-at .ensures))
