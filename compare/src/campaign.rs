@@ -1,10 +1,11 @@
-//! Compares an implementation with this one over the tables of many seeds.
+//! Compares an implementation with this one over many tables: those of seeds, or a list.
 
 use crate::against::{Call, Comparison, Difference, Effort, Outcome, Services};
 use crate::generate;
 use crate::generate::random::Random;
 use crate::rows::ROW_BYTES;
 use crate::shrink::{rows_of, shrink};
+use std::ops::Range;
 use std::panic::{catch_unwind, AssertUnwindSafe};
 use std::sync::atomic::{AtomicBool, AtomicU64, Ordering};
 use std::sync::Mutex;
@@ -36,22 +37,70 @@ pub struct Summary {
 /// A table with a difference, and the smallest one made from it.
 #[derive(Clone, Debug)]
 pub struct Found {
-    pub seed: u64,
+    /// What the number is.
+    pub word: &'static str,
+    pub number: u64,
     pub rows: usize,
     pub table: Vec<u8>,
     pub difference: Difference,
 }
 
-/// The seeds still to be taken. All threads stop after a difference or a panic.
+/// Tables by number, and how many calls to make with each.
+trait Tables: Sync {
+    /// What a number is.
+    fn word(&self) -> &'static str;
+    fn table(&self, number: u64) -> Vec<u8>;
+    fn effort(&self, table: &[u8]) -> Effort;
+}
+
+/// The tables of seeds, the fewer calls the larger they are.
+struct Seeds;
+
+impl Tables for Seeds {
+    fn word(&self) -> &'static str {
+        "seed"
+    }
+
+    fn table(&self, seed: u64) -> Vec<u8> {
+        generate::table(seed)
+    }
+
+    fn effort(&self, table: &[u8]) -> Effort {
+        match table.len() {
+            0..=SMALL => Effort::All,
+            LARGE.. => Effort::Few,
+            _ => Effort::Some,
+        }
+    }
+}
+
+/// Tables counted from 0, with calls for every sequent and entry.
+struct List<'a>(&'a [Vec<u8>]);
+
+impl Tables for List<'_> {
+    fn word(&self) -> &'static str {
+        "table"
+    }
+
+    fn table(&self, number: u64) -> Vec<u8> {
+        self.0[number as usize].clone()
+    }
+
+    fn effort(&self, _: &[u8]) -> Effort {
+        Effort::Every
+    }
+}
+
+/// The numbers still to be taken. All threads stop after a difference or a panic.
 struct Work<'a> {
     services: &'a dyn Services,
+    tables: &'a dyn Tables,
     next: AtomicU64,
     end: u64,
     stop: AtomicBool,
 }
 
-/// Compares the tables of so many seeds from the first on. Stops at a difference, made smaller.
-/// The error names a seed at which making the table or calling the services panicked.
+/// Compares the tables of so many seeds from the first on, as below.
 pub fn compare(
     services: &dyn Services,
     first: u64,
@@ -59,17 +108,42 @@ pub fn compare(
     threads: usize,
     progress: bool,
 ) -> Result<(Summary, Option<Found>), String> {
+    let seeds = first..first + count;
+    compare_tables(services, &Seeds, seeds, threads, progress)
+}
+
+/// Compares all tables of a list, as below.
+pub fn compare_list(
+    services: &dyn Services,
+    list: &[Vec<u8>],
+    threads: usize,
+) -> Result<(Summary, Option<Found>), String> {
+    let numbers = 0..list.len() as u64;
+    compare_tables(services, &List(list), numbers, threads, true)
+}
+
+/// Compares the tables with these numbers. Stops at a difference, made smaller.
+/// The error names a number at which making the table or calling the services panicked.
+fn compare_tables(
+    services: &dyn Services,
+    tables: &dyn Tables,
+    numbers: Range<u64>,
+    threads: usize,
+    progress: bool,
+) -> Result<(Summary, Option<Found>), String> {
+    let first = numbers.start;
     let work = Work {
         services,
+        tables,
         next: AtomicU64::new(first),
-        end: first + count,
+        end: numbers.end,
         stop: AtomicBool::new(false),
     };
     let all = Mutex::new(Vec::new());
     thread::scope(|scope| {
         for _ in 0..threads {
             scope.spawn(|| {
-                let taken = take_seeds(&work);
+                let taken = take_numbers(&work);
                 let mut all = all.lock().expect("no thread panics while it holds this");
                 all.push(taken);
             });
@@ -84,21 +158,21 @@ pub fn compare(
         summary.add(&counted);
         found.extend(one);
     }
-    found.sort_by_key(|one: &Found| one.seed);
+    found.sort_by_key(|one: &Found| one.number);
     let found = found.into_iter().next();
     Ok((summary, found.map(|one| smaller(services, one))))
 }
 
-/// Takes one seed after another, until there are none or any thread stops.
-fn take_seeds(work: &Work) -> Result<(Summary, Option<Found>), String> {
+/// Takes one number after another, until there are none or any thread stops.
+fn take_numbers(work: &Work) -> Result<(Summary, Option<Found>), String> {
     let mut summary = Summary::default();
     loop {
-        let seed = work.next.fetch_add(1, Ordering::Relaxed);
-        if seed >= work.end || work.stop.load(Ordering::Relaxed) {
+        let number = work.next.fetch_add(1, Ordering::Relaxed);
+        if number >= work.end || work.stop.load(Ordering::Relaxed) {
             return Ok((summary, None));
         }
         // What a panic leaves half done in the summary isn't used.
-        let taken = catch_unwind(AssertUnwindSafe(|| take_seed(work, seed, &mut summary)));
+        let taken = catch_unwind(AssertUnwindSafe(|| take_number(work, number, &mut summary)));
         match taken {
             Ok(None) => {}
             Ok(found) => {
@@ -107,33 +181,28 @@ fn take_seeds(work: &Work) -> Result<(Summary, Option<Found>), String> {
             }
             Err(_) => {
                 work.stop.store(true, Ordering::Relaxed);
-                return Err(format!("a panic at seed {seed} ends the comparison"));
+                let word = work.tables.word();
+                return Err(format!("a panic at {word} {number} ends the comparison"));
             }
         }
     }
 }
 
-/// Compares the table of one seed.
-fn take_seed(work: &Work, seed: u64, summary: &mut Summary) -> Option<Found> {
-    let table = generate::table(seed);
-    let comparison = compare_table(work.services, &table, seed);
+/// Compares the table with one number.
+fn take_number(work: &Work, number: u64, summary: &mut Summary) -> Option<Found> {
+    let table = work.tables.table(number);
+    let effort = work.tables.effort(&table);
+    let mut random = Random::new(!number);
+    let comparison = Comparison::new(work.services, &table).run(effort, &mut random);
     summary.count(&comparison);
     let difference = comparison.difference?;
     Some(Found {
-        seed,
+        word: work.tables.word(),
+        number,
         rows: table.len() / ROW_BYTES,
         table,
         difference,
     })
-}
-
-fn compare_table<'a>(services: &'a dyn Services, table: &'a [u8], seed: u64) -> Comparison<'a> {
-    let effort = match table.len() {
-        0..=SMALL => Effort::All,
-        LARGE.. => Effort::Few,
-        _ => Effort::Some,
-    };
-    Comparison::new(services, table).run(effort, &mut Random::new(!seed))
 }
 
 /// Makes the table smaller as long as some call differs.
@@ -154,7 +223,7 @@ fn smaller(services: &dyn Services, mut found: Found) -> Found {
     found
 }
 
-/// Writes a line now and then, until all seeds are taken or the threads stop.
+/// Writes a line now and then, until all numbers are taken or the threads stop.
 fn show_progress(work: &Work, first: u64) {
     let start = Instant::now();
     let mut shown = start;
@@ -220,8 +289,9 @@ impl Found {
             ..
         } = &self.difference;
         let mut text = format!(
-            "DIFFERENCE at seed {}, a table of {} rows\n{}\n",
-            self.seed,
+            "DIFFERENCE at {} {}, a table of {} rows\n{}\n",
+            self.word,
+            self.number,
             self.rows,
             shown_call(*call)
         );

@@ -39,7 +39,7 @@ pub enum Columns {
 }
 
 /// What a node makes.
-#[derive(Clone, Copy, Debug, PartialEq, Eq)]
+#[derive(Clone, Copy, Debug, PartialEq, Eq, PartialOrd, Ord)]
 pub enum Sort {
     Integer,
     Boolean,

@@ -10,6 +10,7 @@ pub mod formula;
 pub mod generate;
 #[cfg(library)]
 pub mod library;
+pub mod operators;
 pub mod program;
 pub mod refute;
 pub mod rows;

@@ -3,9 +3,11 @@
 use compare::against::Services;
 use compare::bench;
 use compare::by_sequent::hold;
-use compare::campaign;
+use compare::campaign::{self, Found, Summary};
 use compare::checks::{accept, Refusal};
 use compare::generate;
+use compare::operators::family;
+use compare::operators::wanted::{missing, wanted};
 use compare::program::{self, Program};
 use compare::refute;
 use compare::rows::{bytes_of, layout, Row};
@@ -20,7 +22,7 @@ use std::process::ExitCode;
 
 const USAGE: &str =
     "use: compare print | sequent K | entry K J | layout | refute LOW HIGH | table SEED
-     | statistics SEEDS [FIRST] | against-library TABLES [FIRST]
+     | statistics SEEDS [FIRST] | against-library TABLES [FIRST] | operators
      | against-program PROGRAM TABLES [FIRST] | by-sequent PROGRAM [FILE..]
      | bench [PROGRAM] | bench-table NAME | stack";
 
@@ -74,6 +76,7 @@ fn compared(words: &[&str]) -> Result<Vec<u8>, String> {
     match words {
         ["against-library", count] => against_library(number(count)?, 0),
         ["against-library", count, first] => against_library(number(count)?, number(first)?),
+        ["operators"] => operators(),
         ["against-program", program, count] => against_program(program, number(count)?, 0),
         ["against-program", program, count, first] => {
             against_program(program, number(count)?, number(first)?)
@@ -108,8 +111,32 @@ fn linked() -> Result<&'static dyn Services, String> {
 
 /// Compares the proved library with this program on the tables of so many seeds.
 fn against_library(count: u64, first: u64) -> Result<Vec<u8>, String> {
-    let threads = std::thread::available_parallelism().map_or(1, |threads| threads.get());
-    let (summary, found) = campaign::compare(linked()?, first, count, threads, true)?;
+    let compared = campaign::compare(linked()?, first, count, threads(), true)?;
+    reported(compared)
+}
+
+/// Compares the proved library with this program on the tables of operators, which must show all that is asked of them.
+fn operators() -> Result<Vec<u8>, String> {
+    let (services, tables) = (linked()?, family());
+    let missing = missing(&tables);
+    if !missing.is_empty() {
+        let lines = missing
+            .iter()
+            .map(|case| format!("no table shows {case:?}\n"));
+        return Err(lines.collect());
+    }
+    let same = reported(campaign::compare_list(services, &tables, threads())?)?;
+    let asked = wanted().len();
+    let shown = format!("{asked} cases of operators, each shown by some table\n");
+    Ok([shown.into_bytes(), same].concat())
+}
+
+fn threads() -> usize {
+    std::thread::available_parallelism().map_or(1, |threads| threads.get())
+}
+
+/// The counts, and the difference as an error.
+fn reported((summary, found): (Summary, Option<Found>)) -> Result<Vec<u8>, String> {
     match found {
         None => Ok((summary.report() + "no difference\n").into_bytes()),
         Some(found) => Err(summary.report() + &found.report()),

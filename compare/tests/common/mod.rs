@@ -5,6 +5,7 @@ use compare::against::{Call, Reply, Services};
 use compare::checks::Refusal;
 use compare::rows::{bytes_of, layout, Row};
 use compare::services::{check, spell_entry, write_sequent};
+use compare::shrink::rows_of;
 
 /// The bytes of a table in readable text.
 pub fn table(text: &str) -> Vec<u8> {
@@ -108,3 +109,14 @@ pub const RICH: &str = "
     60 3 3 37; 60 3 6 40; 60 4 6 43; 60 4 4 46; 60 4 3 47           # rows 72 to 76
     70 48 0 0 # row 77
 ";
+
+/// Operators 1 to 36 of the paper.
+pub const OPERATORS: [i32; 22] = [
+    1, 2, 3, 4, 5, 6, 10, 11, 12, 13, 14, 15, 20, 21, 22, 30, 31, 32, 33, 34, 35, 36,
+];
+
+/// Whether a node of the table has this operator.
+pub fn has(table: &[u8], operator: i32) -> bool {
+    let rows = rows_of(table).expect("rows");
+    rows.iter().any(|row| row.tag == 20 && row.a == operator)
+}
