@@ -40,7 +40,7 @@ other-arms : (n : ℕ) (os : List Numbered) (arms : Type 0) → Other n os arms 
 other-arms n [] arms h = h
 other-arms n (o ∷ os) arms h = other-arms n os (arms × (n ≡ o .number → ⊥)) h .0
 
-pub row-other : (n : ℕ) (os : List Numbered) (arms : Type 0) → Other n os arms → rowNumbered [] n ≡ rowNumbered os n
+row-other : (n : ℕ) (os : List Numbered) (arms : Type 0) → Other n os arms → rowNumbered [] n ≡ rowNumbered os n
 row-other n [] arms h = refl
 row-other n (o ∷ os) arms h =
     let more = arms × (n ≡ o .number → ⊥) in

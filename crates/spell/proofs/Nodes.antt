@@ -1,7 +1,7 @@
 -- A node's tree, as written or with its variables at their after values, is spelled by its row and the rows of its operands: by the case of its operator, whose
 -- number the row shows. Its operands have smaller numbers.
 use Prim.Native.Nat.{ℕ, zero, suc, _-_, _≤_, _<_, max}
-use mathlib.Core.Path.{_≡_, refl, sym, ap, ap₂, _∙_, subst}
+use mathlib.Core.Path.{_≡_, refl, sym, ap, _∙_, subst}
 use mathlib.Core.Bool.{Bool, true, false, _&&_}
 use mathlib.Core.List.{List, [], _∷_, _++_}
 use native.Mathlib.Omega.{arith}
@@ -58,17 +58,17 @@ operands-two (suc (suc k)) l r f g = refl
 abbrev rowsBy : Node → List Row → List Row → List Row
 rowsBy d l r = spelled (d .operator) (d .b) ∷ operandRows (d .operands) l r
 
--- what depends only on the operands that a node has
-operands-same : (s : Shape) (o : ℕ) (primed : Bool) (b x y : ℕ) (f : ℕ → ℕ → ℕ → List Row)
-    → ((x y x′ y′ : ℕ) → f 0 x y ≡ f 0 x′ y′) → ((x y y′ : ℕ) → f 1 x y ≡ f 1 x y′)
-    → f (nodeBy s o primed b x y .operands) x y ≡ f (nodeBy s o primed b x y .operands) (nodeBy s o primed b x y .left) (nodeBy s o primed b x y .right)
-operands-same value o primed b x y f g h = g x y 0 0
-operands-same anIdentifier o primed b x y f g h = g x y 0 0
-operands-same aVariable o primed b x y f g h = g x y 0 0
-operands-same none o primed b x y f g h = g x y 0 0
-operands-same one o primed b x y f g h = h x y 0
-operands-same two o primed b x y f g h = refl
-operands-same unknown o primed b x y f g h = g x y 0 0
+-- the rows of as many operands as a node has
+operands-same : (s : Shape) (o : ℕ) (primed : Bool) (b x y : ℕ) (rows : ℕ → List Row)
+    → operandRows (nodeBy s o primed b x y .operands) (rows x) (rows y)
+    ≡ operandRows (nodeBy s o primed b x y .operands) (rows (nodeBy s o primed b x y .left)) (rows (nodeBy s o primed b x y .right))
+operands-same value o primed b x y rows = refl
+operands-same anIdentifier o primed b x y rows = refl
+operands-same aVariable o primed b x y rows = refl
+operands-same none o primed b x y rows = refl
+operands-same one o primed b x y rows = refl
+operands-same two o primed b x y rows = refl
+operands-same unknown o primed b x y rows = refl
 
 -- one more than the greater of a node's operands; 0 where it has none
 abbrev pub above : Node → ℕ
@@ -176,8 +176,7 @@ module _ (t : Rows) where
       let b = leftOf t n in
       shown-step primed n (omega arith)
       ∙ ap (λ rs. spelled (nodeFrom primed n .operator) (nodeFrom primed n .b) ∷ rs)
-      (operands-same (shapeOf (operatorOf t n)) (operatorOf t n) (primed && isVariableNumber t b) b (operandNode n b) (operandNode n (rightOf t n))
-      (λ k x y. operandRows k (shownRows t primed x) (shownRows t primed y)) (λ x y x′ y′. refl) (λ x y y′. refl))
+      (operands-same (shapeOf (operatorOf t n)) (operatorOf t n) (primed && isVariableNumber t b) b (operandNode n b) (operandNode n (rightOf t n)) (shownRows t primed))
       ∙ ap (λ d. rowsBy d (shownRows t primed (d .left)) (shownRows t primed (d .right))) (node-from primed n (λ e. omega arith))
 
   operands-fall : (primed : Bool) (n : ℕ) → above (nodeOf t primed n) ≤ n

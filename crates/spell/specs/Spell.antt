@@ -1,6 +1,6 @@
 -- 01, Sequents: "An entry spelled out is rows 83 in prefix order", as the code counts and writes them: "Rows are written one after another into what is left of
 -- the buffer."
-use Prim.Native.Nat.{ℕ, zero, suc, _*_, _/_, _≤_, _^_}
+use Prim.Native.Nat.{ℕ, zero, suc, _*_, _/_, _^_}
 use mathlib.Core.Path.{_≡_}
 use mathlib.Core.Bool.{Bool, true, false, _&&_}
 use mathlib.Core.List.{List, [], _∷_, _++_}

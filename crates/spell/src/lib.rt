@@ -232,8 +232,8 @@ fn divides(operator: u64) -> bool
     }
 }
 
-// The operator under which P stands again before WD(Q); 0 where it doesn't.
-fn guard_operator(operator: u64) -> u64
+// The number of the operator under which P stands again before WD(Q); 0 where it doesn't.
+fn guard_number(operator: u64) -> u64
     ensures { λ r. ⌜ r ≡ guardNumber operator ⌝ }
 {
     let condition = find_condition(operator);
@@ -263,7 +263,7 @@ fn spell_guard(words: &[u64], table: Table, operator: u64, left: u64, out: &mut 
     requires { ⌜ table ≡ countsOf (rowsOf (now words)) ⌝ }
     ensures { λ r. ⌜ Spelled (guardRows operator (shownRows (rowsOf (now (words .entry))) false left)) r (now (out .entry)) (now (out .exit)) ⌝ }
 {
-    let guard = guard_operator(operator);
+    let guard = guard_number(operator);
     if guard == 0 {
         return 0;
     }

@@ -1,6 +1,6 @@
 -- Each call judges one row and goes on to those before it (Walk). The measure is twice the number of rows left, and one more where the row may still be handed on.
 use Prim.Native.Nat.{_+_, _-_, _*_}
-use mathlib.Core.Path.{_≡_, ap, ap₂, _∙_}
+use mathlib.Core.Path.{ap, _∙_}
 use native.Mathlib.Omega.{arith}
 use Rattle.lists.specs.Choice.{pick}
 use Rattle.table.specs.Rows.{rowsOf}

@@ -16,7 +16,7 @@ spell-guard-spec = tie.close (tie.spec
     (λ c κs. search needs)
     (λ c. let g = c .before in
     let s = g .before .before .before in
-    spelled-as (guard-none (s .args .operator) _ (sym (g .guard-operator .ensures) ∙ c .if1 .taken)) (spelled-none (s .args .out .now)))
+    spelled-as (guard-none (s .args .operator) _ (sym (g .guard-number .ensures) ∙ c .if1 .taken)) (spelled-none (s .args .out .now)))
     (λ c κs. search needs)
     (λ c. search needs)
     (λ c. let h = c .before .before in
@@ -24,4 +24,4 @@ spell-guard-spec = tie.close (tie.spec
     let g = test .before in
     let s = g .before .before .before in
     let left = shownRows (rowsOf (s .args .words .now)) false (s .args .left) in
-    spelled-as (ap (λ k. spelled k 0 ∷ left) (g .guard-operator .ensures) ∙ guard-some (s .args .operator) left (λ z. test .if1 .left (g .guard-operator .ensures ∙ z))) (h .spell-under .ensures)))
+    spelled-as (ap (λ k. spelled k 0 ∷ left) (g .guard-number .ensures) ∙ guard-some (s .args .operator) left (λ z. test .if1 .left (g .guard-number .ensures ∙ z))) (h .spell-under .ensures)))

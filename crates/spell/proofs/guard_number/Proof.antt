@@ -2,11 +2,11 @@
 use mathlib.Core.Path.{ap, sym, _∙_}
 use Rattle.spell.specs.Spell.{guardOf}
 use borrow.Author.Needs.{needs}
-use Rattle.spell.proofs.guard_operator.Statement.{statement}
-use Rattle.spell.proofs.guard_operator.Tie as tie
+use Rattle.spell.proofs.guard_number.Statement.{statement}
+use Rattle.spell.proofs.guard_number.Tie as tie
 
-pub guard-operator-spec : {M : Type 1} → statement M
-guard-operator-spec = tie.close (tie.spec
+pub guard-number-spec : {M : Type 1} → statement M
+guard-number-spec = tie.close (tie.spec
     (λ c κs. search needs)
     (λ c. search needs)
     (λ c. search needs)
