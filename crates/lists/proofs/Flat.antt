@@ -6,6 +6,7 @@ use mathlib.Core.Bool.{Bool, true, false, _&&_}
 use mathlib.Core.List.{List, [], _∷_, _++_, map, flatMap, map-id, map-append, append-assoc, append-nil}
 use mathlib.Core.Logic.{⊎-elim}
 use native.Mathlib.Nat.{eq-or-lt-of-le, suc-mul}
+use native.Mathlib.Numerals.{add-one}
 use native.Mathlib.Omega.{arith}
 use lib.Dec.{ltb}
 use lib.ListN.{length, getD, length-append, length-map, List·getD-append}
@@ -111,6 +112,11 @@ module _ {A : Type 0} where
       by-test true e = ap (λ r. x ∷ r) e
       by-test false e = e
 
+  pub keep-over : {B : Type 0} (P : A → Bool) (f : B → List A) (xs : List B) → keep P (flatMap f xs) ≡ flatMap (λ x. keep P (f x)) xs
+  unfolding keep flatMap
+  keep-over P f [] = refl
+  keep-over P f (x ∷ xs) = keep-join P (f x) (flatMap f xs) ∙ ap (λ ys. keep P (f x) ++ ys) (keep-over P f xs)
+
   pub keep-none : (P : A → Bool) (xs : List A) → ((x : A) → In x xs → P x ≡ false) → keep P xs ≡ []
   unfolding keep
   keep-none P [] h = refl
@@ -214,8 +220,22 @@ unfolding numbers flatMap sumBelow
 flat-length f zero = refl
 flat-length f (suc n) = ap length (flat-next f n) ∙ length-append (flatMap f (numbers n 0)) (f n) ∙ ap (λ a. a + length (f n)) (flat-length f n)
 
-pub sum-same : (f g : ℕ → ℕ) (n : ℕ) → ((i : ℕ) → f i ≡ g i) → sumBelow f n ≡ sumBelow g n
-sum-same f g n h = ap (λ k. sumBelow k n) (fun-ext h)
+pub sum-next : (f : ℕ → ℕ) (n : ℕ) → sumBelow f (n + 1) ≡ sumBelow f n + f n
+unfolding sumBelow
+sum-next f n = ap (sumBelow f) (add-one n)
+
+pub sum-same : (f g : ℕ → ℕ) (n : ℕ) → ((i : ℕ) → i < n → f i ≡ g i) → sumBelow f n ≡ sumBelow g n
+unfolding sumBelow
+sum-same f g zero h = refl
+sum-same f g (suc n) h = ap₂ (λ a b. a + b) (sum-same f g n (λ i l. h i (omega arith))) (h n (omega arith))
+
+-- where nothing is added
+pub sum-stays : (f : ℕ → ℕ) (m n : ℕ) → m ≤ n → ((i : ℕ) → m ≤ i → i < n → f i ≡ 0) → sumBelow f m ≡ sumBelow f n
+unfolding sumBelow
+sum-stays f m zero h none = let e : m ≡ 0 = omega arith in ap (sumBelow f) e
+sum-stays f m (suc n) h none =
+    ⊎-elim (λ (e : m ≡ suc n). ap (sumBelow f) e)
+    (λ (l : m < suc n). omega (arith, sum-stays f m n (omega arith) (λ i a b. none i a (omega arith)), none n (omega arith) (omega arith))) (eq-or-lt-of-le h)
 
 -- a sum reaches behind each of its parts
 pub sum-reaches : (c : ℕ → ℕ) (n i : ℕ) → i < n → sumBelow c i + c i ≤ sumBelow c n
@@ -231,17 +251,17 @@ sum-at-most c most h zero = omega arith
 sum-at-most c most h (suc n) = rw (suc-mul n most) (omega (arith, sum-at-most c most h n, h n))
 
 -- where f makes c i members of i, the k-th of these stands k places behind all that f makes of the numbers before i
-pub flat-at : {B : Type 0} (f : ℕ → List B) (c : ℕ → ℕ) → ((i : ℕ) → length (f i) ≡ c i) → (n i k : ℕ) (d : B) → i < n → k < c i
+pub flat-at : {B : Type 0} (f : ℕ → List B) (c : ℕ → ℕ) (n : ℕ) → ((i : ℕ) → i < n → length (f i) ≡ c i) → (i k : ℕ) (d : B) → i < n → k < c i
     → getD (flatMap f (numbers n 0)) (sumBelow c i + k) d ≡ getD (f i) k d
 unfolding numbers flatMap
-flat-at {B} f c size n i k d h l =
+flat-at {B} f c n size i k d h l =
     ap (λ xs. getD (flatMap f xs) (sumBelow c i + k) d) (numbers-split n i h)
     ∙ ap₂ (λ (xs : List B) (m : ℕ). getD xs (m + k) d) (flat-join f (numbers i 0) (i ∷ numbers (n - suc i) (suc i))) (sym before)
     ∙ getD-append-add (flatMap f (numbers i 0)) (f i ++ flatMap f (numbers (n - suc i) (suc i))) k d
-    ∙ List·getD-append (f i) (flatMap f (numbers (n - suc i) (suc i))) d k (omega (arith, size i))
+    ∙ List·getD-append (f i) (flatMap f (numbers (n - suc i) (suc i))) d k (omega (arith, size i h))
   where
     before : length (flatMap f (numbers i 0)) ≡ sumBelow c i
-    before = flat-length f i ∙ sum-same (λ j. length (f j)) c i size
+    before = flat-length f i ∙ sum-same (λ j. length (f j)) c i (λ j l. size j (omega arith))
 
 -- what is made of a number that passes stands behind what is made of those before it
 pub kept-at : {B : Type 0} (P : ℕ → Bool) (f : ℕ → B) (n i : ℕ) (d : B) → i < n → P i ≡ true

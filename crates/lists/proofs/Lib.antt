@@ -1,5 +1,6 @@
 pub mod All
 pub mod Choice
+pub mod Different
 pub mod Distinct
 pub mod First
 pub mod Flat
