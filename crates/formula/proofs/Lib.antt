@@ -4,6 +4,7 @@ pub mod Order
 pub mod Division
 pub mod WellDefined
 pub mod Mentions
+pub mod Identifiers
 pub mod AfterValues
 pub mod Override
 pub mod Sort

@@ -4,4 +4,5 @@ pub mod Evaluate
 pub mod WellDefined
 pub mod AfterValues
 pub mod Mentions
+pub mod Identifiers
 pub mod Formula

@@ -101,12 +101,17 @@ module _ (t : Rows) where
       go false true f = refl
       go false false f = refl
 
-  -- an identifier of kind 6 is one of them, one of kind 2 is none
-  pub named-shared : (x : ℕ) → T (named t 10 x) → kindOf t x ≡ 6 → In x (sharedVariables (machineOf t))
-  named-shared x n k =
+  -- an identifier of kind 6 is one of the first, one of kind 2 of the others
+  named-of-kind : (k x : ℕ) → T (named t 10 x) → kindOf t x ≡ k → In x (keep (λ x. eqb (kindOf t x) k) identifiers)
+  named-of-kind k x n e =
       let b = named-bounds t 10 x n in
-      subst (In x) (sym shared-numbered)
-      (keep-in (λ x. eqb (kindOf t x) 6) (numbers-in (count t 10) 1 x (b .0) (omega (arith, b .1))) (eq→eqb (kindOf t x) 6 k))
+      keep-in (λ x. eqb (kindOf t x) k) (numbers-in (count t 10) 1 x (b .0) (omega (arith, b .1))) (eq→eqb (kindOf t x) k e)
+
+  pub named-shared : (x : ℕ) → T (named t 10 x) → kindOf t x ≡ 6 → In x (sharedVariables (machineOf t))
+  named-shared x n e = subst (In x) (sym shared-numbered) (named-of-kind 6 x n e)
+
+  pub named-unshared : (x : ℕ) → T (named t 10 x) → kindOf t x ≡ 2 → In x (unsharedVariables (machineOf t))
+  named-unshared x n e = subst (In x) (sym unshared-numbered) (named-of-kind 2 x n e)
 
   -- 02, request 2: "a variable of both machines"
   pub shared-both : (x : ℕ) → In x (sharedVariables (machineOf t)) ↔ (In x (machineOf t .abstractVariables) × In x (machineOf t .concreteVariables))

@@ -18,11 +18,11 @@ use Rattle.sequent.specs.Listed.{sequents}
 use Rattle.rules.specs.declared.Verdict.{Verdict}
 use Rattle.rules.specs.declared.Verdict.the-variants.{Accepted, Refused}
 use Rattle.rules.specs.Decoded.{framed, rowCount, lineOf, notRow, decoded}
-use Rattle.rules.specs.Rules.{offends, missing, tagOffends, fullOffends, eventOffends, identifierOffends, referenceOffends, sortOffends, useOffends, sightOffends, twiceOffends}
+use Rattle.rules.specs.Rules.{offends, missing}
 use Rattle.rules.specs.Verdict.{firstRow, firstCheck, judge, verdict}
 use Rattle.rules.specs.Offence.{machine, Offence, frame, column, row, lack, FirstOffence, NoOffence, sequentCount}
 use Rattle.rules.proofs.Cases.{judge-row, judge-missing, judge-accepted, verdict-frame, verdict-column, verdict-judge}
-use Rattle.rules.proofs.Obeys.{Obeys}
+use Rattle.rules.proofs.Obeys.{Obeys, passes-obeys}
 
 both-ways : {b : Bool} → b ≡ true → b ≡ false → ⊥
 both-ways p q = true≢false (sym p ∙ q)
@@ -188,23 +188,11 @@ module _ (bytes : List ℕ) where
 
   -- row by row
   pub none-obeys : NoOffence bytes → Obeys (decoded bytes)
-  unfolding offends
-  none-obeys none = record {
-    tags = λ i h. passed 3 i (omega arith) (omega arith) h;
-    full = λ i h. passed 4 i (omega arith) (omega arith) h;
-    events = λ i h. passed 5 i (omega arith) (omega arith) h;
-    identifiers = λ i h. passed 6 i (omega arith) (omega arith) h;
-    references = λ i h. passed 7 i (omega arith) (omega arith) h;
-    sorts = λ i h. passed 8 i (omega arith) (omega arith) h;
-    uses = λ i h. passed 9 i (omega arith) (omega arith) h;
-    sight = λ i h. passed 10 i (omega arith) (omega arith) h;
-    twice = λ i h. passed 11 i (omega arith) (omega arith) h;
-    present = not-true (missing (decoded bytes)) (λ m. none 12 0 (lack m));
-  }
+  none-obeys none = passes-obeys (decoded bytes) (
+    λ c i low high h. not-true (offends (decoded bytes) c i) (λ e. none c (suc i) (row c i low (omega arith) h e)),
+    not-true (missing (decoded bytes)) (λ m. none 12 0 (lack m)),
+  )
     where
       not-true : (b : Bool) → (b ≡ true → ⊥) → b ≡ false
       not-true true f = absurd (f refl)
       not-true false f = refl
-
-      passed : (c i : ℕ) → 3 ≤ c → c ≤ 11 → i < decoded bytes .size → offends (decoded bytes) c i ≡ false
-      passed c i low high h = not-true (offends (decoded bytes) c i) (λ e. none c (suc i) (row c i low high h e))

@@ -1,12 +1,12 @@
 -- The cases of the judgement of a table's rows, and of the verdict of bytes: each is the branch that its tests choose.
 use Prim.Native.Nat.{ℕ, _+_, _≤_, _<_}
-use mathlib.Core.Path.{_≡_, sym, subst, _∙_}
-use mathlib.Core.Bool.{true, false}
+use mathlib.Core.Path.{_≡_, refl, sym, subst, _∙_}
+use mathlib.Core.Bool.{Bool, true, false}
 use mathlib.Core.List.{List}
 use mathlib.Core.Logic.{⊎-elim}
 use native.Mathlib.Nat.{eq-or-lt-of-le}
 use native.Mathlib.Omega.{arith}
-use borrow.Author.Tests.{lt-ltb, le-ltb, ltb-false}
+use borrow.Author.Tests.{lt-ltb, le-ltb, ltb-true, ltb-false}
 use lib.Dec.{ltb}
 use lib.ListN.{length}
 use Rattle.lists.specs.Below.{first}
@@ -18,7 +18,7 @@ use Rattle.sequent.specs.Listed.{sequents}
 use Rattle.rules.specs.declared.Verdict.the-variants.{Accepted, Refused}
 use Rattle.rules.specs.Decoded.{framed, rowCount, lineOf, notRow, decoded}
 use Rattle.rules.specs.Rules.{offends, missing}
-use Rattle.rules.specs.Verdict.{firstRow, firstCheck, PassedBefore, judge, verdict}
+use Rattle.rules.specs.Verdict.{firstRow, firstCheck, PassedBefore, Passes, judge, verdict}
 
 module _ (t : Rows) where
   pub judge-row : firstCheck t < 12 → judge t ≡ Refused (firstCheck t) (firstRow t (firstCheck t) + 1)
@@ -48,6 +48,24 @@ module _ (t : Rows) where
   unfolding firstCheck
   first-passed k i low high l =
       row-passes k i (ltb-false (firstRow t k) (t .size) (first-least (λ check. ltb (firstRow t check) (t .size)) 9 3 .before k low high)) l
+
+  -- an accepted table passes all, and is accepted with the count of its sequents
+  judge-all : (n : ℕ) → judge t ≡ Accepted n → (12 ≤ firstCheck t) × (missing t ≡ false)
+  judge-all n e = go (ltb (firstCheck t) 12) refl (missing t) refl
+    where
+      differ : (c r : ℕ) → judge t ≡ Refused c r → ⊥
+      differ c r q = let z : _≡_ {A = ℕ} 0 1 = (let w : Refused c r ≡ Accepted n = sym q ∙ e in cc) in omega arith
+
+      go : (b : Bool) → ltb (firstCheck t) 12 ≡ b → (d : Bool) → missing t ≡ d → (12 ≤ firstCheck t) × (missing t ≡ false)
+      go true p d q = absurd (differ _ _ (judge-row (ltb-true (firstCheck t) 12 p)))
+      go false p true q = absurd (differ 12 0 (judge-missing (ltb-false (firstCheck t) 12 p) q))
+      go false p false q = (ltb-false (firstCheck t) 12 p, q)
+
+  pub judge-passes : (n : ℕ) → judge t ≡ Accepted n → Passes t
+  judge-passes n e = let (h, q) = judge-all n e in (λ k i low high l. first-passed k i low (omega arith) l, q)
+
+  pub judged-count : (n : ℕ) → judge t ≡ Accepted n → n ≡ length (sequents (machineOf t))
+  judged-count n e = let (h, q) = judge-all n e in let w : Accepted n ≡ Accepted (length (sequents (machineOf t))) = sym e ∙ judge-accepted h q in cc
 
 module _ (bytes : List ℕ) where
   -- the first row that is not in the row form, or the number of rows

@@ -91,7 +91,7 @@ module _ (t : Rows) (ok : Obeys t) where
       let q = section-row t k i l in
       row-root k i (q .0) (q .1) tag r (same i ∙ sym e)
 
-  root-named : {r : ℕ} → Root (machineOf t) r → T (named t 20 r)
+  pub root-named : {r : ℕ} → Root (machineOf t) r → T (named t 20 r)
   unfolding machineOf
   root-named (axiom-root j) = formula-named 30 tt (λ i. refl) j
   root-named (abstract-invariant-root j) = formula-named 31 tt (λ i. refl) j

@@ -6,7 +6,7 @@ use native.Mathlib.Omega.{arith}
 use borrow.Author.Tests.{eqb-true, leb-false}
 use Rattle.lists.specs.Below.{oneIf, countBelow}
 use Rattle.lists.proofs.Below.{count-less}
-use Rattle.table.specs.Names.{identifierTag, eventTag}
+use Rattle.table.specs.Names.{identifierTag, nodeTag, eventTag}
 use Rattle.table.specs.Rows.{Rows, tagged, count, isAction}
 use Rattle.rules.specs.Tags.{rowLimit}
 use Rattle.rules.specs.Rules.{countedWith, fullOffends}
@@ -39,6 +39,10 @@ module _ (t : Rows) (ok : (i : ℕ) → i < t .size → fullOffends t i ≡ fals
   pub few-identifiers : count t identifierTag ≤ 64
   unfolding rowLimit
   few-identifiers = few-rows identifierTag
+
+  pub few-nodes : count t nodeTag ≤ 512
+  unfolding rowLimit
+  few-nodes = few-rows nodeTag
 
   pub few-events : count t eventTag ≤ 32
   unfolding rowLimit

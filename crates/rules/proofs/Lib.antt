@@ -18,3 +18,4 @@ pub mod RangedSequents
 pub mod Refused
 pub mod Formed
 pub mod Full
+pub mod Mentioned

@@ -27,6 +27,10 @@ firstCheck t = first (λ check. ltb (firstRow t check) (t .size)) 9 3
 abbrev pub PassedBefore : Rows → ℕ → Type 0
 PassedBefore t check = (k i : ℕ) → 3 ≤ k → k < check → i < t .size → offends t k i ≡ false
 
+-- no row offends against any of them, and nothing is missing
+abbrev pub Passes : Rows → Type 0
+Passes t = PassedBefore t 12 × (missing t ≡ false)
+
 unfoldable pub judge : Rows → Verdict
 judge t =
     let check = firstCheck t in
