@@ -15,12 +15,12 @@ use Rattle.table.proofs.Sections.{section-row, row-section, named-bounds}
 use Rattle.formula.specs.Values.{integer}
 use Rattle.formula.proofs.Sort.{treeType}
 use Rattle.formula.proofs.Truth.{and-split, or-cases, true-test}
-use Rattle.machine.specs.Machine.{sharedVariables, unsharedVariables}
+use Rattle.machine.specs.Machine.{isVariable, sharedVariables, unsharedVariables}
 use Rattle.machine.specs.Machine.{Witness, unassigned, Role, abstractInitialisation, abstractOrdinary, concreteInitialisation, refining, convergent, anticipated}
 use Rattle.machine.specs.Described.{typeNumbered, kindNumbered, roleNumbered, treeOf, actionOf, belonging, variablesOf, machineOf}
-use Rattle.machine.proofs.Described.{SetBy, action-row, belonging-row, variable-named, event-named, named-event}
+use Rattle.machine.proofs.Described.{SetBy, action-row, belonging-row, variable-named, named-variable, event-named, named-event}
 use Rattle.machine.proofs.Roles.{RoleSays}
-use Rattle.machine.proofs.Variables.{named-shared, unshared-kind}
+use Rattle.machine.proofs.Variables.{named-shared, named-unshared, unshared-kind}
 use Rattle.sequent.specs.Entry.{witnessRoot}
 use Rattle.sequent.specs.Required.{isNew, ownVariables}
 use Rattle.rules.specs.Sight.{hasKind, hasVariableKind}
@@ -33,7 +33,7 @@ use Rattle.rules.proofs.Sorts.{sort-type, root-sort}
 use Rattle.rules.proofs.Twice.{witness-once}
 use Rattle.rules.proofs.Missing.{convergent-variant}
 use Rattle.run.proofs.WellFormed.{onlyConstants, abstractStateKinds, concreteStateKinds, bothStateKinds, WellFormed}
-use Rattle.run.proofs.AcceptedSight.{roleIn, kind-seen, variable-seen, formulas-see, guards-see, variable-kind, action-sees, witness-target, witness-hidden, witness-sees}
+use Rattle.run.proofs.AcceptedSight.{roleIn, kind-seen, variable-seen, formulas-see, formulas-list, guards-see, variable-kind, action-sees, witness-target, witness-hidden, witness-sees}
 
 -- the root of a witness whose target no other witness has
 witness-root : (ws : List Witness) (w : Witness) → In w ws → ((v : Witness) → In v ws → v .target ≡ w .target → v .root ≡ w .root)
@@ -61,6 +61,11 @@ module _ (t : Rows) where
   -- the role of an event with known numbers
   role-is : (e machine class : ℕ) → machineNumber t e ≡ machine → classOf t e ≡ class → roleIn t e ≡ roleNumbered machine class (refinedBy t e)
   role-is e machine class p q = ap₂ (λ m c. roleNumbered m c (refinedBy t e)) p q
+
+  -- a constant is no variable
+  constant-unvarying : (x : ℕ) → T (hasKind t 1 x) → T (isVariable (kindNumbered (kindOf t x))) → ⊥
+  unfolding kindNumbered
+  constant-unvarying x p v = subst (λ k. T (isVariable (kindNumbered k))) (eqb→eq (kindOf t x) 1 p) v
 
   -- a variable of a machine is of its own kind or shared
   variable-either : (own x : ℕ) → T (named t 10 x) → T (hasVariableKind t own x)
@@ -158,6 +163,16 @@ accepted-well-formed t ok = record {
       (λ i x s. or-cases (hasKind t 1 x) (hasKind t 2 x || hasVariableKind t 3 x) s (kind-seen t bothStateKinds 1 x tt)
       (λ s. or-cases (hasKind t 2 x) (hasVariableKind t 3 x) s (kind-seen t bothStateKinds 2 x tt) (variable-seen t bothStateKinds 3 x tt tt)))
       (λ i x s. s);
+  invariantsListed = record {
+    abstractOnes =
+        formulas-list t ok 31 (λ x. In x (variablesOf t 2)) tt (λ i. refl)
+        (λ i x n s v. or-cases (hasKind t 1 x) (hasVariableKind t 2 x) s (λ p. absurd (constant-unvarying t x p v)) (λ p. named-variable t 2 x n p)) (λ i x s. s);
+    concreteOnes =
+        formulas-list t ok 32 (λ x. In x (variablesOf t 3) ⊎ In x (unsharedVariables (machineOf t))) tt (λ i. refl)
+        (λ i x n s v. or-cases (hasKind t 1 x) (hasKind t 2 x || hasVariableKind t 3 x) s (λ p. absurd (constant-unvarying t x p v))
+        (λ s. or-cases (hasKind t 2 x) (hasVariableKind t 3 x) s (λ p. inr (named-unshared t x n (eqb→eq (kindOf t x) 2 p))) (λ p. inl (named-variable t 3 x n p))))
+        (λ i x s. s);
+  };
   variantsSee =
       formulas-see t ok 70 concreteStateKinds tt (λ i. refl)
       (λ i x s. or-cases (hasKind t 1 x) (hasVariableKind t 3 x) s (kind-seen t concreteStateKinds 1 x tt) (variable-seen t concreteStateKinds 3 x tt tt)) (λ i x s. s);

@@ -9,17 +9,19 @@ use native.Mathlib.Omega.{arith}
 use lib.Dec.{T, eqb, eqb→eq, not-T}
 use borrow.Author.Tests.{eqb-true}
 use Rattle.lists.specs.All.{All, In}
-use Rattle.lists.proofs.All.{all-in, all-map}
+use Rattle.lists.proofs.All.{all-in, all-map, all-imp}
 use Rattle.lists.proofs.Below.{some-found}
 use Rattle.table.specs.Names.{isVariableOf}
 use Rattle.table.specs.Rows.{Rows, named, section, kindOf, typeOf, machineNumber, classOf, refinedBy}
 use Rattle.table.proofs.Sections.{section-row, named-bounds}
 use Rattle.formula.specs.Mentions.{mentions}
+use Rattle.formula.specs.Identifiers.{identifiers}
 use Rattle.formula.proofs.Sort.{treeType}
 use Rattle.formula.proofs.Mentions.{mentions-imp}
+use Rattle.formula.proofs.Identifiers.{mentions-identifiers}
 use Rattle.formula.proofs.Truth.{eq→eqb, and-split, and-join, true-test, or-left, or-right, or-cases}
 use Rattle.machine.specs.Machine.{Kind, constantKind, abstractVariable, concreteVariable, abstractParameter, concreteParameter, sharedVariable}
-use Rattle.machine.specs.Machine.{isShared, sharedVariables}
+use Rattle.machine.specs.Machine.{isVariable, isShared, sharedVariables}
 use Rattle.machine.specs.Machine.{Role, abstractInitialisation, abstractOrdinary, concreteInitialisation, refining, convergent, anticipated}
 use Rattle.machine.specs.Described.{typeNumbered, kindNumbered, roleNumbered, treeOf, sets, actionOf, belonging, variablesOf, machineOf}
 use Rattle.machine.proofs.Described.{SetBy, action-row, belonging-row, variable-named}
@@ -118,6 +120,21 @@ module _ (t : Rows) where
         let q = section-row t k i j in
         subst (Seen S never) (root i)
         (row-sees k i (among (machineOf t) S) never (q .0) (q .1) r (λ x n s. named-among S x n (f i x s)) (λ x s. g i x s))))
+
+    -- the variables that axioms, invariants and the variant mention
+    pub formulas-list : (k : ℕ) (L : ℕ → Type 0) → T (rootTag k) → ((i : ℕ) → rootOf t k i ≡ t .a i)
+        → ((i x : ℕ) → T (named t 10 x) → T (seen t k i x) → T (isVariable (kindIn x)) → L x) → ((i x : ℕ) → T (seenAfter t k i x) → ⊥)
+        → All (λ r. All (λ x. T (isVariable (kindIn x)) → L x) (identifiers (treeOf t r))) (map (t .a) (section t k))
+    formulas-list k L r root f g =
+        all-map (t .a) (all-in (section t k) (λ i j.
+        let q = section-row t k i j in
+        let P : ℕ → Bool = λ x. named t 10 x && seen t k i x in
+        let Q : ℕ → Bool = λ x. namedVariable t x && seenAfter t k i x in
+        subst (λ r. All (λ x. T (isVariable (kindIn x)) → L x) (identifiers (treeOf t r))) (root i)
+        (all-imp
+        (λ x s v. or-cases (P x) (Q x) s (λ p. let (n, m) = and-split (named t 10 x) (seen t k i x) p in f i x n m v)
+        (λ p. absurd (g i x (and-split (namedVariable t x) (seenAfter t k i x) p .1))))
+        (mentions-identifiers P Q (treeOf t (rootOf t k i)) (root-seen t ok k i (q .0) (q .1) r)))))
 
     -- "guard and action, constants, the event's own parameters and its machine's variables"
     pub event-sees : (e x : ℕ) → T (named t 40 e) → T (named t 10 x) → T (eventSees t e x) → T (ownKinds (roleIn e) (kindIn x))

@@ -9,7 +9,7 @@ use Rattle.sequent.specs.Entry.{written, primed, defined}
 use Rattle.sequent.specs.Sequent.{Valid, sequent, WD, INV, GRD}
 use Rattle.sequent.specs.Listed.{inOrder, actionWD, actionFIS, refined, allWritten, base, guarded}
 use Rattle.sequent.specs.Listed.{witnessEntries, witnessSequents, parameterWitnesses, grd, simSequents, invHypotheses, inv, variantSequents, eventSequents}
-use Rattle.sequent.specs.Listed.{formulas, sequents}
+use Rattle.sequent.specs.Listed.{formulas, obligations}
 use Rattle.sequent.specs.Required.{ownInvariants, ownVariables}
 use Rattle.run.proofs.WellFormed.{ownKinds, never, variableKind, Variable, Sees, ActionSees, WellFormed}
 
@@ -68,17 +68,17 @@ module _ (m : Machine) (wf : WellFormed m) where
     kind = variables-kind ro;
   }
 
-module _ (m : Machine) (vs : All (Valid m) (sequents m)) where
+module _ (m : Machine) (vs : All (Valid m) (obligations m)) where
   pub formulas-valid : All (Valid m) (inOrder 0 [] (formulas m))
-  unfolding sequents
+  unfolding obligations
   formulas-valid = all-left _ _ vs
 
   pub variants-valid : All (λ r. Valid m (sequent WD 0 r (allWritten m (formulas m)) (defined r))) (m .variants)
-  unfolding sequents
+  unfolding obligations
   variants-valid = all-unmap _ (m .variants) (all-left _ _ (all-right (inOrder 0 [] (formulas m)) vs))
 
   pub events-valid : (e : ℕ) → In e (m .events) → {ro : Role} → m .role e ≡ ro → EventValid m ro e
-  unfolding sequents
+  unfolding obligations
   events-valid e i {ro} q =
       let v = all-right (inOrder 0 [] (formulas m)) vs in
       let es = all-unflat (λ e. eventSequents m e (m .role e)) (m .events)

@@ -17,7 +17,7 @@ use Rattle.machine.specs.Machine.{Role, abstractInitialisation, abstractOrdinar
 use Rattle.machine.proofs.Variables.{is-shared}
 use Rattle.sequent.specs.Entry.{written, primed, moves, natural, decreases, notIncreased, unchanged, actionTree}
 use Rattle.sequent.specs.Sequent.{Meets, Valid, sequent, NAT, VAR}
-use Rattle.sequent.specs.Listed.{refined, base, guarded, moved, witnessEntries, sim, simNew, simSequents, invHypotheses, sequents}
+use Rattle.sequent.specs.Listed.{refined, base, guarded, moved, witnessEntries, sim, simNew, simSequents, invHypotheses, obligations}
 use Rattle.sequent.specs.Required.{isNew, ownInvariants}
 use Rattle.sequent.proofs.Shared.{unchanged-same, same-unchanged}
 use Rattle.run.specs.Run.{State, blank, world, Step, ofRun, Match, Matches, AgreeOnShared}
@@ -84,7 +84,7 @@ module _ (m : Machine) where
     -- a step of a stretch bounds the stretch that it begins, where the stretch after it has n convergent steps and is bounded
     pub bounded : T (ofStretch m ro) → (n : ℕ) → Bounded m c k′ n → Bounded m c k (pick (isConvergent ro) (suc n) n)
 
-module _ (m : Machine) (wf : WellFormed m) (vs : All (Valid m) (sequents m)) where
+module _ (m : Machine) (wf : WellFormed m) (vs : All (Valid m) (obligations m)) where
   -- the guards and moves of a step from the pair are true, beside whatever the other machine does
   moved-true : (e : ℕ) → In e (m .events) → {ro : Role} → m .role e ≡ ro → T (notInitial m ro) → (c a k q p a′ k′ : State m) → PairTrue m c a k
       → Shares m ro a′ k′ → Step m ro e c (ownState m ro a k) (ownState m ro q p) (ownState m ro a′ k′) → All (Meets m (world m c a k q p a′ k′)) (moved m ro e)

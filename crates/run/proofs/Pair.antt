@@ -9,7 +9,7 @@ use Rattle.formula.specs.Evaluate.{Env}
 use Rattle.machine.specs.Machine.{Machine, Role, abstractInitialisation, abstractOrdinary, concreteInitialisation, refining, convergent, anticipated}
 use Rattle.sequent.specs.Entry.{written, primed}
 use Rattle.sequent.specs.Sequent.{Meets, Valid}
-use Rattle.sequent.specs.Listed.{allWritten, base, formulas, sequents}
+use Rattle.sequent.specs.Listed.{allWritten, base, formulas, obligations}
 use Rattle.run.specs.Run.{State, blank, world, AgreeOnShared}
 use Rattle.run.specs.SafeRun.{notInitial, PairSafe}
 use Rattle.run.proofs.WellFormed.{onlyConstants, abstractStateKinds, concreteStateKinds, bothStateKinds, WellFormed}
@@ -88,7 +88,7 @@ module _ (m : Machine) (wf : WellFormed m) where
     concrete-after ts =
         after-true m bothStateKinds (λ t. t) (λ t. t) c a k q p a′ k′ a′ (λ t. refl) (wf .concreteInvariantsSee) ts
 
-  module _ (vs : All (Valid m) (sequents m)) where
+  module _ (vs : All (Valid m) (obligations m)) where
     pub pair-safe : (c a k : State m) → PairTrue m c a k → PairSafe m c a k
     unfolding Valid
     pair-safe c a k h =

@@ -1,4 +1,5 @@
--- Demand 3 for a well-formed machine: where every listed sequent is valid, its runs are safe. One matched step after another, by recursion on the
+-- Demand 3 for a well-formed machine: where every listed sequent is valid, its runs are safe. The obligations that the list leaves out are valid too (sequent's Dropped), so
+-- all are. One matched step after another, by recursion on the
 -- list of steps; what is carried along is that the matched pair of states agree on the shared variables and that the axioms and all invariants are true there.
 use mathlib.Core.Path.{_≡_, refl, sym, subst}
 use mathlib.Core.List.{List, [], _∷_}
@@ -8,7 +9,8 @@ use Rattle.lists.proofs.All.{all-map}
 use Rattle.machine.specs.Machine.{Machine, abstractInitialisation, concreteInitialisation}
 use Rattle.sequent.specs.Entry.{written}
 use Rattle.sequent.specs.Sequent.{Valid}
-use Rattle.sequent.specs.Listed.{sequents}
+use Rattle.sequent.specs.Listed.{obligations, sequents}
+use Rattle.sequent.proofs.Dropped.{obligations-valid}
 use Rattle.run.specs.Run.{State, blank, view, AllReadTrue, Taken, Follows, Match}
 use Rattle.run.specs.SafeRun.{EventSafe, StretchesBounded, Along, RunsSafe, Safe}
 use Rattle.run.proofs.WellFormed.{WellFormed}
@@ -20,7 +22,7 @@ use Rattle.run.proofs.Pair.{pairOf, AxiomsTrue, PairTrue, axioms-world,
 use Rattle.run.proofs.Matching.{initialisation-matched, step-matched}
 use Rattle.run.proofs.Stretch.{no-stretch, stretch-more}
 
-module _ (m : Machine) (wf : WellFormed m) (vs : All (Valid m) (sequents m)) where
+module _ (m : Machine) (wf : WellFormed m) (vs : All (Valid m) (obligations m)) where
   -- every list of steps from a pair of states is matched, with the bound of the stretches that it begins with
   steps-matched : (c : State m) (ss : List (Taken m)) (a k : State m) → PairTrue m c a k → Follows m c k ss
       → (ts : List (Match m)) × Along m c a k ss ts × StretchesBounded m c k ss
@@ -53,7 +55,9 @@ module _ (m : Machine) (wf : WellFormed m) (vs : All (Valid m) (sequents m)) whe
 
 -- "If a table is accepted and every listed sequent is valid", at the level of machines
 pub runs-safe : (m : Machine) → WellFormed m → All (Valid m) (sequents m) → Safe m
-runs-safe m wf vs = record {
-  initialisation = wf .initialised;
-  safe = λ e f i role. let (j, abstract, _, _, _) = wf .initialises e f i role in ((j, abstract), from-initialisation m wf vs e f i role);
-}
+runs-safe m wf listed =
+    let vs = obligations-valid m (wf .invariantsListed) listed in
+    record {
+      initialisation = wf .initialised;
+      safe = λ e f i role. let (j, abstract, _, _, _) = wf .initialises e f i role in ((j, abstract), from-initialisation m wf vs e f i role);
+    }

@@ -1,4 +1,5 @@
--- What the checks of an accepted table give to the proof of demand 3: which identifiers each formula mentions, sorts, and how events belong together.
+-- What the checks of an accepted table give to the proof of demand 3: which identifiers each formula mentions, that the machines have the variables that their
+-- invariants mention, sorts, and how events belong together.
 use mathlib.Core.Path.{_≡_}
 use mathlib.Core.Bool.{Bool, true, false, not, _&&_, _||_}
 use mathlib.Core.List.{[]}
@@ -15,6 +16,7 @@ use Rattle.machine.specs.Machine.{Role, abstractInitialisation, abstractOrdinar
 use Rattle.sequent.specs.Entry.{witnessRoot}
 use Rattle.sequent.specs.Order.{isIn}
 use Rattle.sequent.specs.Required.{isNew, ownVariables}
+use Rattle.sequent.proofs.Dropped.{InvariantsListed}
 use Rattle.run.specs.Run.{byKind}
 
 -- a set of kinds: constant, abstract variable, concrete variable, abstract parameter, concrete parameter, shared variable
@@ -98,6 +100,7 @@ module _ (m : Machine) where
     pub axiomsSee : All (Sees onlyConstants never) (m .axioms)
     pub abstractInvariantsSee : All (Sees abstractStateKinds never) (m .abstractInvariants)
     pub concreteInvariantsSee : All (Sees bothStateKinds never) (m .concreteInvariants)
+    pub invariantsListed : InvariantsListed m
     pub variantsSee : All (Sees concreteStateKinds never) (m .variants)
     pub variantsInteger : All (λ r. treeType (m .type) (m .tree r) ≡ integer) (m .variants)
     pub guardsSee : (e : ℕ) → In e (m .events) → All (Sees (ownKinds (m .role e)) never) (m .guards e)

@@ -20,9 +20,9 @@ use Rattle.sequent.specs.Formed.{ActionRoot, WitnessFor}
 use Rattle.sequent.specs.Sequent.{Sequent, sequent}
 use Rattle.sequent.specs.Listed.{sequents}
 use Rattle.sequent.specs.Required.{isInitialisation, isConcrete, MatchedBy, asWritten, axiomsInvariants, baseOf, ownVariables, ownInvariants}
-use Rattle.sequent.specs.Required.{baseGuards, movesOf, witnessesOf, Required, wd-formula, wd-variant, wd-guard, wd-action, fis, wd-witness, wfis}
+use Rattle.sequent.specs.Required.{baseGuards, movesOf, witnessesOf, Obligation, wd-formula, wd-variant, wd-guard, wd-action, fis, wd-witness, wfis}
 use Rattle.sequent.specs.Required.{grd, sim, sim-new, inv, inv-new, nat, var, var-anticipated}
-use Rattle.sequent.proofs.Exact.{listed-required}
+use Rattle.sequent.proofs.Required.{listed-required}
 
 -- a node that the machine names as a root
 pub data Root (m : Machine) : ℕ → Type 0 where
@@ -142,41 +142,41 @@ module _ (m : Machine) where
       let all : All (Root m) (before ++ (r ∷ rest)) = subst (All (Root m)) p (all-in rs f) in
       (all-map written (all-imp (λ q. of-written) (all-left before _ all)), all-head (all-right before all))
 
-  pub required-made : {s : Sequent} → Required m s → MadeOf m s
-  required-made (wd-formula before rest p) =
+  pub obligation-made : {s : Sequent} → Obligation m s → MadeOf m s
+  obligation-made (wd-formula before rest p) =
       let (hs, root) = before-root before rest p formula-root in made (omega arith) (inl refl) (root-item root) hs (of-defined root)
-  required-made (wd-variant i) =
+  obligation-made (wd-variant i) =
       made (omega arith) (inl refl) (root-item (variant-root i)) (written-of (axiomsInvariants m) formula-root) (of-defined (variant-root i))
-  required-made (wd-guard {e} before rest at p) =
+  obligation-made (wd-guard {e} before rest at p) =
       let (hs, root) = before-root before rest p (λ r. guard-root e) in
       made (omega arith) (inr at) (root-item root) (all-join (base-of (m .role e)) hs) (of-defined root)
-  required-made (wd-action {e} {x} at i a) =
+  obligation-made (wd-action {e} {x} at i a) =
       made (omega arith) (inr at) (root-item (action-root e x a)) (guards-of e) (of-defined (action-root e x a))
-  required-made (fis {e} at i a) =
+  obligation-made (fis {e} at i a) =
       let x = own-variable (m .role e) i in made (omega arith) (inr at) (variable-item x) (guards-of e) (of-feasible at x)
-  required-made (wd-witness {e} {w} at i) =
+  obligation-made (wd-witness {e} {w} at i) =
       made (omega arith) (inr at) (root-item (witness-root e i)) (witness-hypotheses w at) (of-defined (witness-root e i))
-  required-made (wfis {e} {w} at i) = made (omega arith) (inr at) (target-item e i) (witness-hypotheses w at) (of-witnessed at i)
-  required-made (grd {e} {f} at c i) =
+  obligation-made (wfis {e} {w} at i) = made (omega arith) (inr at) (target-item e i) (witness-hypotheses w at) (of-witnessed at i)
+  obligation-made (grd {e} {f} at c i) =
       made (omega arith) (inr at) (root-item (guard-root f i))
       (all-join (guards-of e) (all-map (λ w. written (w .root)) (all-keep _ (witnesses-of e)))) (of-written (guard-root f i))
-  required-made (sim {e} at c i) =
+  obligation-made (sim {e} at c i) =
       made (omega arith) (inr at) (variable-item (inl i)) (all-join (all-join (guards-of e) (moved-of at)) (roots-of e)) (of-moves (inr (e, c)) (inl i))
-  required-made (sim-new {e} at c i) =
+  obligation-made (sim-new {e} at c i) =
       let x = inl (in-kept _ (m .abstractVariables) i) in
       made (omega arith) (inr at) (variable-item x) (all-join (guards-of e) (moved-of at)) (of-unchanged x)
-  required-made (inv {e} at c i) =
+  obligation-made (inv {e} at c i) =
       let root = own-invariant (m .role e) i in
       made (omega arith) (inr at) (root-item root) (all-join (all-join (guards-of e) (moved-of at)) (roots-of e)) (of-primed root)
-  required-made (inv-new {e} at c i) =
+  obligation-made (inv-new {e} at c i) =
       let root = own-invariant (m .role e) i in
       made (omega arith) (inr at) (root-item root)
       (all-join (all-join (guards-of e) (moved-of at)) (moves-of at (unsharedVariables m) (λ x i. inl (in-kept _ (m .abstractVariables) i)))) (of-primed root)
-  required-made (nat {e} at c i) = made (omega arith) (inr at) (root-item (variant-root i)) (guards-of e) (of-natural (variant-root i))
-  required-made (var {e} at c i) =
+  obligation-made (nat {e} at c i) = made (omega arith) (inr at) (root-item (variant-root i)) (guards-of e) (of-natural (variant-root i))
+  obligation-made (var {e} at c i) =
       made (omega arith) (inr at) (root-item (variant-root i)) (all-join (guards-of e) (moved-of at)) (of-decreases (variant-root i))
-  required-made (var-anticipated {e} at c i) =
+  obligation-made (var-anticipated {e} at c i) =
       made (omega arith) (inr at) (root-item (variant-root i)) (all-join (guards-of e) (moved-of at)) (of-not-increased (variant-root i))
 
   pub listed-made : {s : Sequent} → In s (sequents m) → MadeOf m s
-  listed-made i = required-made (listed-required m i)
+  listed-made i = obligation-made (listed-required m i .0)

@@ -1,4 +1,4 @@
--- The list has exactly the required sequents, for every machine: each place of the list is traced to a row of the table, and each row to a place.
+-- The full list has exactly the published obligations, for every machine: each place of the list is traced to a row of the table, and each row to a place.
 -- The hypotheses of both are equal, role by role (`base-same` and the equations after it); the rest follows membership through ++, map and flatMap.
 use mathlib.Core.Path.{_≡_, refl, sym, ap, subst, _∙_}
 use mathlib.Core.Bool.{Bool, true, false, true≢false}
@@ -15,13 +15,13 @@ use Rattle.sequent.specs.Entry.{Entry, written, primed, defined, moves, 
 use Rattle.sequent.specs.Sequent.{Sequent, sequent, WD, INV, FIS, SIM, NAT, VAR}
 use Rattle.sequent.specs.Listed.{inOrder, actionWD, actionFIS, refined}
 use Rattle.sequent.specs.Listed.{allWritten, base, guarded, moved, witnessEntries, witnessHypotheses, witnessSequents}
-use Rattle.sequent.specs.Listed.{parameterWitnesses, simSequents, invHypotheses, variantSequents, eventSequents, formulas, sequents}
+use Rattle.sequent.specs.Listed.{parameterWitnesses, simSequents, invHypotheses, variantSequents, eventSequents, formulas, obligations}
 use Rattle.sequent.specs.Listed.{grd as grdOf, inv as invOf}
 use Rattle.sequent.proofs.Parts.{guardWDs, actionWDs, actionFISs, ofWitnesses, grds, nats, vars}
 use Rattle.sequent.proofs.Parts.{fromInvs, fromSims, fromGrds, fromWitnesses, fromFISs, fromActions, eventSequents-parts}
 use Rattle.sequent.specs.Required.{isNew, MatchedBy, by-initialisation, by-refined}
 use Rattle.sequent.specs.Required.{asWritten, baseOf, ownVariables, ownInvariants, baseGuards, movesOf, witnessesOf}
-use Rattle.sequent.specs.Required.{Required, wd-formula, wd-variant, wd-guard, wd-action, fis, wd-witness, wfis, grd, sim, sim-new, inv, inv-new, nat, var}
+use Rattle.sequent.specs.Required.{Obligation, wd-formula, wd-variant, wd-guard, wd-action, fis, wd-witness, wfis, grd, sim, sim-new, inv, inv-new, nat, var}
 use Rattle.sequent.specs.Required.{var-anticipated}
 
 -- a property of sequents depends on their hypotheses only as a list
@@ -167,122 +167,122 @@ module _ (m : Machine) where
         by-target true = moved-same
         by-target false = append-nil (baseGuards m e) ∙ guarded-same
 
-  -- a sequent is required if its hypotheses are those of a required one, written another way; likewise listed
-  required-as : {k e i : ℕ} {hs gs : List Entry} {g : Entry} {s : Sequent} → s ≡ sequent k e i gs g → hs ≡ gs → Required m (sequent k e i hs g) → Required m s
-  required-as p h q = subst (Required m) (sym p) (under (Required m) h q)
+  -- a sequent is an obligation if its hypotheses are those of one, written another way; likewise listed
+  obligation-as : {k e i : ℕ} {hs gs : List Entry} {g : Entry} {s : Sequent} → s ≡ sequent k e i gs g → hs ≡ gs → Obligation m (sequent k e i hs g) → Obligation m s
+  obligation-as p h q = subst (Obligation m) (sym p) (under (Obligation m) h q)
 
-  listed-as : {k e i : ℕ} {hs gs : List Entry} {g : Entry} → hs ≡ gs → In (sequent k e i gs g) (sequents m) → In (sequent k e i hs g) (sequents m)
-  listed-as h i = under (λ t. In t (sequents m)) (sym h) i
+  listed-as : {k e i : ℕ} {hs gs : List Entry} {g : Entry} → hs ≡ gs → In (sequent k e i gs g) (obligations m) → In (sequent k e i hs g) (obligations m)
+  listed-as h i = under (λ t. In t (obligations m)) (sym h) i
 
-  -- every listed sequent of an event is required
+  -- every listed sequent of an event is an obligation
   module _ {e : ℕ} (at : In e (m .events)) {s : Sequent} where
-    guard-required : In s (guardWDs m (m .role e) e) → Required m s
-    guard-required i =
+    guard-obligation : In s (guardWDs m (m .role e) e) → Obligation m s
+    guard-obligation i =
         let (before, r, rest, p, q) = inOrder-split e (base m (m .role e)) (m .guards e) i in
-        required-as q (ap (λ hs. hs ++ asWritten before) (base-same (m .role e))) (wd-guard before rest at p)
+        obligation-as q (ap (λ hs. hs ++ asWritten before) (base-same (m .role e))) (wd-guard before rest at p)
 
-    action-required : In s (actionWDs m (m .role e) e) → Required m s
-    action-required i =
+    action-obligation : In s (actionWDs m (m .role e) e) → Obligation m s
+    action-obligation i =
         let (x, j, k) = in-unflat _ (ownVariables m (m .role e)) i in
         let (r, a, p) = actionWD-root (m .action e x) k in
-        required-as p (guarded-same e) (wd-action at j a)
+        obligation-as p (guarded-same e) (wd-action at j a)
 
-    feasible-required : In s (actionFISs m (m .role e) e) → Required m s
-    feasible-required i =
+    feasible-obligation : In s (actionFISs m (m .role e) e) → Obligation m s
+    feasible-obligation i =
         let (x, j, k) = in-unflat _ (ownVariables m (m .role e)) i in
         let (r, a, p) = actionFIS-such (m .action e x) k in
-        required-as p (guarded-same e) (fis at j a)
+        obligation-as p (guarded-same e) (fis at j a)
 
-    witness-required : In s (ofWitnesses m (m .role e) e) → Required m s
-    witness-required i =
+    witness-obligation : In s (ofWitnesses m (m .role e) e) → Obligation m s
+    witness-obligation i =
         let (w, j, k) = in-unflat (witnessSequents m (m .role e) e) (m .witnesses e) i in
         ⊎-elim
-        (λ p. required-as p (witness-same e w) (wd-witness at j))
-        (λ l. required-as (in-one l) (witness-same e w) (wfis at j))
+        (λ p. obligation-as p (witness-same e w) (wd-witness at j))
+        (λ l. obligation-as (in-one l) (witness-same e w) (wfis at j))
         (in-cons k)
 
-    grd-required : In s (grds m (m .role e) e) → Required m s
-    grd-required i =
+    grd-obligation : In s (grds m (m .role e) e) → Obligation m s
+    grd-obligation i =
         let (f, j, k) = in-unflat (grdOf m (m .role e) e) (refined (m .role e)) i in
         let (r, l, p) = in-unmap _ (m .guards f) k in
-        required-as p (ap (λ hs. hs ++ witnessEntries m (parameterWitnesses m e)) (guarded-same e)) (grd at (refined-role (m .role e) j) l)
+        obligation-as p (ap (λ hs. hs ++ witnessEntries m (parameterWitnesses m e)) (guarded-same e)) (grd at (refined-role (m .role e) j) l)
 
-    sim-required : In s (simSequents m (m .role e) e) → Required m s
-    sim-required i =
+    sim-obligation : In s (simSequents m (m .role e) e) → Obligation m s
+    sim-obligation i =
         ⊎-elim
-        (λ k. let (f, x, c, j, p) = k in required-as p (ap (λ hs. hs ++ witnessesOf m e) (moved-same e)) (sim at c j))
-        (λ k. let (x, c, j, p) = k in required-as p (moved-same e) (sim-new at c j))
+        (λ k. let (f, x, c, j, p) = k in obligation-as p (ap (λ hs. hs ++ witnessesOf m e) (moved-same e)) (sim at c j))
+        (λ k. let (x, c, j, p) = k in obligation-as p (moved-same e) (sim-new at c j))
         (sim-role (m .role e) i)
 
-    inv-required : In s (invOf m (m .role e) e) → Required m s
-    inv-required i =
+    inv-obligation : In s (invOf m (m .role e) e) → Obligation m s
+    inv-obligation i =
         let (r, j, p) = in-unmap _ (ownInvariants m (m .role e)) i in
         by-class p j (isNew (m .role e)) refl (inv-hypotheses (m .role e) e)
       where
         by-class : {r : ℕ} → s ≡ sequent INV e r (invHypotheses m (m .role e) e) (primed r) → In r (ownInvariants m (m .role e)) → (b : Bool)
             → isNew (m .role e) ≡ b
             → invHypotheses m (m .role e) e ≡ moved m (m .role e) e ++ pick b (map (moves e) (unsharedVariables m)) (witnessEntries m (m .witnesses e))
-            → Required m s
-        by-class p j true c h = required-as p (ap (λ hs. hs ++ map (moves e) (unsharedVariables m)) (moved-same e) ∙ sym h) (inv-new at c j)
-        by-class p j false c h = required-as p (ap (λ hs. hs ++ witnessesOf m e) (moved-same e) ∙ sym h) (inv at c j)
+            → Obligation m s
+        by-class p j true c h = obligation-as p (ap (λ hs. hs ++ map (moves e) (unsharedVariables m)) (moved-same e) ∙ sym h) (inv-new at c j)
+        by-class p j false c h = obligation-as p (ap (λ hs. hs ++ witnessesOf m e) (moved-same e) ∙ sym h) (inv at c j)
 
-    variant-required : In s (variantSequents m (m .role e) e) → Required m s
-    variant-required i =
+    variant-obligation : In s (variantSequents m (m .role e) e) → Obligation m s
+    variant-obligation i =
         let (r, j, k) = variant-role (m .role e) i in
         ⊎-elim
-        (λ c. ⊎-elim (λ p. required-as p (guarded-same e) (nat at (c .0) j)) (λ p. required-as p (moved-same e) (var at (c .0) j)) (c .1))
-        (λ c. required-as (c .1) (moved-same e) (var-anticipated at (c .0) j))
+        (λ c. ⊎-elim (λ p. obligation-as p (guarded-same e) (nat at (c .0) j)) (λ p. obligation-as p (moved-same e) (var at (c .0) j)) (c .1))
+        (λ c. obligation-as (c .1) (moved-same e) (var-anticipated at (c .0) j))
         k
 
-    event-required : In s (eventSequents m e (m .role e)) → Required m s
-    event-required i =
-        ⊎-elim guard-required (λ i. ⊎-elim action-required (λ i. ⊎-elim feasible-required (λ i. ⊎-elim witness-required
-        (λ i. ⊎-elim grd-required (λ i. ⊎-elim sim-required (λ i. ⊎-elim inv-required variant-required
+    event-obligation : In s (eventSequents m e (m .role e)) → Obligation m s
+    event-obligation i =
+        ⊎-elim guard-obligation (λ i. ⊎-elim action-obligation (λ i. ⊎-elim feasible-obligation (λ i. ⊎-elim witness-obligation
+        (λ i. ⊎-elim grd-obligation (λ i. ⊎-elim sim-obligation (λ i. ⊎-elim inv-obligation variant-obligation
         (in-either (invOf m (m .role e) e) i)) (in-either (simSequents m (m .role e) e) i)) (in-either (grds m (m .role e) e) i))
         (in-either (ofWitnesses m (m .role e) e) i)) (in-either (actionFISs m (m .role e) e) i)) (in-either (actionWDs m (m .role e) e) i))
         (in-either (guardWDs m (m .role e) e) (subst (In s) (eventSequents-parts m (m .role e) e) i))
 
-  pub listed-required : {s : Sequent} → In s (sequents m) → Required m s
-  unfolding sequents
-  listed-required {s} i =
+  pub listed-obligation : {s : Sequent} → In s (obligations m) → Obligation m s
+  unfolding obligations
+  listed-obligation {s} i =
       ⊎-elim
-      (λ j. let (before, r, rest, p, q) = inOrder-split 0 [] (formulas m) j in subst (Required m) (sym q) (wd-formula before rest p))
+      (λ j. let (before, r, rest, p, q) = inOrder-split 0 [] (formulas m) j in subst (Obligation m) (sym q) (wd-formula before rest p))
       (λ j. ⊎-elim
-      (λ k. let (r, l, p) = in-unmap _ (m .variants) k in subst (Required m) (sym p) (wd-variant l))
-      (λ k. let (e, l, n) = in-unflat _ (m .events) k in event-required l n)
+      (λ k. let (r, l, p) = in-unmap _ (m .variants) k in subst (Obligation m) (sym p) (wd-variant l))
+      (λ k. let (e, l, n) = in-unflat _ (m .events) k in event-obligation l n)
       (in-either (map (λ r. sequent WD 0 r (allWritten m (formulas m)) (defined r)) (m .variants)) j))
       (in-either (inOrder 0 [] (formulas m)) i)
 
-  -- every required sequent of an event is listed
+  -- every obligation of an event is listed
   module _ {e : ℕ} (at : In e (m .events)) {s : Sequent} where
-    event-listed : In s (eventSequents m e (m .role e)) → In s (sequents m)
-    unfolding sequents
+    event-listed : In s (eventSequents m e (m .role e)) → In s (obligations m)
+    unfolding obligations
     event-listed i =
         in-right (inOrder 0 [] (formulas m))
         (in-right (map (λ r. sequent WD 0 r (allWritten m (formulas m)) (defined r)) (m .variants)) (in-flat (λ e. eventSequents m e (m .role e)) at i))
 
-    guards-listed : In s (guardWDs m (m .role e) e ++ fromActions m (m .role e) e) → In s (sequents m)
+    guards-listed : In s (guardWDs m (m .role e) e ++ fromActions m (m .role e) e) → In s (obligations m)
     guards-listed i = event-listed (subst (In s) (sym (eventSequents-parts m (m .role e) e)) i)
 
-    actions-listed : In s (fromActions m (m .role e) e) → In s (sequents m)
+    actions-listed : In s (fromActions m (m .role e) e) → In s (obligations m)
     actions-listed i = guards-listed (in-right (guardWDs m (m .role e) e) i)
 
-    fiss-listed : In s (fromFISs m (m .role e) e) → In s (sequents m)
+    fiss-listed : In s (fromFISs m (m .role e) e) → In s (obligations m)
     fiss-listed i = actions-listed (in-right (actionWDs m (m .role e) e) i)
 
-    witnesses-listed : In s (fromWitnesses m (m .role e) e) → In s (sequents m)
+    witnesses-listed : In s (fromWitnesses m (m .role e) e) → In s (obligations m)
     witnesses-listed i = fiss-listed (in-right (actionFISs m (m .role e) e) i)
 
-    grds-listed : In s (fromGrds m (m .role e) e) → In s (sequents m)
+    grds-listed : In s (fromGrds m (m .role e) e) → In s (obligations m)
     grds-listed i = witnesses-listed (in-right (ofWitnesses m (m .role e) e) i)
 
-    sims-listed : In s (fromSims m (m .role e) e) → In s (sequents m)
+    sims-listed : In s (fromSims m (m .role e) e) → In s (obligations m)
     sims-listed i = grds-listed (in-right (grds m (m .role e) e) i)
 
-    invs-listed : In s (fromInvs m (m .role e) e) → In s (sequents m)
+    invs-listed : In s (fromInvs m (m .role e) e) → In s (obligations m)
     invs-listed i = sims-listed (in-right (simSequents m (m .role e) e) i)
 
-    variants-listed : In s (variantSequents m (m .role e) e) → In s (sequents m)
+    variants-listed : In s (variantSequents m (m .role e) e) → In s (obligations m)
     variants-listed i = invs-listed (in-right (invOf m (m .role e) e) i)
 
   -- the sequents of a role's variant, by what they are for that role
@@ -291,48 +291,48 @@ module _ (m : Machine) where
   variants-at {ro} e f p {s} c i =
       subst (λ ro. In s (variantSequents m ro e)) (sym c) (subst (In s) (sym p) (subst (λ ro. In s (f ro)) c i))
 
-  pub required-listed : {s : Sequent} → Required m s → In s (sequents m)
-  unfolding sequents
-  required-listed (wd-formula before {r} rest p) =
+  pub obligation-listed : {s : Sequent} → Obligation m s → In s (obligations m)
+  unfolding obligations
+  obligation-listed (wd-formula before {r} rest p) =
       in-left _ (subst (λ rs. In (sequent WD 0 r (asWritten before) (defined r)) (inOrder 0 [] rs)) (sym p) (inOrder-at 0 [] before r rest))
-  required-listed (wd-variant i) = in-right (inOrder 0 [] (formulas m)) (in-left _ (in-map _ i))
-  required-listed (wd-guard {e} before {r} rest at p) =
+  obligation-listed (wd-variant i) = in-right (inOrder 0 [] (formulas m)) (in-left _ (in-map _ i))
+  obligation-listed (wd-guard {e} before {r} rest at p) =
       listed-as (ap (λ hs. hs ++ asWritten before) (base-same (m .role e)))
       (guards-listed at (in-left _
       (subst (λ rs. In (sequent WD e r (base m (m .role e) ++ asWritten before) (defined r)) (inOrder e (base m (m .role e)) rs)) (sym p)
       (inOrder-at e (base m (m .role e)) before r rest))))
-  required-listed (wd-action {e} {x} at i a) =
+  obligation-listed (wd-action {e} {x} at i a) =
       listed-as (guarded-same e) (actions-listed at (in-left _ (in-flat _ i (actionWD-at a))))
-  required-listed (fis {e} {x} at i a) =
+  obligation-listed (fis {e} {x} at i a) =
       listed-as (guarded-same e) (fiss-listed at (in-left _ (in-flat _ i (actionFIS-at a))))
-  required-listed (wd-witness {e} {w} at i) =
+  obligation-listed (wd-witness {e} {w} at i) =
       listed-as (witness-same e w) (witnesses-listed at (in-left _ (in-flat (witnessSequents m (m .role e) e) i (here refl))))
-  required-listed (wfis {e} {w} at i) =
+  obligation-listed (wfis {e} {w} at i) =
       listed-as (witness-same e w) (witnesses-listed at (in-left _ (in-flat (witnessSequents m (m .role e) e) i (there (here refl)))))
-  required-listed (grd {e} at c i) =
+  obligation-listed (grd {e} at c i) =
       listed-as (ap (λ hs. hs ++ witnessEntries m (parameterWitnesses m e)) (guarded-same e))
       (grds-listed at (in-left _ (in-flat (grdOf m (m .role e) e) (refined-at c) (in-map _ i))))
-  required-listed (sim {e} at c i) =
+  obligation-listed (sim {e} at c i) =
       listed-as (ap (λ hs. hs ++ witnessesOf m e) (moved-same e))
       (sims-listed at (in-left _ (sim-at c i)))
-  required-listed (sim-new {e} at c i) =
+  obligation-listed (sim-new {e} at c i) =
       listed-as (moved-same e) (sims-listed at (in-left _ (sim-new-at (m .role e) c i)))
-  required-listed (inv {e} {r} at c i) =
+  obligation-listed (inv {e} {r} at c i) =
       listed-as
       (ap (λ hs. hs ++ witnessesOf m e) (moved-same e) ∙ sym (inv-hypotheses (m .role e) e ∙ ap (λ hs. moved m (m .role e) e ++ hs) (not-chosen (isNew (m .role e)) _ _ c)))
       (invs-listed at (in-left _ (in-map _ i)))
-  required-listed (inv-new {e} {r} at c i) =
+  obligation-listed (inv-new {e} {r} at c i) =
       listed-as
       (ap (λ hs. hs ++ map (moves e) (unsharedVariables m)) (moved-same e)
       ∙ sym (inv-hypotheses (m .role e) e ∙ ap (λ hs. moved m (m .role e) e ++ hs) (chosen (isNew (m .role e)) _ _ c)))
       (invs-listed at (in-left _ (in-map _ i)))
-  required-listed (nat {e} at c i) =
+  obligation-listed (nat {e} at c i) =
       listed-as (guarded-same e) (variants-listed at (variants-at e (λ ro. nats m ro e ++ vars m ro e decreases) refl c (in-left _ (in-map _ i))))
-  required-listed (var {e} at c i) =
+  obligation-listed (var {e} at c i) =
       listed-as (moved-same e)
       (variants-listed at (variants-at e (λ ro. nats m ro e ++ vars m ro e decreases) refl c (in-right (nats m (m .role e) e) (in-map _ i))))
-  required-listed (var-anticipated {e} at c i) =
+  obligation-listed (var-anticipated {e} at c i) =
       listed-as (moved-same e) (variants-listed at (variants-at e (λ ro. vars m ro e notIncreased) refl c (in-map _ i)))
 
-  pub listed-exactly : {s : Sequent} → In s (sequents m) ↔ Required m s
-  listed-exactly = (listed-required, required-listed)
+  pub obligations-exactly : {s : Sequent} → In s (obligations m) ↔ Obligation m s
+  obligations-exactly = (listed-obligation, obligation-listed)

@@ -1,5 +1,6 @@
 pub mod Blocks
 pub mod Exact
+pub mod Required
 pub mod Numbers
 pub mod Ordered
 pub mod Parts
@@ -7,3 +8,4 @@ pub mod Places
 pub mod Entries
 pub mod Variants
 pub mod Shared
+pub mod Dropped

@@ -23,10 +23,11 @@ use Rattle.machine.specs.Machine.{Role, abstractInitialisation, abstractOrdinar
 use Rattle.sequent.specs.Entry.{Entry, written, primed, defined, moves, natural, decreases, notIncreased, unchanged}
 use Rattle.sequent.specs.Sequent.{Sequent, sequent, WD, INV, FIS, GRD, SIM, WFIS, NAT, VAR}
 use Rattle.sequent.specs.Listed.{inOrder, actionWD, actionFIS, refined, allWritten, base, guarded}
-use Rattle.sequent.specs.Listed.{witnessSequents, grd, simSequents, inv, invHypotheses, variantSequents, eventSequents, sequents}
+use Rattle.sequent.specs.Listed.{witnessSequents, grd, simSequents, inv, invHypotheses, variantSequents, eventSequents, obligations, needed, sequents}
 use Rattle.sequent.specs.Required.{axiomsInvariants, isConcrete, ownVariables, ownInvariants, Required, SameHeader}
 use Rattle.sequent.specs.Order.{placeIn, isIn, group, actionRoots, actionRootsOf, refinedGuards, key, keyOf, Before}
-use Rattle.sequent.proofs.Exact.{in-one, inOrder-split, actionWD-root, actionFIS-such, refined-role, listed-required, required-listed}
+use Rattle.sequent.proofs.Exact.{in-one, inOrder-split, actionWD-root, actionFIS-such, refined-role}
+use Rattle.sequent.proofs.Required.{listed-required, required-listed}
 use Rattle.sequent.proofs.Parts.{guardWDs, actionWDs, actionFISs, ofWitnesses, grds, fromFISs, eventSequents-parts}
 use Rattle.sequent.proofs.Places.{places-rise, places-agree, isIn-member, isIn-other, variable-found}
 use Rattle.sequent.proofs.Blocks.{less-asymmetric, less-by, Block, blocks-apart, block-join, block-up, item-block, flat-block, map-block, one-block}
@@ -278,13 +279,18 @@ module _ (m : Machine) (separate : Separate m) where
       (pairwise-imp (pairwise-tail (separate .events))
       (λ e f i j less s t k l. blocks-apart m less (event-block e (positive i) .keyed s k) (event-block f (positive j) .keyed t l)))
 
-  pub sequents-sorted : Pairwise (Before m) (sequents m)
-  unfolding sequents
-  sequents-sorted =
+  obligations-sorted : Pairwise (Before m) (obligations m)
+  unfolding obligations
+  obligations-sorted =
       subst (Pairwise (Before m)) (append-assoc (inOrder 0 [] (axiomsInvariants m)) variantWDs ofEvents)
       (pairwise-join (formula-block .sorted) events-sorted (λ s t i j.
       let (e, k, l) = in-unflat (λ e. eventSequents m e (m .role e)) (m .events) j in
       blocks-apart m (positive k) (formula-block .keyed s i) (event-block e (positive k) .keyed t l)))
+
+  -- and so do those of them that are listed
+  pub sequents-sorted : Pairwise (Before m) (sequents m)
+  unfolding sequents
+  sequents-sorted = pairwise-keep (needed m) obligations-sorted
 
   -- the relation and the order determine the list
   pub sequents-determined : (ss : List Sequent) → ((s : Sequent) → In s ss ↔ Required m s) → Pairwise (Before m) ss → ss ≡ sequents m

@@ -21,7 +21,7 @@ use Rattle.machine.proofs.Variables.{abstract-distinct, variables-apart}
 use Rattle.sequent.specs.Entry.{Entry, written, primed, defined, moves, feasible, witnessed, natural, decreases, notIncreased, unchanged, variable}
 use Rattle.sequent.specs.Sequent.{Sequent, Meets}
 use Rattle.sequent.specs.Required.{isNew, isConcrete, isInitialisation, asWritten, axiomsInvariants, baseOf, ownVariables, baseGuards, movesOf, witnessesOf, parameterWitnessesOf}
-use Rattle.sequent.specs.Required.{Required, wd-formula, wd-variant, wd-guard, wd-action, fis, wd-witness, wfis, grd, sim, sim-new, inv, inv-new, nat, var, var-anticipated}
+use Rattle.sequent.specs.Required.{Obligation, Required, wd-formula, wd-variant, wd-guard, wd-action, fis, wd-witness, wfis, grd, sim, sim-new, inv, inv-new, nat, var, var-anticipated}
 use Rattle.sequent.proofs.Ordered.{own-either}
 
 module _ (m : Machine) (ρ : Env (m .type)) (x : ℕ) where
@@ -126,7 +126,7 @@ module _ (m : Machine) where
     of-witness {s} true p = moved (ap movesIn p ∙ moved-own (s .event))
     of-witness {s} false p = none (ap movesIn p ∙ then-none (baseGuards m (s .event)) [] empty-none ∙ guards-none (s .event))
 
-    pub moves-once : {s : Sequent} → Required m s → MovesOnce s
+    pub moves-once : {s : Sequent} → Obligation m s → MovesOnce s
     moves-once (wd-formula before rest p) = none (written-list before)
     moves-once (wd-variant i) = none (written-list (axiomsInvariants m))
     moves-once (wd-guard {e} before rest at p) = none (none-then (baseOf m (m .role e)) _ (base-none (m .role e)) ∙ written-list before)
@@ -153,4 +153,4 @@ module _ (m : Machine) where
 
 -- the machines of every table
 pub table-moves-once : (t : Rows) {s : Sequent} → Required (machineOf t) s → MovesOnce (machineOf t) s
-table-moves-once t r = moves-once (machineOf t) (abstract-distinct t) (variables-apart t) r
+table-moves-once t r = moves-once (machineOf t) (abstract-distinct t) (variables-apart t) (r .0)

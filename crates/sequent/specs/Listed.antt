@@ -1,13 +1,15 @@
--- 01, Sequents: the hypotheses and goals of each kind, and the order of the list.
-use mathlib.Core.Bool.{Bool, true, false, not}
+-- 01, Sequents: the hypotheses and goals of each kind, and the order of the list; 02, request 4: which of them are listed.
+use mathlib.Core.Bool.{Bool, true, false, not, _||_}
 use mathlib.Core.List.{List, [], _∷_, _++_, map, flatMap}
 use Prim.Native.Nat.{ℕ}
 use Rattle.lists.specs.Choice.{pick}
 use Rattle.lists.specs.Below.{keep}
+use Rattle.lists.specs.Different.{someOf}
+use Rattle.formula.specs.Identifiers.{identifiers, divides}
 use Rattle.machine.specs.Machine.{Action, unassigned, becomesEqual, becomesSuchThat, Witness, Machine, sharedVariables, unsharedVariables}
 use Rattle.machine.specs.Machine.{Role, abstractInitialisation, abstractOrdinary, concreteInitialisation, refining, convergent, anticipated}
 use Rattle.sequent.specs.Entry.{Entry, written, primed, defined, moves, feasible, witnessed, natural, decreases, notIncreased, unchanged, variable}
-use Rattle.sequent.specs.Required.{ownVariables, ownInvariants}
+use Rattle.sequent.specs.Required.{ownVariables, ownInvariants, keepsInvariants}
 use Rattle.sequent.specs.Sequent.{Sequent, sequent, WD, INV, FIS, GRD, SIM, WFIS, NAT, VAR}
 
 -- "WD of axiom, invariant: those before it", "WD of guard: base, earlier guards": each formula under the hypotheses and those before it
@@ -26,6 +28,12 @@ abbrev pub actionFIS : ℕ → ℕ → List Entry → Action → List Sequent
 actionFIS e x hs unassigned = []
 actionFIS e x hs (becomesEqual r) = []
 actionFIS e x hs (becomesSuchThat r) = sequent FIS e x hs (feasible e x) ∷ []
+
+-- an action that is there
+abbrev pub isAssigned : Action → Bool
+isAssigned unassigned = false
+isAssigned (becomesEqual r) = true
+isAssigned (becomesSuchThat r) = true
 
 -- the abstract event that an event refines
 abbrev pub refined : Role → List ℕ
@@ -132,8 +140,31 @@ module _ (m : Machine) where
   abbrev pub formulas : List ℕ
   formulas = m .axioms ++ (m .abstractInvariants ++ m .concreteInvariants)
 
-  unfoldable pub sequents : List Sequent
-  sequents =
+  unfoldable pub obligations : List Sequent
+  obligations =
       inOrder 0 [] formulas
       ++ (map (λ r. sequent WD 0 r (allWritten formulas) (defined r)) (m .variants)
       ++ flatMap (λ e. eventSequents e (m .role e)) (m .events))
+
+  -- 02, request 4: an event assigns an identifier that a formula mentions
+  abbrev pub touched : ℕ → ℕ → Bool
+  touched e r = someOf (λ x. isAssigned (m .action e x)) (identifiers (m .tree r))
+
+  -- WD is kept where the formula divides, INV by its event's role, or where the event assigns what the invariant mentions; all else is
+  abbrev pub neededGoal : ℕ → Entry → Bool
+  neededGoal e (written r) = true
+  neededGoal e (primed r) = keepsInvariants (m .role e) || touched e r
+  neededGoal e (defined r) = divides (m .tree r)
+  neededGoal e (moves f x) = true
+  neededGoal e (feasible f x) = true
+  neededGoal e (witnessed f x) = true
+  neededGoal e (natural r) = true
+  neededGoal e (decreases r) = true
+  neededGoal e (notIncreased r) = true
+  neededGoal e (unchanged x) = true
+
+  abbrev pub needed : Sequent → Bool
+  needed s = neededGoal (s .event) (s .goal)
+
+  unfoldable pub sequents : List Sequent
+  sequents = keep needed obligations

@@ -1,15 +1,16 @@
--- The sequents that the published obligations require of a machine and its refinement: 01's table "Sequents" row by row, with the hypotheses and goals of
--- document 004, 02's anticipated events (request 1) and shared variables (request 2). A relation: it says which sequents there are, of which events, and
--- nothing of how a list of them is made.
+-- The sequents that are required of a machine and its refinement: the published obligations, which are 01's table "Sequents" row by row, with the hypotheses and
+-- goals of document 004, 02's anticipated events (request 1) and shared variables (request 2), but those that nobody need read (request 4). Relations: they say
+-- which sequents there are, of which events, and nothing of how a list of them is made.
 use mathlib.Core.Path.{_≡_}
 use mathlib.Core.Bool.{Bool, true, false, not}
 use mathlib.Core.List.{List, [], _∷_, _++_, map}
 use mathlib.Core.Logic.{_⊎_}
 use Prim.Native.Nat.{ℕ}
-use Rattle.lists.specs.All.{In}
+use Rattle.lists.specs.All.{All, In}
 use Rattle.lists.specs.Choice.{pick}
 use Rattle.lists.specs.Below.{keep}
-use Rattle.machine.specs.Machine.{becomesEqual, becomesSuchThat, Witness, Machine, sharedVariables, unsharedVariables}
+use Rattle.formula.specs.Identifiers.{identifiers, divides}
+use Rattle.machine.specs.Machine.{unassigned, becomesEqual, becomesSuchThat, Witness, Machine, sharedVariables, unsharedVariables}
 use Rattle.machine.specs.Machine.{Role, abstractInitialisation, abstractOrdinary, concreteInitialisation, refining, convergent, anticipated}
 use Rattle.sequent.specs.Entry.{Entry, written, primed, defined, moves, feasible, witnessed, natural, decreases, notIncreased, unchanged, variable}
 use Rattle.sequent.specs.Sequent.{Sequent, sequent, WD, INV, FIS, GRD, SIM, WFIS, NAT, VAR}
@@ -80,53 +81,73 @@ module _ (m : Machine) where
   parameterWitnessesOf e = map (λ w. written (w .root)) (keep (λ w. not (variable m (w .target))) (m .witnesses e))
 
 -- "SIM, GRD and witnesses belong to the concrete initialisation (no GRD) and ordinary concrete events": no other event of an accepted table has witnesses.
-pub data Required (m : Machine) : Sequent → Type 0 where
+pub data Obligation (m : Machine) : Sequent → Type 0 where
   -- "1 WD of axiom, invariant | those before it, in tag order | 3 | root"
   wd-formula : (before : List ℕ) {r : ℕ} (rest : List ℕ) → axiomsInvariants m ≡ before ++ (r ∷ rest)
-      → Required m (sequent WD 0 r (asWritten before) (defined r))
+      → Obligation m (sequent WD 0 r (asWritten before) (defined r))
   -- "WD of variant | axioms, all invariants | 3 | root"
   wd-variant : {r : ℕ} → In r (m .variants)
-      → Required m (sequent WD 0 r (asWritten (axiomsInvariants m)) (defined r))
+      → Obligation m (sequent WD 0 r (asWritten (axiomsInvariants m)) (defined r))
   -- "WD of guard | base, earlier guards | 3 | root"
   wd-guard : {e : ℕ} (before : List ℕ) {r : ℕ} (rest : List ℕ) → In e (m .events) → m .guards e ≡ before ++ (r ∷ rest)
-      → Required m (sequent WD e r (baseOf m (m .role e) ++ asWritten before) (defined r))
+      → Obligation m (sequent WD e r (baseOf m (m .role e) ++ asWritten before) (defined r))
   -- "WD of action | base, guards | 3 | root"
   wd-action : {e x r : ℕ} → In e (m .events) → In x (ownVariables m (m .role e)) → (m .action e x ≡ becomesEqual r) ⊎ (m .action e x ≡ becomesSuchThat r)
-      → Required m (sequent WD e r (baseGuards m e) (defined r))
+      → Obligation m (sequent WD e r (baseGuards m e) (defined r))
   -- "3 FIS (52 only) | base, guards | 5 | variable"
   fis : {e x r : ℕ} → In e (m .events) → In x (ownVariables m (m .role e)) → m .action e x ≡ becomesSuchThat r
-      → Required m (sequent FIS e x (baseGuards m e) (feasible e x))
+      → Obligation m (sequent FIS e x (baseGuards m e) (feasible e x))
   -- "WD of witness | base, guards, and moves for a variable witness | 3 | root"
   wd-witness : {e : ℕ} {w : Witness} → In e (m .events) → In w (m .witnesses e)
-      → Required m (sequent WD e (w .root) (baseGuards m e ++ pick (variable m (w .target)) (movesOf m e) []) (defined (w .root)))
+      → Obligation m (sequent WD e (w .root) (baseGuards m e ++ pick (variable m (w .target)) (movesOf m e) []) (defined (w .root)))
   -- "6 WFIS | base, guards, and moves for a variable witness | 6 | identifier"
   wfis : {e : ℕ} {w : Witness} → In e (m .events) → In w (m .witnesses e)
-      → Required m (sequent WFIS e (w .target) (baseGuards m e ++ pick (variable m (w .target)) (movesOf m e) []) (witnessed e (w .target)))
+      → Obligation m (sequent WFIS e (w .target) (baseGuards m e ++ pick (variable m (w .target)) (movesOf m e) []) (witnessed e (w .target)))
   -- "4 GRD, each abstract guard | base, guards, parameter witnesses | 1 | root"
   grd : {e f r : ℕ} → In e (m .events) → m .role e ≡ refining f → In r (m .guards f)
-      → Required m (sequent GRD e r (baseGuards m e ++ parameterWitnessesOf m e) (written r))
+      → Obligation m (sequent GRD e r (baseGuards m e ++ parameterWitnessesOf m e) (written r))
   -- "5 SIM, each abstract variable | base, guards, moves, witnesses | 4 of the abstract event | variable", each shared one too
   sim : {e f x : ℕ} → In e (m .events) → MatchedBy f (m .role e) → In x (m .abstractVariables)
-      → Required m (sequent SIM e x ((baseGuards m e ++ movesOf m e) ++ witnessesOf m e) (moves f x))
+      → Obligation m (sequent SIM e x ((baseGuards m e ++ movesOf m e) ++ witnessesOf m e) (moves f x))
   -- 02, request 2: "SIM is made for it also at convergent and anticipated events, before INV, with base, guards and moves; its goal there is form 10"
   sim-new : {e x : ℕ} → In e (m .events) → isNew (m .role e) ≡ true → In x (sharedVariables m)
-      → Required m (sequent SIM e x (baseGuards m e ++ movesOf m e) (unchanged x))
+      → Obligation m (sequent SIM e x (baseGuards m e ++ movesOf m e) (unchanged x))
   -- "2 INV, own machine's invariants | base, guards, moves, witnesses | 2 | root"
   inv : {e r : ℕ} → In e (m .events) → isNew (m .role e) ≡ false → In r (ownInvariants m (m .role e))
-      → Required m (sequent INV e r ((baseGuards m e ++ movesOf m e) ++ witnessesOf m e) (primed r))
+      → Obligation m (sequent INV e r ((baseGuards m e ++ movesOf m e) ++ witnessesOf m e) (primed r))
   -- "for a convergent event form 4 of each abstract variable instead of witnesses"; an anticipated one "has all sequents of a convergent event except NAT"; 02,
   -- request 2: "Form 4 of it stands once among hypotheses, that of the concrete event": a shared variable's is among the moves
   inv-new : {e r : ℕ} → In e (m .events) → isNew (m .role e) ≡ true → In r (ownInvariants m (m .role e))
-      → Required m (sequent INV e r ((baseGuards m e ++ movesOf m e) ++ map (moves e) (unsharedVariables m)) (primed r))
+      → Obligation m (sequent INV e r ((baseGuards m e ++ movesOf m e) ++ map (moves e) (unsharedVariables m)) (primed r))
   -- "7 NAT (convergent) | base, guards | 7 | root"
   nat : {e r : ℕ} → In e (m .events) → m .role e ≡ convergent → In r (m .variants)
-      → Required m (sequent NAT e r (baseGuards m e) (natural r))
+      → Obligation m (sequent NAT e r (baseGuards m e) (natural r))
   -- "8 VAR (convergent) | base, guards; VAR also moves | 8 | root"
   var : {e r : ℕ} → In e (m .events) → m .role e ≡ convergent → In r (m .variants)
-      → Required m (sequent VAR e r (baseGuards m e ++ movesOf m e) (decreases r))
+      → Obligation m (sequent VAR e r (baseGuards m e ++ movesOf m e) (decreases r))
   -- 02, request 1: "its VAR goal is variant after ≤ variant (form 9, root, 0), made only where a variant row exists"
   var-anticipated : {e r : ℕ} → In e (m .events) → m .role e ≡ anticipated → In r (m .variants)
-      → Required m (sequent VAR e r (baseGuards m e ++ movesOf m e) (notIncreased r))
+      → Obligation m (sequent VAR e r (baseGuards m e ++ movesOf m e) (notIncreased r))
+
+-- 02, request 4: "an abstract, convergent or anticipated event"; "initialisations keep theirs", and so do events that refine
+abbrev pub keepsInvariants : Role → Bool
+keepsInvariants abstractInitialisation = true
+keepsInvariants abstractOrdinary = false
+keepsInvariants (concreteInitialisation f) = true
+keepsInvariants (refining f) = true
+keepsInvariants convergent = false
+keepsInvariants anticipated = false
+
+-- 02, request 4: what is left out; hypotheses are not
+pub data Dropped (m : Machine) : Sequent → Type 0 where
+  -- "WD is dropped where the formula has no ÷ and no mod."
+  no-division : {e r : ℕ} {hs : List Entry} → divides (m .tree r) ≡ false → Dropped m (sequent WD e r hs (defined r))
+  -- "INV is dropped for an abstract, convergent or anticipated event that assigns no variable the invariant mentions"
+  untouched : {e r : ℕ} {hs : List Entry} → keepsInvariants (m .role e) ≡ false → All (λ x. m .action e x ≡ unassigned) (identifiers (m .tree r))
+      → Dropped m (sequent INV e r hs (primed r))
+
+abbrev pub Required : Machine → Sequent → Type 0
+Required m s = Obligation m s × ¬ Dropped m s
 
 -- the numbers of row 80: "kind, event or 0, item"
 pub record SameHeader (s t : Sequent) : Type 0 where
