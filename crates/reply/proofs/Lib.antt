@@ -4,4 +4,5 @@ pub mod Output
 pub mod Parse
 pub mod Printed
 pub mod ReadBack
+pub mod Mentioned
 pub mod Writable

@@ -14,6 +14,7 @@ use Rattle.lists.proofs.Below.{in-numbers}
 use Rattle.lists.proofs.Choice.{chosen, not-chosen}
 use Rattle.lists.proofs.Flat.{flat-join, flat-same, flat-map, flat-ext, numbers-suc, numbers-join}
 use Rattle.row.specs.Row.{rowBytes, width}
+use Rattle.machine.specs.Machine.{Machine}
 use Rattle.sequent.specs.Sequent.{Sequent}
 use Rattle.sequent.specs.Listed.{sequents}
 use Rattle.rules.specs.declared.Verdict.the-variants.{Accepted, Refused}
@@ -21,7 +22,8 @@ use Rattle.rules.specs.Verdict.{verdict}
 use Rattle.rules.specs.Offence.{machine}
 use Rattle.rules.proofs.Accepted.{accepted-none}
 use Rattle.reply.specs.declared.Reply.the-variants as reply
-use Rattle.reply.specs.Printed.{row, sequentRows, rowsBytes}
+use Rattle.reply.specs.Row.{row}
+use Rattle.reply.specs.Printed.{sequentRows, rowsBytes}
 use Rattle.reply.specs.Replies.{among, sequentAt, sequentBytes, writeBy, writeRows, printed, writeSequent, output}
 use Rattle.reply.proofs.Printed.{rows-join}
 
@@ -34,17 +36,18 @@ flat-places f d (x ∷ xs) =
     (flat-places f d xs ∙ sym (ap (flatMap (λ i. f (getD (x ∷ xs) i d))) (numbers-suc (length xs) 0) ∙ flat-map (λ i. f (getD (x ∷ xs) i d)) suc (numbers (length xs) 0)))
 
 -- the rows of a list of sequents, sequent by sequent
-rows-flat : (ss : List Sequent) → rowsBytes (flatMap sequentRows ss) ≡ flatMap (λ s. rowsBytes (sequentRows s)) ss
+rows-flat : (m : Machine) (ss : List Sequent) → rowsBytes (flatMap (sequentRows m) ss) ≡ flatMap (λ s. rowsBytes (sequentRows m s)) ss
 unfolding flatMap rowsBytes
-rows-flat [] = refl
-rows-flat (s ∷ ss) = rows-join (sequentRows s) (flatMap sequentRows ss) ∙ ap (λ bs. rowsBytes (sequentRows s) ++ bs) (rows-flat ss)
+rows-flat m [] = refl
+rows-flat m (s ∷ ss) = rows-join (sequentRows m s) (flatMap (sequentRows m) ss) ∙ ap (λ bs. rowsBytes (sequentRows m s) ++ bs) (rows-flat m ss)
 
-rows-numbered : (ss : List Sequent) → rowsBytes (flatMap sequentRows ss) ≡ flatMap (λ k. rowsBytes (sequentRows (sequentAt ss k))) (numbers (length ss) 1)
-rows-numbered ss =
-    rows-flat ss
-    ∙ flat-places (λ s. rowsBytes (sequentRows s)) _ ss
-    ∙ flat-ext _ _ (numbers (length ss) 0) (λ i. let p : i ≡ suc i - 1 = omega arith in ap (λ j. rowsBytes (sequentRows (getD ss j _))) p)
-    ∙ sym (ap (flatMap (λ k. rowsBytes (sequentRows (sequentAt ss k)))) (numbers-suc (length ss) 0) ∙ flat-map (λ k. rowsBytes (sequentRows (sequentAt ss k))) suc (numbers (length ss) 0))
+rows-numbered : (m : Machine) (ss : List Sequent)
+    → rowsBytes (flatMap (sequentRows m) ss) ≡ flatMap (λ k. rowsBytes (sequentRows m (sequentAt ss k))) (numbers (length ss) 1)
+rows-numbered m ss =
+    rows-flat m ss
+    ∙ flat-places (λ s. rowsBytes (sequentRows m s)) _ ss
+    ∙ flat-ext _ _ (numbers (length ss) 0) (λ i. let p : i ≡ suc i - 1 = omega arith in ap (λ j. rowsBytes (sequentRows m (getD ss j _))) p)
+    ∙ sym (ap (flatMap (λ k. rowsBytes (sequentRows m (sequentAt ss k)))) (numbers-suc (length ss) 0) ∙ flat-map (λ k. rowsBytes (sequentRows m (sequentAt ss k))) suc (numbers (length ss) 0))
 
 module _ (bytes : List ℕ) where
   -- "or one row 89 (refusal, row, 0)"
@@ -58,12 +61,12 @@ module _ (bytes : List ℕ) where
     unfolding output
     output-accepted =
         ap (printed (machine bytes)) accepted
-        ∙ rows-numbered (sequents (machine bytes))
+        ∙ rows-numbered (machine bytes) (sequents (machine bytes))
         ∙ ap (λ m. flatMap (sequentBytes (machine bytes)) (numbers m 1)) (sym (accepted-none bytes n accepted .1))
 
     -- each as write sequent writes it
     pub sequent-written : (k : ℕ) (out : List ℕ) → 1 ≤ k → k ≤ n → length (sequentBytes (machine bytes) k) ≤ length out
-        → writeSequent bytes k out ≡ record { reply = reply.Written (length (sequentRows (sequentAt (sequents (machine bytes)) k))); buffer = over (sequentBytes (machine bytes) k) out }
+        → writeSequent bytes k out ≡ record { reply = reply.Written (length (sequentRows (machine bytes) (sequentAt (sequents (machine bytes)) k))); buffer = over (sequentBytes (machine bytes) k) out }
     unfolding writeSequent writeRows
     sequent-written k out low high room =
         ap (λ v. writeBy (machine bytes) v k out) accepted

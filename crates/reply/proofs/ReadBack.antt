@@ -26,7 +26,8 @@ use Rattle.rules.specs.declared.Verdict.{Verdict}
 use Rattle.rules.specs.declared.Verdict.the-variants as verdict
 use Rattle.rules.specs.Verdict.{verdict as verdictOf}
 use Rattle.rules.specs.Offence.{machine}
-use Rattle.reply.specs.Printed.{row, sequentRows, rowsBytes}
+use Rattle.reply.specs.Row.{row}
+use Rattle.reply.specs.Printed.{sequentRows, rowsBytes}
 use Rattle.reply.specs.Spelled.{spell}
 use Rattle.reply.specs.Replies.{entries, printed, output}
 use Rattle.reply.proofs.Printed.{rows-length}
@@ -85,7 +86,7 @@ rows-once rs ss w v e = ext-getD d rs ss size same
 -- the rows that the program prints, by the verdict
 abbrev pub printedRows : Machine → Verdict → List Row
 printedRows m (verdict.Refused number at) = row 89 number at 0 ∷ []
-printedRows m (verdict.Accepted n) = flatMap sequentRows (sequents m)
+printedRows m (verdict.Accepted n) = flatMap (sequentRows m) (sequents m)
 
 module _ (bytes : List ℕ) where
   abbrev pub outputRows : List Row

@@ -9,6 +9,7 @@ use lib.Dec.{T}
 use Rattle.lists.specs.All.{All, all-nil, all-cons, In}
 use Rattle.lists.specs.Choice.{pick}
 use Rattle.lists.proofs.All.{all-head, all-tail, all-left, all-right, all-join, all-at, all-in, all-imp, all-map, all-flat}
+use Rattle.sets.specs.Set.{Identifier}
 use Rattle.number.specs.Number.{restOf, Fits}
 use Rattle.number.proofs.Form.{in-range-fits}
 use Rattle.row.specs.declared.Row.{Row}
@@ -31,13 +32,15 @@ use Rattle.rules.specs.declared.Verdict.the-variants as verdict
 use Rattle.rules.specs.Decoded.{decoded}
 use Rattle.rules.specs.Verdict.{verdict as verdictOf}
 use Rattle.rules.specs.Offence.{machine}
-use Rattle.rules.proofs.Accepted.{accepted-none}
+use Rattle.rules.proofs.Accepted.{accepted-none, none-obeys}
 use Rattle.rules.proofs.Range.{Ranged, small-ranged, zero-ranged, RangedRows, framed-ranged, accepted-framed}
 use Rattle.rules.proofs.Refused.{refused-number, refused-few}
 use Rattle.rules.proofs.RangedSequents.{EntryRanged, RangedSequent, machine-ranged, sequents-ranged}
-use Rattle.reply.specs.Printed.{row, entryRow, sequentRows}
+use Rattle.reply.specs.Row.{row}
+use Rattle.reply.specs.Printed.{entryRow, identifiersIn, mentionedRow, sequentRows}
 use Rattle.reply.specs.Spelled.{spelled, unaryNumber, binaryNumber, divisionNumber, connectiveNumber, spellTree, spell}
 use Rattle.reply.specs.Replies.{entries}
+use Rattle.reply.proofs.Mentioned.{goal-identifiers, different-few, lowest-few, highest-few}
 
 abbrev W : Row → Type 0
 W r = Writable greatest width r
@@ -187,7 +190,7 @@ after-writable v (division o t u) h =
 after-writable v (connective o t u) h =
     two-writable (connectiveNumber o) (connective-small o) (after-writable v t (two-left t u h)) (after-writable v u (two-right t u h))
 
--- rows 80 to 82 of a sequent
+-- the entries of a sequent, rows 81 and 82
 entry-writable : (tag : ℕ) → tag ≤ greatest → Fits 4 tag → (h : Entry) → EntryRanged h → W (entryRow tag h)
 entry-writable tag small fits h r = row-writable tag _ _ _ small fits (small-ranged _ (omega (arith, form-small h))) (r .0) (r .1)
   where
@@ -203,12 +206,20 @@ entry-writable tag small fits h r = row-writable tag _ _ _ small fits (small-ran
     form-small (notIncreased r) = omega arith
     form-small (unchanged x) = omega arith
 
-sequent-writable : (s : Sequent) → RangedSequent s → All W (sequentRows s)
+-- row 84, of identifiers that are in 1 to 64
+mentioned-writable : (xs : List ℕ) → All Identifier xs → W (mentionedRow xs)
+unfolding restOf
+mentioned-writable xs h =
+    row-writable 84 _ _ _ (omega arith) refl (small-ranged _ (omega (arith, different-few xs h))) (small-ranged _ (omega (arith, lowest-few xs h)))
+    (small-ranged _ (omega (arith, highest-few xs h)))
+
+sequent-writable : (m : Machine) (s : Sequent) → RangedSequent s → All Identifier (identifiersIn (spell (formula m (s .goal)))) → All W (sequentRows m s)
 unfolding sequentRows restOf
-sequent-writable s r =
+sequent-writable m s r named =
     all-cons (row-writable 80 (s .kind) (s .event) (s .item) (omega arith) refl (small-ranged (s .kind) (omega (arith, r .kind))) (r .event) (r .item))
+    (all-cons (mentioned-writable _ named)
     (all-join (all-map (entryRow 81) (all-imp (entry-writable 81 (omega arith) refl) (r .hypotheses)))
-    (all-cons (entry-writable 82 (omega arith) refl (s .goal) (r .goal)) all-nil))
+    (all-cons (entry-writable 82 (omega arith) refl (s .goal) (r .goal)) all-nil)))
 
 -- rows 83 of an entry, of a machine whose trees are spelled in range
 module _ (m : Machine) (trees : (n : ℕ) → TreeWritable (m .tree n)) where
@@ -247,8 +258,8 @@ module _ (bytes : List ℕ) (n : ℕ) (v : verdictOf bytes ≡ verdict.Accepted 
   listed-ranged i = sequents-ranged (machine bytes) (machine-ranged (decoded bytes) rows-ranged) i
 
   -- every row of every listed sequent
-  pub sequent-rows-writable : {s : Sequent} → In s (sequents (machine bytes)) → All (Writable greatest width) (sequentRows s)
-  sequent-rows-writable {s} i = sequent-writable s (listed-ranged i)
+  pub sequent-rows-writable : {s : Sequent} → In s (sequents (machine bytes)) → All (Writable greatest width) (sequentRows (machine bytes) s)
+  sequent-rows-writable {s} i = sequent-writable (machine bytes) s (listed-ranged i) (goal-identifiers (decoded bytes) (none-obeys bytes (accepted-none bytes n v .0)) i)
 
   -- every row of every spelled entry of it
   pub spelled-rows-writable : {s : Sequent} → In s (sequents (machine bytes)) → {h : Entry} → In h (entries s)
@@ -258,8 +269,8 @@ module _ (bytes : List ℕ) (n : ℕ) (v : verdictOf bytes ≡ verdict.Accepted 
       formula-writable (machine bytes) trees-writable h (all-at (all-join (r .hypotheses) (all-cons (r .goal) all-nil)) j)
 
   -- every row that the program prints
-  pub list-rows-writable : All (Writable greatest width) (flatMap sequentRows (sequents (machine bytes)))
-  list-rows-writable = all-flat sequentRows (all-in (sequents (machine bytes)) (λ s i. sequent-rows-writable i))
+  pub list-rows-writable : All (Writable greatest width) (flatMap (sequentRows (machine bytes)) (sequents (machine bytes)))
+  list-rows-writable = all-flat (sequentRows (machine bytes)) (all-in (sequents (machine bytes)) (λ s i. sequent-rows-writable i))
 
 -- the row of a refusal
 pub refusal-row-writable : (bytes : List ℕ) (c r : ℕ) → verdictOf bytes ≡ verdict.Refused c r → Writable greatest width (row 89 c r 0)

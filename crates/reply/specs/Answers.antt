@@ -40,7 +40,7 @@ module _ (bytes : List ℕ) where
 
   -- the rows that are asked for
   abbrev pub rowsAsked : Call → List Row
-  rowsAsked (writing k) = sequentRows (sequentAsked (writing k))
+  rowsAsked (writing k) = sequentRows (machine bytes) (sequentAsked (writing k))
   rowsAsked (spelling k j) = spell (formula (machine bytes) (getD (entries (sequentAsked (spelling k j))) (j - 1) (written 0)))
 
   abbrev pub outcomeOf : Call → List ℕ → Outcome

@@ -19,7 +19,8 @@ use Rattle.rules.specs.Verdict.{verdict as verdictOf}
 use Rattle.rules.specs.Offence.{machine}
 use Rattle.reply.specs.declared.Reply.{Reply}
 use Rattle.reply.specs.declared.Reply.the-variants as reply
-use Rattle.reply.specs.Printed.{row, sequentRows, rowsBytes}
+use Rattle.reply.specs.Row.{row}
+use Rattle.reply.specs.Printed.{sequentRows, rowsBytes}
 use Rattle.reply.specs.Spelled.{spell}
 
 -- a reply, and what the caller's buffer holds afterwards
@@ -55,11 +56,11 @@ module _ (m : Machine) where
 
   -- write sequent k, by the verdict
   abbrev pub writeBy : Verdict → ℕ → List ℕ → Outcome
-  writeBy v k out = withSequent v k out (λ s. writeRows (sequentRows s) out)
+  writeBy v k out = withSequent v k out (λ s. writeRows (sequentRows m s) out)
 
   -- the bytes of sequent k: what write sequent writes
   abbrev pub sequentBytes : ℕ → List ℕ
-  sequentBytes k = rowsBytes (sequentRows (sequentAt (sequents m) k))
+  sequentBytes k = rowsBytes (sequentRows m (sequentAt (sequents m) k))
 
   -- refusal 14, entry: "j not in 1 to the entries"
   abbrev pub spellAt : Sequent → ℕ → List ℕ → Outcome
@@ -73,7 +74,7 @@ module _ (m : Machine) where
   -- what the program prints, by the verdict
   abbrev pub printed : Verdict → List ℕ
   printed (verdict.Refused number at) = rowBytes width (row 89 number at 0)
-  printed (verdict.Accepted n) = rowsBytes (flatMap sequentRows (sequents m))
+  printed (verdict.Accepted n) = rowsBytes (flatMap (sequentRows m) (sequents m))
 
 module _ (bytes : List ℕ) where
   unfoldable pub writeSequent : ℕ → List ℕ → Outcome

@@ -6,7 +6,7 @@ use Rattle.row.specs.declared.Row.{Row}
 use Rattle.formula.specs.Tree.{Constant, literal, TRUE, FALSE, top, bottom, Unary, bool, negation, logicalNot, Binary, plus, minus, times, equal, less, atMost, iff}
 use Rattle.formula.specs.Tree.{Division, quotient, remainder, Connective, and, or, implies, Tree, constant, identifier, after, unary, binary, division, connective}
 use Rattle.formula.specs.Formula.{Formula, plain, someValue, someAfterValue}
-use Rattle.reply.specs.Printed.{row}
+use Rattle.reply.specs.Row.{row}
 
 abbrev pub spelledTag : ℕ
 spelledTag = 83

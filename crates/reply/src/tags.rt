@@ -7,4 +7,7 @@ pub const GOAL: u64 = 82;
 
 pub const SPELLED: u64 = 83;
 
+// 02, request 4: "After each row 80 comes a row 84".
+pub const MENTIONED: u64 = 84;
+
 pub const REFUSAL: u64 = 89;
