@@ -37,12 +37,19 @@ eventLimit = 32
 abbrev pub identifierLimit : ℕ
 identifierLimit = 64
 
--- two numbers for each tag up to the highest; and behind them one for each event and identifier up to their limits, for the event's action
+-- two numbers for each tag up to the highest; behind them one for each event and identifier up to their limits, for the event's action; then three for each
+-- node and one for each event up to their limits
 abbrev pub actionAt : ℕ → ℕ → ℕ
 actionAt e x = 142 + (65 * e + x)
 
+abbrev pub nodesAt : ℕ
+nodesAt = 2287
+
+abbrev pub eventsAt : ℕ
+eventsAt = 3826
+
 abbrev pub spanWords : ℕ
-spanWords = 2287
+spanWords = 3859
 
 -- a list holds the spans of all tags among the first n rows: from and to of the tag k at 2 × k and 2 × k + 1
 pub record SpannedTo (t : Rows) (n : ℕ) (spans : List ℕ) : Type 0 where

@@ -75,12 +75,16 @@ pub struct Span {
 
 impl Span {
     // How many numbers the spans of all tags take: those of the tag k, up to the highest, stand at 2 × k and 2 × k + 1. Behind them stand the rows of the actions, one more
-    // than each, for each event and identifier up to their limits.
+    // than each, for each event and identifier up to their limits; and behind those what is noted of the nodes and the events up to their limits (crate nodes).
     const ACTIONS: usize = 142;
 
     const ACTIONS_OF_EVENT: usize = Table::IDENTIFIERS as usize + 1;
 
-    pub const WORDS: usize = Span::ACTIONS + (Table::EVENTS as usize + 1) * Span::ACTIONS_OF_EVENT;
+    pub const NODES: usize = Span::ACTIONS + (Table::EVENTS as usize + 1) * Span::ACTIONS_OF_EVENT;
+
+    pub const EVENTS: usize = Span::NODES + 3 * (Table::NODES as usize + 1);
+
+    pub const WORDS: usize = Span::EVENTS + Table::EVENTS as usize + 1;
 }
 
 // Sets all numbers to 0.

@@ -1,0 +1,3 @@
+pub mod Notes
+pub mod Stored
+pub mod Touched
