@@ -19,9 +19,12 @@ use Rattle.table.specs.Rows.{Rows}
 use Rattle.sequent.specs.Entry.{Entry}
 use Rattle.select.specs.declared.Sought.{Sought}
 use Rattle.select.specs.declared.Selection.the-variants.{None}
+use Rattle.select.specs.declared.Each.the-variants.{One}
+use Rattle.select.specs.Each.{countAt}
 use Rattle.select.specs.Sought.{Passed}
+use Rattle.select.proofs.Selected.{ones-counted, counted-one}
 use Rattle.walk.specs.declared.Slot.{Slot}
-use Rattle.walk.specs.declared.Item.the-variants.{A}
+use Rattle.select.specs.declared.Item.the-variants.{A}
 use Rattle.entries.specs.declared.Cursor.{Cursor}
 use Rattle.entries.specs.Segments.{segments, segmentOf, segmentTable, segmentAt, inSegment, segmentEntry, segment, hypothesisWalk, goalAt, segmentCount, hypothesesTo, hypothesisCount}
 use Rattle.entries.specs.Seek.{cursorAt, Stands, hypothesesBefore, OnEntry, SoughtEntry, entryAt}
@@ -70,7 +73,7 @@ module _ (t : Rows) (s : Slot) where
 
   pub walk-length : length (hypothesisWalk t s) ≡ hypothesisCount t s
   unfolding hypothesisWalk hypothesesTo countBelow
-  walk-length = flat-length (segment t s) segments ∙ sum-same _ (segmentCount t s) segments segment-length ∙ omega arith
+  walk-length = flat-length (segment t s) segments ∙ sum-same _ (segmentCount t s) segments (λ k h. segment-length k) ∙ omega arith
 
   -- a row that passes holds the hypothesis behind those that stand before it
   module _ (k j : ℕ) (hk : k < segments) (hj : j < end k) (p : inSegment t s k j ≡ true) where
@@ -84,18 +87,21 @@ module _ (t : Rows) (s : Slot) where
     pub held : (d : Entry) → getD (hypothesisWalk t s) (hypothesesTo t s k j) d ≡ segmentEntry t s k j
     unfolding hypothesisWalk hypothesesTo
     held d =
-        flat-at (segment t s) (segmentCount t s) segment-length segments k (countBelow (inSegment t s k) j) d hk inside
+        flat-at (segment t s) (segmentCount t s) segments (λ k h. segment-length k) k (countBelow (inSegment t s k) j) d hk inside
         ∙ kept-at (inSegment t s k) (segmentEntry t s k) (end k) j d hj p
 
   -- a walk over the rows of a segment
-  module _ {c : Cursor} {r : Sought} (st : Stands t s c) (h : c .segment < segments) (p : Passed (inSegment t s (c .segment)) 1 (end (c .segment)) (soughtIn c) r) where
+  module _ {c : Cursor} {r : Sought} (st : Stands t s c) (h : c .segment < segments)
+      (p : Passed (countAt t (segmentAt t s (c .segment) .rows) One) (end (c .segment)) (soughtIn c) r) where
     pub passed-same : hypothesesTo t s (c .segment) (r .row) + r .left ≡ hypothesesBefore t s c + c .left
     unfolding hypothesesTo
-    passed-same = omega (arith, p .place)
+    passed-same =
+        let rows = segmentAt t s (c .segment) .rows in omega (arith, p .place, ones-counted t rows (r .row), ones-counted t rows (c .row))
 
     pub passed-found : {n : Cursor} → r .row < end (c .segment) → n ≡ cursorAt (c .segment) (r .row) (r .left) → Stands t s n × OnEntry t s n
-    passed-found l q = subst (λ n. Stands t s n × OnEntry t s n) (sym q)
-        (record { segment = st .segment; row = p .within }, record { row = l; passes = p .found l .0; left = omega (arith, p .found l .1) })
+    passed-found l q =
+        let f = counted-one t (segmentAt t s (c .segment) .rows) (r .row) (r .left) (p .found l) in
+        subst (λ n. Stands t s n × OnEntry t s n) (sym q) (record { segment = st .segment; row = p .within }, record { row = l; passes = f .0; left = f .1 })
 
     pub passed-next : {n : Cursor} → end (c .segment) ≤ r .row → n ≡ cursorAt (c .segment + 1) 0 (r .left)
         → Stands t s n × (hypothesesBefore t s n + n .left ≡ hypothesesBefore t s c + c .left)

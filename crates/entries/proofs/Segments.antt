@@ -1,36 +1,41 @@
--- The sequents that a slot holds are made of the slot's segments and its goal. `walk-then` writes the hypotheses as the segments, each there or not; group by group
+-- The sequents that the list keeps of a slot are made of the slot's segments and its goal. `walk-then` writes the hypotheses as the segments, each there or not; group by group
 -- the hypotheses are the same segments, where the role of the event tells which invariants are there.
-use Prim.Native.Nat.{ℕ, zero, suc, _+_, _<_}
+use Prim.Native.Nat.{ℕ, zero, suc, _+_, _≤_, _<_}
 use mathlib.Core.Path.{_≡_, refl, sym, ap, ap₂, _∙_, subst, fun-ext}
-use mathlib.Core.Bool.{Bool, true, false, not, _&&_, _||_, and-comm}
-use mathlib.Core.List.{List, [], _++_, map, flatMap, map-map, map-append, append-assoc, append-nil}
+use mathlib.Core.Bool.{Bool, true, false, true≢false, not, _&&_, _||_, and-comm}
+use mathlib.Core.List.{List, [], _∷_, _++_, map, flatMap, map-map, map-append, append-assoc, append-nil}
 use native.Mathlib.Omega.{arith}
 use lib.Dec.{eqb}
-use lib.ListN.{getD}
+use lib.ListN.{length, getD}
 use borrow.Author.Tests.{eqb-true}
 use Rattle.lists.specs.Choice.{pick}
 use Rattle.lists.specs.All.{All, all-nil, all-cons}
-use Rattle.lists.specs.Below.{numbers, keep}
+use Rattle.lists.specs.Below.{oneIf, numbers, keep}
 use Rattle.lists.proofs.All.{all-at}
 use Rattle.lists.proofs.Below.{numbers-in}
 use Rattle.lists.proofs.Flat.{keep-keep, keep-map, map-when}
 use Rattle.table.specs.Names.{isVariableOf}
-use Rattle.table.specs.Rows.{Rows, tagged, section}
+use Rattle.table.specs.Rows.{Rows, tagged, section, count}
 use Rattle.table.specs.Lookups.{isVariableNumber}
 use Rattle.machine.specs.Machine.{Witness, unsharedVariables}
 use Rattle.machine.specs.Described.{machineOf}
 use Rattle.machine.proofs.Variables.{variable-numbered, unshared-numbered}
 use Rattle.sequent.specs.Entry.{Entry, written, moves, variable}
-use Rattle.sequent.specs.Sequent.{Sequent, sequent}
-use Rattle.sequent.specs.Listed.{formulas, base, guarded, moved, allWritten, witnessEntries, parameterWitnesses, invHypotheses}
+use Rattle.sequent.specs.Sequent.{Sequent, sequent, WD, WFIS}
+use Rattle.formula.specs.Identifiers.{divides}
+use Rattle.sequent.specs.Listed.{formulas, base, guarded, moved, allWritten, witnessEntries, parameterWitnesses, invHypotheses, witnessHypotheses, needed}
+use Rattle.rules.proofs.Obeys.{Obeys}
+use Rattle.select.specs.Each.{divisions}
 use Rattle.sequent.specs.Required.{ownVariables}
 use Rattle.select.specs.declared.Selection.{Selection}
 use Rattle.select.specs.declared.Selection.the-variants.{Tagged, OfEvent, ForParameters, Identifiers, Variables}
 use Rattle.select.specs.Selection.{rowOfEvent, parameterWitness, identifierAt, variableAt, selects}
 use Rattle.walk.specs.declared.Slot.{Slot}
 use Rattle.walk.specs.Events.{isAbstract, isInitial, isNew, ownKind}
-use Rattle.walk.specs.Groups.{groups, groupAt, groupRows, when, headerKind, headerItem, axiomGroup, abstractInvariantGroup, concreteInvariantGroup, guardGroup, witnessGroup, grdGroup}
+use Rattle.walk.specs.Groups.{groups, groupAt, when, isWFIS, headerKind, headerItem, axiomGroup, abstractInvariantGroup, concreteInvariantGroup, guardGroup, witnessGroup, grdGroup}
 use Rattle.walk.specs.Slots.{slotAt, slotCount}
+use Rattle.walk.proofs.Kept.{witness-divisions, witness-count}
+use Rattle.walk.proofs.Find.{counted-kept}
 use Rattle.walk.proofs.Groups.{roleOf, writtenOf, baseAt, guardedAt, movedAt, witnessesAt, simulationAt, witnessOf, made, by-role, variables-own, guards-rows, witnesses-rows, map-identifiers}
 use Rattle.entries.specs.Segments.{upTo, ofNone, hasAbstract, hasConcrete, hasMoves, hasWitnesses, hasAbstractMoves}
 use Rattle.entries.specs.Segments.{segmentAt, segmentEntry, segment, hypothesisWalk, goalOf, goalAt, slotSequent}
@@ -264,45 +269,108 @@ module _ (t : Rows) where
         (all-cons (λ r. guarded-then e r ∙ sym (walk-then (slotAt e 11 i 0) r))
         (all-cons (λ r. moved-then e r ∙ sym (walk-then (slotAt e 12 i 0) r)) all-nil))))))))))))
 
-    abbrev Segmented : ℕ → ℕ → Type 0
-    Segmented g w = getD (made t e g i) w d ≡ slotSequent t (slotAt e g i w)
-
     -- all but the hypotheses computes
-    abbrev WithOwn : ℕ → ℕ → Type 0
-    WithOwn g w = let s = getD (made t e g i) w d in
-        s ≡ sequent (headerKind t e g w) e (headerItem t e g i w) (s .hypotheses) (goalAt t (slotAt e g i w))
+    abbrev WithOwn : ℕ → ℕ → Sequent → Type 0
+    WithOwn g w s = s ≡ sequent (headerKind t e g i w) e (headerItem t e g i w) (s .hypotheses) (goalAt t (slotAt e g i w))
 
-    first-own : All (λ g. WithOwn g 0) (numbers groups 0)
+    first-own : All (λ g. (eqb g witnessGroup ≡ false) → WithOwn g 0 (getD (made t e g i) 0 d)) (numbers groups 0)
     unfolding made numbers goalOf groupAt headerKind headerItem
     first-own =
-        all-cons refl (all-cons refl (all-cons refl (all-cons refl (all-cons refl (all-cons refl (all-cons refl (all-cons refl (all-cons refl
-        (all-cons refl (all-cons refl (all-cons refl (all-cons refl all-nil))))))))))))
+        all-cons (λ p. refl) (all-cons (λ p. refl) (all-cons (λ p. refl) (all-cons (λ p. refl) (all-cons (λ p. refl) (all-cons (λ p. refl) (all-cons (λ p. refl)
+        (all-cons (λ p. absurd (true≢false p)) (all-cons (λ p. refl) (all-cons (λ p. refl) (all-cons (λ p. refl) (all-cons (λ p. refl) (all-cons (λ p. refl) all-nil))))))))))))
 
-    segmented : (g w : ℕ) → Hypotheses g w → WithOwn g w → Segmented g w
-    segmented g w hs own =
+    segmented : (g w : ℕ) (s : Sequent) → ((rest : List Entry) → s .hypotheses ++ rest ≡ hypothesisWalk t (slotAt e g i w) ++ rest) → WithOwn g w s
+        → s ≡ slotSequent t (slotAt e g i w)
+    segmented g w s hs own =
         own
-        ∙ ap (λ xs. sequent (headerKind t e g w) e (headerItem t e g i w) xs (goalAt t (slotAt e g i w)))
-        (sym (append-nil (getD (made t e g i) w d .hypotheses)) ∙ hs [] ∙ append-nil (hypothesisWalk t (slotAt e g i w)))
+        ∙ ap (λ xs. sequent (headerKind t e g i w) e (headerItem t e g i w) xs (goalAt t (slotAt e g i w)))
+        (sym (append-nil (s .hypotheses)) ∙ hs [] ∙ append-nil (hypothesisWalk t (slotAt e g i w)))
 
-    first-segmented : (g : ℕ) → g < groups → Segmented g 0
-    first-segmented g l =
+    first-segmented : (g : ℕ) → g < groups → eqb g witnessGroup ≡ false → getD (made t e g i) 0 d ≡ slotSequent t (slotAt e g i 0)
+    first-segmented g l p =
         let k = numbers-in groups 0 g (omega arith) (omega arith) in
-        segmented g 0 (all-at first-hypotheses k) (all-at first-own k)
+        segmented g 0 _ (all-at first-hypotheses k) (all-at first-own k p)
 
-    second-segmented : Segmented witnessGroup 1
-    unfolding made goalOf groupAt headerKind headerItem
-    second-segmented = segmented witnessGroup 1 (λ r. witness-then e i r ∙ sym (walk-then (slotAt e witnessGroup i 1) r)) refl
+    -- a witness's WD and WFIS, by which of the row's sequents it is
+    abbrev ofWitness : Bool → Sequent
+    ofWitness b =
+        let k = pick b WFIS WD in
+        let x = pick b (t .b i) (t .c i) in
+        sequent k e x (witnessHypotheses (machineOf t) (roleOf t e) e (witnessOf t i)) (goalOf t k e x)
 
-  -- the w-th sequent of a slot is made of its segments
-  pub slot-segmented : (e g i w : ℕ) (d : Sequent) → g < groups → w < slotCount t e g i → getD (made t e g i) w d ≡ slotSequent t (slotAt e g i w)
-  unfolding slotCount
-  slot-segmented e g i w d l k = by-tests (selects t (groupRows t e g) i) (eqb g witnessGroup) refl w k
+    witness-segmented : (w : ℕ) (b : Bool) → isWFIS t witnessGroup i w ≡ b → ofWitness b ≡ slotSequent t (slotAt e witnessGroup i w)
+    unfolding headerKind headerItem groupAt
+    witness-segmented w b p =
+        segmented witnessGroup w (ofWitness b) (λ r. witness-then e i r ∙ sym (walk-then (slotAt e witnessGroup i w) r))
+        (ap (λ b. sequent (pick b WFIS WD) e (pick b (t .b i) (t .c i)) (witnessHypotheses (machineOf t) (roleOf t e) e (witnessOf t i)) (goalOf t (pick b WFIS WD) e (pick b (t .b i) (t .c i)))) (sym p))
+
+  -- what is kept of one sequent
+  kept-single : (P : Sequent → Bool) (s d : Sequent) (w : ℕ) → w < length (keep P (s ∷ [])) → (w ≡ 0) × (getD (keep P (s ∷ [])) w d ≡ s)
+  unfolding keep
+  kept-single P s d w h = go (P s) h
     where
-      by-tests : (b c : Bool) → eqb g witnessGroup ≡ c → (w : ℕ) → w < pick b (pick c 2 1) 0 → getD (made t e g i) w d ≡ slotSequent t (slotAt e g i w)
-      by-tests false c p w k = absurd (omega arith)
-      by-tests true c p zero k = first-segmented e i d g l
-      by-tests true false p (suc w) k = absurd (omega arith)
-      by-tests true true p (suc w) k =
-          let one : suc w ≡ 1 = omega arith in
-          subst (λ w. getD (made t e g i) w d ≡ slotSequent t (slotAt e g i w)) (sym one)
-          (subst (λ g. getD (made t e g i) 1 d ≡ slotSequent t (slotAt e g i 1)) (sym (eqb-true g witnessGroup p)) (second-segmented e i d))
+      go : (b : Bool) → w < length (pick b (s ∷ []) []) → (w ≡ 0) × (getD (pick b (s ∷ []) []) w d ≡ s)
+      go true k = let e : w ≡ 0 = omega arith in (e, ap (λ w. getD (s ∷ []) w d) e)
+      go false k = absurd (omega arith)
+
+  made-single : (e g i : ℕ) (d : Sequent) → g < groups → eqb g witnessGroup ≡ false → made t e g i ≡ getD (made t e g i) 0 d ∷ []
+  unfolding made numbers
+  made-single e g i d l p = all-at several (numbers-in groups 0 g (omega arith) (omega arith)) p
+    where
+      several : All (λ g. (eqb g witnessGroup ≡ false) → made t e g i ≡ getD (made t e g i) 0 d ∷ []) (numbers groups 0)
+      several =
+          all-cons (λ p. refl) (all-cons (λ p. refl) (all-cons (λ p. refl) (all-cons (λ p. refl) (all-cons (λ p. refl) (all-cons (λ p. refl) (all-cons (λ p. refl)
+          (all-cons (λ p. absurd (true≢false p)) (all-cons (λ p. refl) (all-cons (λ p. refl) (all-cons (λ p. refl) (all-cons (λ p. refl) (all-cons (λ p. refl) all-nil))))))))))))
+
+  module _ (ok : Obeys t) (e i : ℕ) (d : Sequent) (he : e ≤ count t 40) (hi : i < t .size) where
+    -- of a group of which a row has one sequent
+    single-segmented : (g w : ℕ) → g < groups → eqb g witnessGroup ≡ false → w < slotCount t e g i
+        → getD (keep (needed (machineOf t)) (made t e g i)) w d ≡ slotSequent t (slotAt e g i w)
+    single-segmented g w l p k =
+        let size = counted-kept t ok e g i he hi (omega arith) in
+        let same = made-single e g i d l p in
+        let kept = kept-single (needed (machineOf t)) (getD (made t e g i) 0 d) d w (subst (λ ss. w < length (keep (needed (machineOf t)) ss)) same (omega (arith, size))) in
+        ap (λ ss. getD (keep (needed (machineOf t)) ss) w d) same ∙ kept .1 ∙ first-segmented e i d g l p ∙ ap (λ w. slotSequent t (slotAt e g i w)) (sym (kept .0))
+
+    -- and of the witnesses
+    witness-kept : (w : ℕ) → w < slotCount t e witnessGroup i
+        → getD (keep (needed (machineOf t)) (made t e witnessGroup i)) w d ≡ slotSequent t (slotAt e witnessGroup i w)
+    unfolding made keep goalOf
+    witness-kept w k = by-test (divides (machineOf t .tree (t .c i))) refl
+      where
+        noted : divisions t (t .c i) ≡ oneIf (divides (machineOf t .tree (t .c i)))
+        noted = witness-divisions t ok e i hi (omega arith)
+
+        size : slotCount t e witnessGroup i ≡ oneIf (divides (machineOf t .tree (t .c i))) + 1
+        size = witness-count t ok e i (omega arith) ∙ ap (λ n. n + 1) noted
+
+        place : (b c : Bool) → divides (machineOf t .tree (t .c i)) ≡ b → eqb w (oneIf b) ≡ c → isWFIS t witnessGroup i w ≡ c
+        place b c p q = ap (eqb w) (noted ∙ ap oneIf p) ∙ q
+
+        two : (w : ℕ) → w < 2 → ((c : Bool) → eqb w 1 ≡ c → ofWitness e i d c ≡ slotSequent t (slotAt e witnessGroup i w))
+            → getD (ofWitness e i d false ∷ (ofWitness e i d true ∷ [])) w d ≡ slotSequent t (slotAt e witnessGroup i w)
+        two zero h f = f false refl
+        two (suc zero) h f = f true refl
+        two (suc (suc w)) h f = absurd (omega arith)
+
+        one : (w : ℕ) → w < 1 → ((c : Bool) → eqb w 0 ≡ c → ofWitness e i d c ≡ slotSequent t (slotAt e witnessGroup i w))
+            → getD (ofWitness e i d true ∷ []) w d ≡ slotSequent t (slotAt e witnessGroup i w)
+        one zero h f = f true refl
+        one (suc w) h f = absurd (omega arith)
+
+        by-test : (b : Bool) → divides (machineOf t .tree (t .c i)) ≡ b
+            → getD (pick b (ofWitness e i d false ∷ (ofWitness e i d true ∷ [])) (ofWitness e i d true ∷ [])) w d ≡ slotSequent t (slotAt e witnessGroup i w)
+        by-test true p = two w (omega (arith, size, ap oneIf p)) (λ c q. witness-segmented e i d w c (place true c p q))
+        by-test false p = one w (omega (arith, size, ap oneIf p)) (λ c q. witness-segmented e i d w c (place false c p q))
+
+    -- the w-th sequent that is kept of a slot is made of its segments
+    pub slot-segmented : (g w : ℕ) → g < groups → w < slotCount t e g i
+        → getD (keep (needed (machineOf t)) (made t e g i)) w d ≡ slotSequent t (slotAt e g i w)
+    slot-segmented g w l k = by-test (eqb g witnessGroup) refl
+      where
+        by-test : (b : Bool) → eqb g witnessGroup ≡ b → getD (keep (needed (machineOf t)) (made t e g i)) w d ≡ slotSequent t (slotAt e g i w)
+        by-test true p =
+            let same = eqb-true g witnessGroup p in
+            subst (λ g. getD (keep (needed (machineOf t)) (made t e g i)) w d ≡ slotSequent t (slotAt e g i w)) (sym same)
+            (witness-kept w (subst (λ g. w < slotCount t e g i) same k))
+        by-test false p = single-segmented g w l p k

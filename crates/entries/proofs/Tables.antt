@@ -11,7 +11,7 @@ use Rattle.table.specs.Rows.{Rows}
 use Rattle.sequent.specs.Entry.{defined}
 use Rattle.sequent.specs.Numbers.{numbers as numbersAt, numbersOf, writtenForm, movesForm}
 use Rattle.walk.specs.declared.Slot.{Slot}
-use Rattle.walk.specs.Groups.{itemAt}
+use Rattle.select.specs.Each.{itemAt}
 use Rattle.entries.specs.declared.Segment.{Segment}
 use Rattle.entries.specs.Segments.{goals, goalOf, segmentAt, segmentEntry}
 

@@ -1,5 +1,5 @@
 -- 01, Sequents, column "hypotheses": the hypotheses of a slot's sequents as segments, one line each, and then the goal. A segment has an entry for each row of a
--- selection before some row. What is left to pass over in a slot is which of its sequents is meant: 1 for the WFIS of a witness, else 0.
+-- selection before some row. What is left to pass over in a slot is which of its sequents is meant: of a witness its WD or its WFIS.
 use Prim.Native.Nat.{ℕ, _+_}
 use mathlib.Core.Bool.{Bool, not, _&&_, _||_}
 use mathlib.Core.List.{List, [], _∷_, map, flatMap}
@@ -17,12 +17,13 @@ use Rattle.sequent.specs.Sequent.{Sequent, sequent}
 use Rattle.select.specs.declared.Selection.{Selection}
 use Rattle.select.specs.declared.Selection.the-variants.{None, Tagged, OfEvent, ForParameters, Identifiers, Variables}
 use Rattle.select.specs.Selection.{selects}
-use Rattle.walk.specs.declared.Item.{Item}
-use Rattle.walk.specs.declared.Item.the-variants.{A, B, C, Identifier}
+use Rattle.select.specs.declared.Item.{Item}
+use Rattle.select.specs.declared.Item.the-variants.{A, B, C, Identifier}
 use Rattle.walk.specs.declared.Slot.{Slot}
 use Rattle.walk.specs.Events.{isAbstract, isInitial, isConvergent, isNew, matchedBy, ownKind}
 use Rattle.walk.specs.Groups.{axiomGroup, abstractInvariantGroup, concreteInvariantGroup, guardGroup, witnessGroup, grdGroup, simGroup, invGroup, varGroup}
-use Rattle.walk.specs.Groups.{when, itemAt, headerKind, headerItem}
+use Rattle.select.specs.Each.{itemAt}
+use Rattle.walk.specs.Groups.{when, headerKind, headerItem}
 use Rattle.entries.specs.declared.Segment.{Segment}
 
 abbrev pub segmentOf : Selection → ℕ → ℕ → Item → Segment
@@ -124,12 +125,12 @@ module _ (t : Rows) (s : Slot) where
 
   -- the goal, by the kind and the item
   abbrev pub goalAt : Entry
-  goalAt = goalOf t (headerKind t (s .event) (s .group) (s .left)) (s .event) (headerItem t (s .event) (s .group) (s .row) (s .left))
+  goalAt = goalOf t (headerKind t (s .event) (s .group) (s .row) (s .left)) (s .event) (headerItem t (s .event) (s .group) (s .row) (s .left))
 
   -- the slot's sequent: header, hypotheses and goal
   abbrev pub slotSequent : Sequent
   slotSequent =
-      sequent (headerKind t (s .event) (s .group) (s .left)) (s .event) (headerItem t (s .event) (s .group) (s .row) (s .left)) hypothesisWalk goalAt
+      sequent (headerKind t (s .event) (s .group) (s .row) (s .left)) (s .event) (headerItem t (s .event) (s .group) (s .row) (s .left)) hypothesisWalk goalAt
 
   -- how many hypotheses a segment has, and how many stand before the row j of a segment
   abbrev pub segmentCount : ℕ → ℕ

@@ -5,7 +5,8 @@ use Rattle.row.specs.declared.Row.{Row}
 use Rattle.table.specs.Rows.{Rows}
 use Rattle.sequent.specs.declared.Entry.{Entry as Numbers}
 use Rattle.walk.specs.declared.Slot.{Slot}
-use Rattle.reply.specs.Printed.{row, entryRow}
+use Rattle.reply.specs.Row.{row}
+use Rattle.reply.specs.Printed.{entryRow}
 use Rattle.entries.specs.Segments.{hypothesisWalk, goalAt}
 
 -- the row of an entry as the code holds it

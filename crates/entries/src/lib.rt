@@ -1,9 +1,12 @@
 // 01, Sequents: the entries of a slot's sequent: the hypotheses, by a walk of segments, and the goal. What is left to pass over in the slot is which of its sequents
-// is meant: 1 for the WFIS of a witness, else 0.
+// is meant: of a witness its WD or its WFIS.
 use reply::tags;
 use row::Row;
+use select::Each;
+use select::Item;
 use select::Selection;
 use select::Sought;
+use select::item_at;
 use select::seek_row;
 use sequent::Entry;
 use sequent::form;
@@ -15,7 +18,6 @@ use table::is_variable;
 use table::size;
 use table::tag;
 use walk::Group;
-use walk::Item;
 use walk::Slot;
 use walk::header_item;
 use walk::header_kind;
@@ -23,7 +25,6 @@ use walk::is_abstract;
 use walk::is_convergent;
 use walk::is_initial;
 use walk::is_new;
-use walk::item_at;
 use walk::matched_by;
 use walk::own_kind;
 use walk::when;
@@ -36,10 +37,10 @@ ghost use Rattle.row.specs.Row.{width, rowLength};
 ghost use Rattle.table.specs.Rows.{rowsOf};
 ghost use Rattle.table.specs.Counts.{countsOf};
 ghost use Rattle.table.specs.Names.{guardTag};
-ghost use Rattle.scan.specs.Spans.{Spanned};
+ghost use Rattle.nodes.specs.Notes.{Noted};
 ghost use Rattle.select.specs.declared.Selection.the-variants.{Tagged, OfEvent};
 ghost use Rattle.sequent.specs.Numbers.{numbers, numbersOf, writtenForm, movesForm};
-ghost use Rattle.walk.specs.declared.Item.the-variants.{A as columnA, B as columnB, Identifier};
+ghost use Rattle.select.specs.declared.Item.the-variants.{A as columnA, B as columnB, Identifier};
 ghost use Rattle.walk.specs.Groups.{when, guardGroup};
 ghost use Rattle.reply.specs.Printed.{rowsBytes};
 ghost use Rattle.entries.specs.Segments.{segmentOf, simGoal, variantGoal, goalOf, upTo, ofNone, hasAbstract, hasConcrete, hasMoves, hasWitnesses, hasAbstractMoves, witnessRows};
@@ -306,11 +307,11 @@ fn goal_of(words: &[u64], table: Table, kind: u64, event: u64, item: u64) -> Ent
 }
 
 // The goal of a slot's sequent.
-fn goal_at(words: &[u64], table: Table, spans: &[usize], slot: Slot) -> Entry
-    requires { ⌜ (table ≡ countsOf (rowsOf (now words))) × Spanned (rowsOf (now words)) (now spans) × (slot .row < rowsOf (now words) .size) ⌝ }
+pub fn goal_at(words: &[u64], table: Table, spans: &[usize], slot: Slot) -> Entry
+    requires { ⌜ (table ≡ countsOf (rowsOf (now words))) × Noted (rowsOf (now words)) (now spans) × (slot .row < rowsOf (now words) .size) ⌝ }
     ensures { λ r. ⌜ r ≡ numbersOf (goalAt (rowsOf (now (words .entry))) slot) ⌝ }
 {
-    let kind = header_kind(words, table, slot);
+    let kind = header_kind(words, table, spans, slot);
     let item = header_item(words, table, spans, slot);
     goal_of(words, table, kind, slot.event, item)
 }
@@ -324,7 +325,7 @@ fn segment_entry(
     segment: u64,
     j: usize,
 ) -> Entry
-    requires { ⌜ (table ≡ countsOf (rowsOf (now words))) × Spanned (rowsOf (now words)) (now spans) × (j < rowsOf (now words) .size) ⌝ }
+    requires { ⌜ (table ≡ countsOf (rowsOf (now words))) × Noted (rowsOf (now words)) (now spans) × (j < rowsOf (now words) .size) ⌝ }
     ensures { λ r. ⌜ r ≡ numbersOf (segmentEntry (rowsOf (now (words .entry))) slot segment j) ⌝ }
 {
     let part = segment_at(words, table, slot, segment);
@@ -392,7 +393,7 @@ impl Cursor {
 
 // Walks on from a place to the hypothesis after as many as are left to pass, or to the end.
 fn seek_entry(words: &[u64], table: Table, spans: &[usize], slot: Slot, from: Cursor) -> Cursor
-    requires { ⌜ (table ≡ countsOf (rowsOf (now words))) × Spanned (rowsOf (now words)) (now spans) × (slot .row < rowsOf (now words) .size) ⌝ }
+    requires { ⌜ (table ≡ countsOf (rowsOf (now words))) × Noted (rowsOf (now words)) (now spans) × (slot .row < rowsOf (now words) .size) ⌝ }
     requires { ⌜ Stands (rowsOf (now words)) slot from ⌝ }
     ensures { λ r. ⌜ SoughtEntry (rowsOf (now (words .entry))) slot from r ⌝ }
 {
@@ -405,7 +406,7 @@ fn seek_entry(words: &[u64], table: Table, spans: &[usize], slot: Slot, from: Cu
             row: cursor.row,
             left: cursor.left,
         };
-        let found = seek_row(words, table, spans, rows, 1, end, at);
+        let found = seek_row(words, table, spans, rows, Each::One, end, at);
         if found.row < end {
             return cursor.at(found);
         }
@@ -416,7 +417,7 @@ fn seek_entry(words: &[u64], table: Table, spans: &[usize], slot: Slot, from: Cu
 
 // How many hypotheses a slot's sequents have: as many as a walk passes that has more to pass than there are.
 fn count_hypotheses(words: &[u64], table: Table, spans: &[usize], slot: Slot) -> u64
-    requires { ⌜ (table ≡ countsOf (rowsOf (now words))) × Spanned (rowsOf (now words)) (now spans) × (slot .row < rowsOf (now words) .size) ⌝ }
+    requires { ⌜ (table ≡ countsOf (rowsOf (now words))) × Noted (rowsOf (now words)) (now spans) × (slot .row < rowsOf (now words) .size) ⌝ }
     ensures { λ r. ⌜ r ≡ hypothesisCount (rowsOf (now (words .entry))) slot ⌝ }
 {
     let most = 2 * words.len() as u64;
@@ -426,7 +427,7 @@ fn count_hypotheses(words: &[u64], table: Table, spans: &[usize], slot: Slot) ->
 
 // How many entries: the hypotheses and the goal.
 pub fn count_entries(words: &[u64], table: Table, spans: &[usize], slot: Slot) -> u64
-    requires { ⌜ (table ≡ countsOf (rowsOf (now words))) × Spanned (rowsOf (now words)) (now spans) × (slot .row < rowsOf (now words) .size) ⌝ }
+    requires { ⌜ (table ≡ countsOf (rowsOf (now words))) × Noted (rowsOf (now words)) (now spans) × (slot .row < rowsOf (now words) .size) ⌝ }
     ensures { λ r. ⌜ r ≡ hypothesisCount (rowsOf (now (words .entry))) slot + 1 ⌝ }
 {
     count_hypotheses(words, table, spans, slot) + 1
@@ -434,7 +435,7 @@ pub fn count_entries(words: &[u64], table: Table, spans: &[usize], slot: Slot) -
 
 // Entry k of a slot's sequent, counted from 0: a hypothesis, or behind them the goal.
 pub fn entry_at(words: &[u64], table: Table, spans: &[usize], slot: Slot, k: u64) -> Entry
-    requires { ⌜ (table ≡ countsOf (rowsOf (now words))) × Spanned (rowsOf (now words)) (now spans) × (slot .row < rowsOf (now words) .size) ⌝ }
+    requires { ⌜ (table ≡ countsOf (rowsOf (now words))) × Noted (rowsOf (now words)) (now spans) × (slot .row < rowsOf (now words) .size) ⌝ }
     requires { ⌜ k ≤ hypothesisCount (rowsOf (now words)) slot ⌝ }
     ensures { λ r. ⌜ r ≡ numbersOf (entryAt (rowsOf (now (words .entry))) slot k) ⌝ }
 {
@@ -466,7 +467,7 @@ fn write_hypotheses(
     slot: Slot,
     out: &mut [u8],
 ) -> usize
-    requires { ⌜ (table ≡ countsOf (rowsOf (now words))) × Spanned (rowsOf (now words)) (now spans) × (slot .row < rowsOf (now words) .size) ⌝ }
+    requires { ⌜ (table ≡ countsOf (rowsOf (now words))) × Noted (rowsOf (now words)) (now spans) × (slot .row < rowsOf (now words) .size) ⌝ }
     requires { ⌜ rowLength width * hypothesisCount (rowsOf (now words)) slot ≤ length (now out) ⌝ }
     ensures { λ r. ⌜ r ≡ rowLength width * hypothesisCount (rowsOf (now (words .entry))) slot ⌝ }
     ensures { λ _. ⌜ now (out .exit) ≡ over (rowsBytes (hypothesisRows (rowsOf (now (words .entry))) slot)) (now (out .entry)) ⌝ }
@@ -490,7 +491,7 @@ pub fn write_entries(
     slot: Slot,
     out: &mut [u8],
 ) -> usize
-    requires { ⌜ (table ≡ countsOf (rowsOf (now words))) × Spanned (rowsOf (now words)) (now spans) × (slot .row < rowsOf (now words) .size) ⌝ }
+    requires { ⌜ (table ≡ countsOf (rowsOf (now words))) × Noted (rowsOf (now words)) (now spans) × (slot .row < rowsOf (now words) .size) ⌝ }
     requires { ⌜ rowLength width * (hypothesisCount (rowsOf (now words)) slot + 1) ≤ length (now out) ⌝ }
     ensures { λ r. ⌜ r ≡ rowLength width * (hypothesisCount (rowsOf (now (words .entry))) slot + 1) ⌝ }
     ensures { λ _. ⌜ now (out .exit) ≡ over (rowsBytes (entryRows (rowsOf (now (words .entry))) slot)) (now (out .entry)) ⌝ }

@@ -14,7 +14,7 @@ use Rattle.row.proofs.Form.{row-length}
 use Rattle.rules.specs.declared.Verdict.the-variants.{Accepted, Refused}
 use Rattle.rules.specs.Verdict.{verdict}
 use Rattle.rules.specs.Offence.{machine}
-use Rattle.reply.specs.Printed.{row}
+use Rattle.reply.specs.Row.{row}
 use Rattle.reply.specs.Replies.{sequentBytes, output}
 use Rattle.reply.proofs.Output.{output-refused, output-accepted, output-split}
 use Rattle.obligations.specs.Output.{StandsAt}

@@ -11,21 +11,21 @@ use Rattle.machine.specs.Described.{machineOf}
 use Rattle.sequent.specs.Listed.{sequents}
 use Rattle.rules.specs.declared.Verdict.the-variants.{Accepted}
 use Rattle.rules.specs.Decoded.{wordsOf}
-use Rattle.rules.specs.Verdict.{judge, verdict}
+use Rattle.rules.specs.Verdict.{Passes, judge, verdict}
+use Rattle.rules.proofs.Cases.{judge-passes, judged-count}
+use Rattle.rules.proofs.Obeys.{passes-obeys}
 use Rattle.rules.specs.Offence.{machine}
 use Rattle.walk.specs.declared.Slot.{Slot}
 use Rattle.walk.specs.Slots.{slotAt, Within, AtEnd, Holds, InWalk, position, SoughtSlot}
-use Rattle.walk.proofs.Walk.{walk-count}
-use Rattle.walk.proofs.Find.{slot-at-most}
+use Rattle.walk.proofs.Find.{walk-count, slot-at-most}
 use Rattle.walk.proofs.Counts.{start-within, start-position, passed-end}
 use Rattle.entries.specs.Segments.{hypothesisCount}
 use Rattle.verdict.proofs.Filled.{accepted-words}
 use Rattle.reply.specs.Printed.{sequentRows, rowsBytes}
 use Rattle.reply.specs.Replies.{sequentBytes}
 use Rattle.reply.proofs.Printed.{rows-length}
-use Rattle.services.specs.Found.{Located}
+use Rattle.services.specs.Found.{ListedSlot, Located}
 use Rattle.services.proofs.Found.{sought-located}
-use Rattle.services.proofs.Judged.{judged-count}
 use Rattle.services.proofs.Slots.{rows-count}
 use Rattle.obligations.specs.Output.{StandsAt, slotBytes}
 use Rattle.obligations.proofs.Stands.{rowsEnd, rows-none, rows-next, sequent-stands}
@@ -41,6 +41,7 @@ pub record Turn (bytes words : List ℕ) (n : ℕ) (s : Slot) (at p : ℕ) : Typ
   pub row : s .row < rowsOf words .size
   pub left : s .left < 2
   pub stands : StandsAt bytes at (slotBytes (rowsOf words) s)
+  pub listed : ListedSlot (rowsOf words) s
   pub goes-on : {r : Slot} → r ≡ slotAt (s .event) (s .group) (s .row) (s .left + 1) → InWalk (rowsOf words) r
   pub next : {r s′ : Slot} {at′ : ℕ} → r ≡ slotAt (s .event) (s .group) (s .row) (s .left + 1) → SoughtSlot (rowsOf words) (position (rowsOf words) r) s′
       → at′ ≡ at + length (slotBytes (rowsOf words) s) → Walked bytes words n s′ at′ (p + 1)
@@ -50,7 +51,7 @@ pub first-within : (t : Rows) {r : Slot} → r ≡ slotAt 0 0 0 0 → InWalk t r
 first-within t q = inl (subst (Within t) (sym q) (start-within t 0))
 
 -- how many bytes the rows of a slot's sequent are
-pub slot-length : (t : Rows) (s : Slot) → length (slotBytes t s) ≡ 38 * (2 + hypothesisCount t s)
+pub slot-length : (t : Rows) (s : Slot) → length (slotBytes t s) ≡ 38 * (3 + hypothesisCount t s)
 slot-length t s = rows-length _ ∙ ap (λ n. 38 * n) (rows-count t s)
 
 module _ (bytes words : List ℕ) (n : ℕ) (read : words ≡ wordsOf bytes) (accepted : verdict bytes ≡ Accepted n) where
@@ -59,6 +60,9 @@ module _ (bytes words : List ℕ) (n : ℕ) (read : words ≡ wordsOf bytes) (ac
 
   judged : judge t ≡ Accepted n
   judged = ap (λ ws. judge (rowsOf ws)) read ∙ accepted-words bytes n accepted .0
+
+  passes : Passes t
+  passes = judge-passes t n judged
 
   counted : n ≡ length (sequents (machineOf t))
   counted = judged-count t n judged
@@ -74,20 +78,21 @@ module _ (bytes words : List ℕ) (n : ℕ) (read : words ≡ wordsOf bytes) (ac
       where
         by-place : Holds t s ⊎ AtEnd t s → Holds t s
         by-place (inl h) = h
-        by-place (inr x) = absurd (omega (arith, passed-end t p s (w .slot .0) x, walk-count t, counted))
+        by-place (inr x) = absurd (omega (arith, passed-end t p s (w .slot .0) x, walk-count t (passes-obeys t passes), counted))
 
     located : Located t (p + 1) s
-    located = sought-located t p s (omega (arith, counted)) (w .slot)
+    located = sought-located t passes p s (omega (arith, counted)) (w .slot)
 
     slot-rows : sequentBytes (machine bytes) (p + 1) ≡ slotBytes t s
     slot-rows =
-        ap (λ ws. sequentBytes (machineOf (rowsOf ws)) (p + 1)) (sym read) ∙ ap (λ q. rowsBytes (sequentRows q)) (located .holds)
+        ap (λ ws. sequentBytes (machineOf (rowsOf ws)) (p + 1)) (sym read) ∙ ap (λ q. rowsBytes (sequentRows (machineOf t) q)) (located .holds)
 
     pub turn : Turn bytes words n s at p
     turn = record {
       row = located .row;
       left = omega (arith, holds .left, slot-at-most t (s .event) (s .group) (s .row));
       stands = subst (λ a. StandsAt bytes a (slotBytes t s)) (sym (w .place)) (subst (StandsAt bytes (rowsEnd bytes p)) slot-rows (sequent-stands bytes n accepted p low));
+      listed = located .listed;
       goes-on = λ {r} q. inl (subst (Within t) (sym q) (record { event = holds .event; group = holds .group; row = omega (arith, holds .row) }));
       next = λ {r} {s′} {at′} q h e. record {
         within = omega arith;

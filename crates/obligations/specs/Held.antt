@@ -20,6 +20,6 @@ writtenTo b = b .printer .at + b .held
 abbrev pub enough : ℕ
 enough = 65536
 
--- room for fewer, and behind them a sequent of a table of so many rows: its header, its hypotheses, of which a segment has at most one a row, and its goal
+-- room for fewer, and behind them a sequent of a table of so many rows: its rows 80 and 84, its hypotheses, of which a segment has at most one a row, and its goal
 abbrev pub room : ℕ → ℕ
-room rows = enough + rowLength width * (2 + segments * rows)
+room rows = enough + rowLength width * (3 + segments * rows)

@@ -4,6 +4,7 @@ use mathlib.Core.Path.{_≡_}
 use mathlib.Core.List.{List}
 use lib.ListN.{length, take, drop}
 use Rattle.table.specs.Rows.{Rows}
+use Rattle.machine.specs.Described.{machineOf}
 use Rattle.walk.specs.declared.Slot.{Slot}
 use Rattle.reply.specs.Printed.{sequentRows, rowsBytes}
 use Rattle.reply.specs.Replies.{output}
@@ -16,4 +17,4 @@ pub record StandsAt (bytes : List ℕ) (at : ℕ) (part : List ℕ) : Type 0 whe
 
 -- the rows of a slot's sequent
 abbrev pub slotBytes : Rows → Slot → List ℕ
-slotBytes t s = rowsBytes (sequentRows (slotSequent t s))
+slotBytes t s = rowsBytes (sequentRows (machineOf t) (slotSequent t s))

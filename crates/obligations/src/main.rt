@@ -3,12 +3,12 @@ mod output;
 
 use entries::Segment;
 use libc::STDIN_FILENO;
+use nodes::fill_notes;
 use output::Printer;
 use reply::tags;
 use row::Row;
 use rules::Verdict;
 use scan::Span;
-use scan::fill_spans;
 use services::write_slot;
 use table::Table;
 use verdict::Loaded;
@@ -22,11 +22,12 @@ ghost use lib.ListN.{length};
 ghost use Rattle.table.specs.Lookups.{mostRows, mostWords};
 ghost use Rattle.table.specs.Rows.{rowsOf};
 ghost use Rattle.table.specs.Counts.{countsOf};
-ghost use Rattle.scan.specs.Spans.{Spanned};
+ghost use Rattle.nodes.specs.Notes.{Noted};
 ghost use Rattle.rules.specs.declared.Verdict.the-variants.{Accepted, Refused};
 ghost use Rattle.rules.specs.Decoded.{wordsOf};
 ghost use Rattle.rules.specs.Verdict.{judge as judgeOf, verdict as verdictOf};
 ghost use Rattle.reply.specs.Replies.{output};
+ghost use Rattle.services.specs.Found.{ListedSlot};
 ghost use Rattle.obligations.specs.Output.{StandsAt, slotBytes};
 ghost use Rattle.obligations.specs.Held.{Waits, writtenTo, enough, room};
 
@@ -89,7 +90,7 @@ impl Batch {
     }
 }
 
-// Writes the sequent in a slot behind what is held, where it is what the output goes on with, and prints once enough is held.
+// Writes the sequent in a slot, which is listed, behind what is held, where it is what the output goes on with, and prints once enough is held.
 fn print_slot(
     bytes: &[u8],
     words: &[u64],
@@ -99,9 +100,9 @@ fn print_slot(
     batch: Batch,
     out: &mut [u8],
 ) -> Batch
-    requires { ⌜ (table ≡ countsOf (rowsOf (now words))) × Spanned (rowsOf (now words)) (now spans) × (slot .row < rowsOf (now words) .size) ⌝ }
+    requires { ⌜ (table ≡ countsOf (rowsOf (now words))) × Noted (rowsOf (now words)) (now spans) × (slot .row < rowsOf (now words) .size) ⌝ }
     requires { ⌜ Waits (now bytes) batch (now out) × (batch .held < enough) × (room (rowsOf (now words) .size) ≤ length (now out)) ⌝ }
-    requires { ⌜ StandsAt (now bytes) (writtenTo batch) (slotBytes (rowsOf (now words)) slot) ⌝ }
+    requires { ⌜ StandsAt (now bytes) (writtenTo batch) (slotBytes (rowsOf (now words)) slot) × ListedSlot (rowsOf (now words)) slot ⌝ }
     ensures { λ r. ⌜ Waits (now (bytes .entry)) r (now (out .exit)) × (r .held < enough) × (writtenTo r ≡ writtenTo batch + length (slotBytes (rowsOf (now (words .entry))) slot)) ⌝ }
 {
     let printer = batch.printer;
@@ -119,7 +120,7 @@ fn print_sequents(
     count: u64,
     out: &mut [u8],
 ) -> Printer
-    requires { ⌜ (table ≡ countsOf (rowsOf (now words))) × Spanned (rowsOf (now words)) (now spans) ⌝ }
+    requires { ⌜ (table ≡ countsOf (rowsOf (now words))) × Noted (rowsOf (now words)) (now spans) ⌝ }
     requires { ⌜ (now words ≡ wordsOf (now bytes)) × (verdictOf (now bytes) ≡ Accepted count) × (room (rowsOf (now words) .size) ≤ length (now out)) ⌝ }
     ensures { λ r. ⌜ r .at ≡ length (output (now (bytes .entry))) ⌝ }
 {
@@ -134,7 +135,7 @@ fn print_sequents(
     batch.flush(bytes, out)
 }
 
-// Prints the sequents of a table with these words, or its refusal by checks 3 to 12, by the counts and the spans of the rows.
+// Prints the sequents of a table with these words, or its refusal by checks 3 to 12, by the counts of the rows and what is noted of them.
 fn print_judged(
     bytes: &[u8],
     words: &[u64],
@@ -142,7 +143,7 @@ fn print_judged(
     spans: &[usize],
     out: &mut [u8],
 ) -> Printer
-    requires { ⌜ (table ≡ countsOf (rowsOf (now words))) × Spanned (rowsOf (now words)) (now spans) × (length (now words) ≤ mostWords) ⌝ }
+    requires { ⌜ (table ≡ countsOf (rowsOf (now words))) × Noted (rowsOf (now words)) (now spans) × (length (now words) ≤ mostWords) ⌝ }
     requires { ⌜ (now words ≡ wordsOf (now bytes)) × (verdictOf (now bytes) ≡ judgeOf (rowsOf (now words))) × (room mostRows ≤ length (now out)) ⌝ }
     ensures { λ r. ⌜ r .at ≡ length (output (now (bytes .entry))) ⌝ }
 {
@@ -152,15 +153,16 @@ fn print_judged(
     }
 }
 
-// The same, of the rows alone: their counts and spans are looked for once.
+// The same, of the rows alone: they are counted, and what is asked of them again and again is noted, once.
 fn print_rows(bytes: &[u8], words: &[u64], out: &mut [u8]) -> Printer
     requires { ⌜ (now words ≡ wordsOf (now bytes)) × (verdictOf (now bytes) ≡ judgeOf (rowsOf (now words))) ⌝ }
     requires { ⌜ (length (now words) ≤ mostWords) × (room mostRows ≤ length (now out)) ⌝ }
     ensures { λ r. ⌜ r .at ≡ length (output (now (bytes .entry))) ⌝ }
 {
     let mut spans = [0usize; Span::WORDS];
-    fill_spans(words, &mut spans);
-    print_judged(bytes, words, Table::of(words), &spans, out)
+    let table = Table::of(words);
+    fill_notes(words, table, &mut spans);
+    print_judged(bytes, words, table, &spans, out)
 }
 
 // Prints the whole output for a table.
@@ -175,8 +177,8 @@ fn print_table(bytes: &[u8], out: &mut [u8]) -> Printer
     }
 }
 
-// Room for what may be held and any sequent behind it: its rows 80 and 82, and a row 81 for each hypothesis, of which a segment has at most one for each row.
-const ROOM: usize = Batch::ENOUGH + Row::LENGTH * (2 + Segment::COUNT as usize * Table::ROWS);
+// Room for what may be held and any sequent behind it: its rows 80, 84 and 82, and a row 81 for each hypothesis, of which a segment has at most one for each row.
+const ROOM: usize = Batch::ENOUGH + Row::LENGTH * (3 + Segment::COUNT as usize * Table::ROWS);
 
 // One byte more than a table may have is enough to tell that it is too long. After a short read the input has ended, or reading it fails.
 fn main() {

@@ -1,12 +1,15 @@
--- Rows outside the span of a selection are none of it: by cases on the selection, from the law of a tag's span.
-use Prim.Native.Nat.{ℕ, _<_, _≤_}
-use mathlib.Core.Path.{_≡_, refl, ap, _∙_}
+-- Rows outside the span of a selection are none of it: by cases on the selection, from the law of a tag's span. Nothing is counted of them.
+use Prim.Native.Nat.{ℕ, zero, suc, _+_, _<_, _≤_}
+use mathlib.Core.Path.{_≡_, refl, ap, ap₂, _∙_}
 use mathlib.Core.Bool.{Bool, true, false, not, _&&_, _||_}
 use native.Mathlib.Omega.{arith}
 use lib.Dec.{ltb, leb, eqb}
 use borrow.Author.Tests.{ltb-true, lt-ltb, le-ltb, eqb-true}
 use Rattle.lists.specs.Choice.{pick}
+use Rattle.lists.specs.Below.{oneIf, countBelow}
+use Rattle.lists.specs.Sum.{sumBelow}
 use Rattle.lists.proofs.Below.{count-at-most}
+use Rattle.lists.proofs.Choice.{not-chosen}
 use Rattle.table.specs.Names.{becomesEqualTag, witnessTag, variantTag}
 use Rattle.table.specs.Rows.{Rows, tagged, count, isAction}
 use Rattle.table.specs.Lookups.{isVariableNumber}
@@ -18,6 +21,9 @@ use Rattle.scan.specs.Spans.{ofTag, tagSpan}
 use Rattle.scan.proofs.Spans.{tag-stricter}
 use Rattle.select.specs.declared.Selection.{Selection}
 use Rattle.select.specs.declared.Selection.the-variants.{None, Tagged, OfEvent, ForParameters, Identifiers, Variables, Assigned, SuchThat}
+use Rattle.select.specs.declared.Each.{Each}
+use Rattle.select.specs.declared.Each.the-variants.{One}
+use Rattle.select.specs.Each.{weight, countAt}
 use Rattle.select.specs.Selection.{between, rowOfEvent, variableAt, selects, sectionSpan, selectedSpan}
 
 left-true : (p q : Bool) → p && q ≡ true → p ≡ true
@@ -84,3 +90,29 @@ module _ (t : Rows) where
   selected-spans (Variables own) = identifier-spans _ (variable-none own)
   selected-spans (Assigned own e) = identifier-spans _ (λ j p. left-false (variableAt t own j) _ (variable-none own j p))
   selected-spans (SuchThat own e) = identifier-spans _ (λ j p. left-false (variableAt t own j) _ (variable-none own j p))
+
+  -- and none is counted
+  pub count-none : (s : Selection) (each : Each) (i : ℕ) → selects t s i ≡ false → countAt t s each i ≡ 0
+  unfolding countAt
+  count-none s each i e = not-chosen (selects t s i) (weight t each i) 0 e
+
+  -- where there is one of each row, they are as many as the rows
+  one-counted : (s : Selection) (i : ℕ) → countAt t s One i ≡ oneIf (selects t s i)
+  unfolding countAt
+  one-counted s i = go (selects t s i)
+    where
+      go : (b : Bool) → pick b 1 0 ≡ oneIf b
+      go true = refl
+      go false = refl
+
+  pub ones-counted : (s : Selection) (n : ℕ) → sumBelow (countAt t s One) n ≡ countBelow (selects t s) n
+  unfolding sumBelow countBelow
+  ones-counted s zero = refl
+  ones-counted s (suc n) = ap₂ (λ a b. a + b) (ones-counted s n) (one-counted s n)
+
+  pub counted-one : (s : Selection) (i left : ℕ) → left < countAt t s One i → (selects t s i ≡ true) × (left ≡ 0)
+  counted-one s i left h = go (selects t s i) refl (one-counted s i)
+    where
+      go : (b : Bool) → selects t s i ≡ b → countAt t s One i ≡ oneIf b → (selects t s i ≡ true) × (left ≡ 0)
+      go true p e = (p, omega (arith, e))
+      go false p e = absurd (omega (arith, e))

@@ -1,15 +1,12 @@
--- A step of the walk over selected rows keeps the place that is sought; outside the span nothing is counted, so that the walk may start with the span and end with it.
-use Prim.Native.Nat.{ℕ, _+_, _-_, _*_, _≤_, _<_}
+-- A step of the walk over rows keeps the place that is sought; outside the span nothing is counted, so that the walk may start with the span and end with it.
+use Prim.Native.Nat.{ℕ, _+_, _-_, _≤_, _<_}
 use mathlib.Core.Path.{_≡_, refl, sym, ap, _∙_}
 use mathlib.Core.Bool.{Bool, true, false}
 use native.Mathlib.Omega.{arith}
-use native.Mathlib.Nat.{suc-mul}
-use native.Mathlib.Numerals.{add-one}
 use lib.Dec.{ltb}
 use borrow.Author.Tests.{ltb-true, ltb-false}
 use Rattle.lists.specs.Choice.{pick}
-use Rattle.lists.specs.Below.{oneIf, countBelow}
-use Rattle.lists.proofs.Below.{count-next, count-stays}
+use Rattle.lists.proofs.Flat.{sum-next, sum-stays}
 use Rattle.scan.specs.declared.Span.{Span}
 use Rattle.scan.specs.Span.{Spans}
 use Rattle.select.specs.declared.Sought.{Sought}
@@ -48,37 +45,25 @@ greater-of m n = go (ltb m n) refl
     go true p = record { left = omega (arith, ltb-true m n p); below = λ k h g. g }
     go false p = record { left = omega arith; below = λ k h g. absurd (omega arith) }
 
-module _ (P : ℕ → Bool) (each : ℕ) where
-  -- a row counts if it passes
-  weighed : (n : ℕ) (b : Bool) → (n + oneIf b) * each ≡ n * each + pick b each 0
-  weighed n true = ap (λ k. k * each) (add-one n) ∙ suc-mul n each
-  weighed n false = let p : n + 0 ≡ n = omega arith in ap (λ k. k * each) p ∙ omega arith
-
+module _ (W : ℕ → ℕ) where
   -- a row is passed over
-  pub place-next : (row left count : ℕ) → count ≡ pick (P row) each 0 → count ≤ left → placeOf P each (sought (row + 1) (left - count)) ≡ placeOf P each (sought row left)
-  place-next row left count p h =
-      let next : countBelow P (row + 1) * each ≡ countBelow P row * each + pick (P row) each 0 =
-      ap (λ n. n * each) (count-next P row) ∙ weighed (countBelow P row) (P row) in
-      omega (arith, next)
+  pub place-next : (row left count : ℕ) → count ≡ W row → count ≤ left → placeOf W (sought (row + 1) (left - count)) ≡ placeOf W (sought row left)
+  place-next row left count p h = omega (arith, p, sum-next W row)
 
   -- and is the one sought where what is left is less than it counts
-  pub place-held : (row left count : ℕ) → count ≡ pick (P row) each 0 → left < count → (P row ≡ true) × (left < each)
-  place-held row left count p h = go (P row) refl p
-    where
-      go : (b : Bool) → P row ≡ b → count ≡ pick b each 0 → (P row ≡ true) × (left < each)
-      go true e q = (e, omega (arith, q))
-      go false e q = absurd (omega (arith, q))
+  pub place-held : (row left count : ℕ) → count ≡ W row → left < count → left < W row
+  place-held row left count p h = omega (arith, p)
 
-  module _ {n : ℕ} {span : Span} (spans : Spans P n span) {end : ℕ} (within : end ≤ n) where
+  module _ {P : ℕ → Bool} (none : (i : ℕ) → P i ≡ false → W i ≡ 0) {n : ℕ} {span : Span} (spans : Spans P n span) {end : ℕ} (within : end ≤ n) where
     -- the walk starts with the span
     pub place-start : (row left start : ℕ) → row ≤ end → start ≡ lesserOf (greaterOf row (span .from)) end
-        → (start ≤ end) × (placeOf P each (sought start left) ≡ placeOf P each (sought row left))
+        → (start ≤ end) × (placeOf W (sought start left) ≡ placeOf W (sought row left))
     place-start row left start h e =
         let low = greater-of row (span .from) in
         let up = lesser-of (greaterOf row (span .from)) end in
         let first : row ≤ start = omega (arith, e, at-least low up) in (
           omega (arith, e, up .right),
-          ap (λ c. c * each + left) (sym (count-stays P row start first (λ i g l. spans .below i (low .below i g (omega (arith, e, up .left)))))),
+          ap (λ c. c + left) (sym (sum-stays W row start first (λ i g l. none i (spans .below i (low .below i g (omega (arith, e, up .left))))))),
         )
       where
         at-least : Greater row (span .from) (greaterOf row (span .from)) → Lesser (greaterOf row (span .from)) end (lesserOf (greaterOf row (span .from)) end)
@@ -90,9 +75,9 @@ module _ (P : ℕ → Bool) (each : ℕ) where
             go false = h
 
     -- and ends with it
-    pub place-end : (row left last : ℕ) → row ≤ end → last ≡ lesserOf (span .to) end → last ≤ row → placeOf P each (sought end left) ≡ placeOf P each (sought row left)
+    pub place-end : (row left last : ℕ) → row ≤ end → last ≡ lesserOf (span .to) end → last ≤ row → placeOf W (sought end left) ≡ placeOf W (sought row left)
     place-end row left last h e k =
-        ap (λ c. c * each + left) (sym (count-stays P row end h (λ i g l. spans .above i (past i g l) (omega arith))))
+        ap (λ c. c + left) (sym (sum-stays W row end h (λ i g l. none i (spans .above i (past i g l) (omega arith)))))
       where
         past : (i : ℕ) → row ≤ i → i < end → span .to ≤ i
         past i g l = go (ltb i (span .to)) refl

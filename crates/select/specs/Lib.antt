@@ -1,2 +1,3 @@
 pub mod Selection
 pub mod Sought
+pub mod Each

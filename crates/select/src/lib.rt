@@ -1,24 +1,29 @@
 // The rows that a group of sequents, or a part of the hypotheses, is made from: which rows they are, and a walk from one to the next.
+use nodes::note_at;
+use nodes::touches;
 use scan::Span;
 use scan::span_at;
 use table::Table;
 use table::a_at;
 use table::b_at;
+use table::c_at;
 use table::identifier_field;
 use table::is_variable;
 use table::is_variable_of;
+use table::one_if;
 use table::size;
 use table::tag;
 use table::tag_at;
 ghost use mathlib.Core.Path.{_≡_};
-ghost use Prim.Native.Nat.{_+_, _≤_};
+ghost use Prim.Native.Nat.{_+_, _≤_, _<_};
 ghost use mathlib.Core.Bool.{_&&_};
 ghost use lib.Dec.{ltb};
 ghost use Rattle.lists.specs.Choice.{pick};
 ghost use Rattle.table.specs.Rows.{rowsOf, count};
 ghost use Rattle.table.specs.Counts.{countsOf};
-ghost use Rattle.scan.specs.Spans.{Spanned};
+ghost use Rattle.nodes.specs.Notes.{Noted, notedTree};
 ghost use Rattle.select.specs.Selection.{rowOfEvent, parameterWitness, identifierAt, variableAt, actionRow, isAssigned, becomesSuch, selects, between, sectionSpan, selectedSpan};
+ghost use Rattle.select.specs.Each.{itemAt, divisions, weight, countAt};
 ghost use Rattle.select.specs.Sought.{Passed};
 
 // Rows of a tag; or the rows 0, 1, .. in their stead that stand for the identifiers 1, 2, ..
@@ -82,7 +87,7 @@ fn variable_at(words: &[u64], table: Table, own: u64, j: usize) -> bool
 
 // The row of an event's action for a variable; the number of rows where it is unassigned.
 pub fn action_row(words: &[u64], spans: &[usize], event: u64, x: u64) -> usize
-    requires { ⌜ Spanned (rowsOf (now words)) (now spans) ⌝ }
+    requires { ⌜ Noted (rowsOf (now words)) (now spans) ⌝ }
     ensures { λ r. ⌜ r ≡ actionRow (rowsOf (now (words .entry))) event x ⌝ }
 {
     scan::action_row(words, spans, event, x)
@@ -90,7 +95,7 @@ pub fn action_row(words: &[u64], spans: &[usize], event: u64, x: u64) -> usize
 
 // Whether it is assigned.
 fn is_assigned(words: &[u64], spans: &[usize], event: u64, x: u64) -> bool
-    requires { ⌜ Spanned (rowsOf (now words)) (now spans) ⌝ }
+    requires { ⌜ Noted (rowsOf (now words)) (now spans) ⌝ }
     ensures { λ r. ⌜ r ≡ isAssigned (rowsOf (now (words .entry))) event x ⌝ }
 {
     action_row(words, spans, event, x) < size(words)
@@ -98,7 +103,7 @@ fn is_assigned(words: &[u64], spans: &[usize], event: u64, x: u64) -> bool
 
 // Whether that action is a 52.
 fn becomes_such(words: &[u64], spans: &[usize], event: u64, x: u64) -> bool
-    requires { ⌜ Spanned (rowsOf (now words)) (now spans) ⌝ }
+    requires { ⌜ Noted (rowsOf (now words)) (now spans) ⌝ }
     ensures { λ r. ⌜ r ≡ becomesSuch (rowsOf (now (words .entry))) event x ⌝ }
 {
     let row = action_row(words, spans, event, x);
@@ -114,7 +119,7 @@ fn assigned_at(
     event: u64,
     j: usize,
 ) -> bool
-    requires { ⌜ (table ≡ countsOf (rowsOf (now words))) × Spanned (rowsOf (now words)) (now spans) ⌝ }
+    requires { ⌜ (table ≡ countsOf (rowsOf (now words))) × Noted (rowsOf (now words)) (now spans) ⌝ }
     ensures { λ r. ⌜ r ≡ variableAt (rowsOf (now (words .entry))) kind j && isAssigned (rowsOf (now (words .entry))) event (j + 1) ⌝ }
 {
     if variable_at(words, table, kind, j) {
@@ -125,7 +130,7 @@ fn assigned_at(
 
 // The same of a 52.
 fn such_at(words: &[u64], table: Table, spans: &[usize], kind: u64, event: u64, j: usize) -> bool
-    requires { ⌜ (table ≡ countsOf (rowsOf (now words))) × Spanned (rowsOf (now words)) (now spans) ⌝ }
+    requires { ⌜ (table ≡ countsOf (rowsOf (now words))) × Noted (rowsOf (now words)) (now spans) ⌝ }
     ensures { λ r. ⌜ r ≡ variableAt (rowsOf (now (words .entry))) kind j && becomesSuch (rowsOf (now (words .entry))) event (j + 1) ⌝ }
 {
     if variable_at(words, table, kind, j) {
@@ -136,7 +141,7 @@ fn such_at(words: &[u64], table: Table, spans: &[usize], kind: u64, event: u64, 
 
 // Whether a selection has the row j.
 pub fn selects(words: &[u64], table: Table, spans: &[usize], selection: Selection, j: usize) -> bool
-    requires { ⌜ (table ≡ countsOf (rowsOf (now words))) × Spanned (rowsOf (now words)) (now spans) ⌝ }
+    requires { ⌜ (table ≡ countsOf (rowsOf (now words))) × Noted (rowsOf (now words)) (now spans) ⌝ }
     ensures { λ r. ⌜ r ≡ selects (rowsOf (now (words .entry))) selection j ⌝ }
 {
     match selection {
@@ -153,7 +158,7 @@ pub fn selects(words: &[u64], table: Table, spans: &[usize], selection: Selectio
 
 // The rows between which those of a tag stand; of a number that is no tag, all.
 fn section_span(words: &[u64], spans: &[usize], tag: u64) -> Span
-    requires { ⌜ Spanned (rowsOf (now words)) (now spans) ⌝ }
+    requires { ⌜ Noted (rowsOf (now words)) (now spans) ⌝ }
     ensures { λ r. ⌜ r ≡ sectionSpan (rowsOf (now (words .entry))) tag ⌝ }
 {
     if tag <= tag::VARIANT {
@@ -178,7 +183,7 @@ fn identifier_span(words: &[u64], table: Table) -> Span
 
 // The rows between which a selection's stand.
 fn selected_span(words: &[u64], table: Table, spans: &[usize], selection: Selection) -> Span
-    requires { ⌜ (table ≡ countsOf (rowsOf (now words))) × Spanned (rowsOf (now words)) (now spans) ⌝ }
+    requires { ⌜ (table ≡ countsOf (rowsOf (now words))) × Noted (rowsOf (now words)) (now spans) ⌝ }
     ensures { λ r. ⌜ r ≡ selectedSpan (rowsOf (now (words .entry))) selection ⌝ }
 {
     match selection {
@@ -193,11 +198,82 @@ fn selected_span(words: &[u64], table: Table, spans: &[usize], selection: Select
     }
 }
 
-// What a row counts for.
-fn weight(selected: bool, each: u64) -> u64
-    ensures { λ r. ⌜ r ≡ pick selected each 0 ⌝ }
+// What the item of a row 80, or the number of an entry, is: a column of a row, the root of the action for the identifier that the row stands for, or that identifier.
+pub enum Item {
+    A,
+    B,
+    C,
+    Action,
+    Identifier,
+}
+
+// The item that row i gives.
+pub fn item_at(words: &[u64], spans: &[usize], item: Item, event: u64, i: usize) -> u64
+    requires { ⌜ Noted (rowsOf (now words)) (now spans) × (i < rowsOf (now words) .size) ⌝ }
+    ensures { λ r. ⌜ r ≡ itemAt (rowsOf (now (words .entry))) item event i ⌝ }
 {
-    if selected { each } else { 0 }
+    match item {
+        Item::A => a_at(words, i),
+        Item::B => b_at(words, i),
+        Item::C => c_at(words, i),
+        Item::Action => c_at(words, action_row(words, spans, event, i as u64 + 1)),
+        Item::Identifier => i as u64 + 1,
+    }
+}
+
+// How many sequents, or entries, there are of a row of a selection.
+pub enum Each {
+    // one
+    One,
+    // WD, where the formula divides
+    Defined { item: Item, event: u64 },
+    // WFIS, and before it WD, where the witness divides
+    Witness,
+    // INV, where the event assigns what the invariant mentions
+    Touched(u64),
+}
+
+// One where the formula of a node divides.
+pub fn divisions(words: &[u64], spans: &[usize], n: u64) -> u64
+    requires { ⌜ Noted (rowsOf (now words)) (now spans) ⌝ }
+    ensures { λ r. ⌜ r ≡ divisions (rowsOf (now (words .entry))) n ⌝ }
+    ensures { λ r. ⌜ r ≤ 1 ⌝ }
+{
+    let note = note_at(words, spans, n);
+    one_if(note.divides)
+}
+
+// How many there are of row i.
+fn weight(words: &[u64], spans: &[usize], each: Each, i: usize) -> u64
+    requires { ⌜ Noted (rowsOf (now words)) (now spans) × (i < rowsOf (now words) .size) ⌝ }
+    ensures { λ r. ⌜ r ≡ weight (rowsOf (now (words .entry))) each i ⌝ }
+{
+    match each {
+        Each::One => 1,
+        Each::Defined { item, event } => {
+            divisions(words, spans, item_at(words, spans, item, event, i))
+        }
+        Each::Witness => divisions(words, spans, c_at(words, i)) + 1,
+        Each::Touched(event) => one_if(touches(words, spans, event, a_at(words, i))),
+    }
+}
+
+// The same of a row of a selection, and none of another.
+fn count_at(
+    words: &[u64],
+    table: Table,
+    spans: &[usize],
+    rows: Selection,
+    each: Each,
+    i: usize,
+) -> u64
+    requires { ⌜ (table ≡ countsOf (rowsOf (now words))) × Noted (rowsOf (now words)) (now spans) × (i < rowsOf (now words) .size) ⌝ }
+    ensures { λ r. ⌜ r ≡ countAt (rowsOf (now (words .entry))) rows each i ⌝ }
+{
+    if selects(words, table, spans, rows, i) {
+        return weight(words, spans, each, i);
+    }
+    0
 }
 
 fn lesser(m: usize, n: usize) -> usize
@@ -218,27 +294,27 @@ pub struct Sought {
     pub left: u64,
 }
 
-// Walks on from a row, each selected row counting for so many, until what is left to pass over lies in one, or to the end. It looks at no row outside the selection's
+// Walks on from a row, counting what there is of each selected row, until what is left to pass over lies in one, or to the end. It looks at no row outside the selection's
 // span.
 pub fn seek_row(
     words: &[u64],
     table: Table,
     spans: &[usize],
     rows: Selection,
-    each: u64,
+    each: Each,
     end: usize,
     from: Sought,
 ) -> Sought
-    requires { ⌜ (table ≡ countsOf (rowsOf (now words))) × Spanned (rowsOf (now words)) (now spans) ⌝ }
+    requires { ⌜ (table ≡ countsOf (rowsOf (now words))) × Noted (rowsOf (now words)) (now spans) ⌝ }
     requires { ⌜ (from .row ≤ end) × (end ≤ rowsOf (now words) .size) ⌝ }
-    ensures { λ r. ⌜ Passed (selects (rowsOf (now (words .entry))) rows) each end from r ⌝ }
+    ensures { λ r. ⌜ Passed (countAt (rowsOf (now (words .entry))) rows each) end from r ⌝ }
 {
     let span = selected_span(words, table, spans, rows);
     let last = lesser(span.to, end);
     let mut row = lesser(greater(from.row, span.from), end);
     let mut left = from.left;
     while row < last {
-        let count = weight(selects(words, table, spans, rows, row), each);
+        let count = count_at(words, table, spans, rows, each, row);
         if left < count {
             return Sought { row, left };
         }

@@ -1,4 +1,4 @@
--- A slot's sequent as rows: its header, then its entries; how many they are; and which entry is spelled.
+-- A slot's sequent as rows: row 80, row 84, then its entries; how many they are; and which entry is spelled.
 use Prim.Native.Nat.{ℕ, zero, suc, _+_, _-_, _/_, _≤_, _<_}
 use mathlib.Core.Path.{_≡_, refl, sym, ap, _∙_}
 use mathlib.Core.Bool.{Bool, true, false, not, _&&_, true≢false}
@@ -7,6 +7,7 @@ use native.Mathlib.Omega.{arith}
 use lib.Dec.{ltb, leb}
 use lib.ListN.{length, getD, length-append, length-map}
 use borrow.Author.Tests.{lt-ltb, le-ltb, leb-true}
+use Rattle.lists.specs.All.{All}
 use Rattle.lists.specs.Over.{over}
 use Rattle.lists.proofs.Choice.{chosen, not-chosen}
 use Rattle.row.specs.declared.Row.{Row}
@@ -19,7 +20,8 @@ use Rattle.sequent.specs.Numbers.{numbersOf}
 use Rattle.sequent.specs.Forms.{entryOf}
 use Rattle.sequent.proofs.Numbers.{entry-of-numbers}
 use Rattle.reply.specs.declared.Reply.the-variants as reply
-use Rattle.reply.specs.Printed.{entryRow, sequentRows, rowsBytes}
+use Rattle.reply.specs.Printed.{entryRow, identifiersIn, mentionedRow, sequentRows, rowsBytes}
+use Rattle.reply.proofs.Mentioned.{identifiers-spelled, goal-identifiers}
 use Rattle.reply.specs.Spelled.{spell}
 use Rattle.reply.specs.Replies.{refused, writeRows, among, entries, spellAt}
 use Rattle.entries.specs.Segments.{hypothesisWalk, goalAt, slotSequent, hypothesisCount}
@@ -29,17 +31,36 @@ use Rattle.entries.proofs.Seek.{walk-length}
 use Rattle.reply.proofs.Printed.{rows-length}
 use Rattle.spell.specs.Spell.{entryRows as spelledRows}
 use Rattle.walk.specs.declared.Slot.{Slot}
-use Rattle.services.specs.Found.{headerRow}
+use Rattle.rules.proofs.Obeys.{passes-obeys}
+use Rattle.sets.specs.Set.{setOf, Identifier}
+use Rattle.sequent.proofs.Entries.{listed-made}
+use Rattle.mentioned.specs.Mentioned.{entrySet}
+use Rattle.mentioned.proofs.Mentioned.{entry-set}
+use Rattle.services.specs.Found.{headerRow, goalRow, restRows, ListedSlot}
 
 module _ (t : Rows) (s : Slot) where
-  pub slot-bytes : rowsBytes (sequentRows (slotSequent t s)) ≡ rowBytes width (headerRow t s) ++ rowsBytes (entryRows t s)
-  unfolding sequentRows rowsBytes entryRows hypothesisRows flatMap
+  pub slot-bytes : rowsBytes (sequentRows (machineOf t) (slotSequent t s)) ≡ rowBytes width (headerRow t s) ++ rowsBytes (restRows t s)
+  unfolding sequentRows rowsBytes restRows entryRows hypothesisRows flatMap
   slot-bytes = refl
+
+  pub rest-bytes : rowsBytes (restRows t s) ≡ rowBytes width (goalRow t s) ++ rowsBytes (entryRows t s)
+  unfolding rowsBytes restRows flatMap
+  rest-bytes = refl
+
+  -- row 84, from the set of the goal
+  pub goal-mentioned : ListedSlot t s → (goal : Numbers) → goal ≡ numbersOf (goalAt t s) → {r : Row}
+      → ((xs : List ℕ) → All Identifier xs → entrySet t (entryOf goal) ≡ setOf xs → r ≡ mentionedRow xs) → r ≡ goalRow t s
+  goal-mentioned (passes, listed) goal e f =
+      let ok = passes-obeys t passes in
+      f (identifiersIn (spell (formula (machineOf t) (goalAt t s)))) (goal-identifiers t ok listed)
+      (ap (entrySet t) (ap entryOf e ∙ entry-of-numbers (goalAt t s))
+      ∙ entry-set t ok (goalAt t s) (listed-made (machineOf t) listed .goal)
+      ∙ ap setOf (sym (identifiers-spelled (formula (machineOf t) (goalAt t s)))))
 
   pub entries-count : length (entries (slotSequent t s)) ≡ hypothesisCount t s + 1
   entries-count = length-append (hypothesisWalk t s) (goalAt t s ∷ []) ∙ ap (λ n. n + 1) (walk-length t s)
 
-  pub rows-count : length (sequentRows (slotSequent t s)) ≡ 2 + hypothesisCount t s
+  pub rows-count : length (sequentRows (machineOf t) (slotSequent t s)) ≡ 3 + hypothesisCount t s
   unfolding sequentRows
   rows-count =
       let rows : length (map (entryRow 81) (hypothesisWalk t s) ++ (entryRow 82 (goalAt t s) ∷ [])) ≡ hypothesisCount t s + 1 =

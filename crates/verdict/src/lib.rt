@@ -3,11 +3,11 @@ use decode::Decoded;
 use decode::decode;
 use fault::first_check;
 use fault::first_row;
+use nodes::fill_notes;
 use row::Row;
 use rule_missing::missing;
 use rules::Verdict;
 use scan::Span;
-use scan::fill_spans;
 use table::Table;
 use walk::count;
 ghost use mathlib.Core.Path.{_≡_};
@@ -16,7 +16,7 @@ ghost use lib.ListN.{length};
 ghost use Rattle.table.specs.Lookups.{mostWords};
 ghost use Rattle.table.specs.Rows.{rowsOf};
 ghost use Rattle.table.specs.Counts.{countsOf};
-ghost use Rattle.scan.specs.Spans.{Spanned};
+ghost use Rattle.nodes.specs.Notes.{Noted};
 ghost use Rattle.rules.specs.Verdict.{judge as judgeOf, verdict as verdictOf};
 ghost use Rattle.verdict.specs.Loaded.{endRow, loadedRows, loadedOf, loadedWords};
 
@@ -52,9 +52,9 @@ pub fn load(bytes: &[u8], words: &mut [u64]) -> Loaded
     after_decoding(decode(bytes, bytes.len() / Row::LENGTH, words))
 }
 
-// Checks 3 to 12, and the count of the sequents where none offends, by the counts and the spans of the rows.
+// Checks 3 to 12, and the count of the sequents where none offends, by the counts of the rows and what is noted of them.
 pub fn judge_with(words: &[u64], table: Table, spans: &[usize]) -> Verdict
-    requires { ⌜ (table ≡ countsOf (rowsOf (now words))) × Spanned (rowsOf (now words)) (now spans) × (length (now words) ≤ mostWords) ⌝ }
+    requires { ⌜ (table ≡ countsOf (rowsOf (now words))) × Noted (rowsOf (now words)) (now spans) × (length (now words) ≤ mostWords) ⌝ }
     ensures { λ r. ⌜ r ≡ judgeOf (rowsOf (now (words .entry))) ⌝ }
 {
     let check = first_check(words, table, spans);
@@ -73,8 +73,9 @@ pub fn judge(words: &[u64]) -> Verdict
     ensures { λ r. ⌜ r ≡ judgeOf (rowsOf (now (words .entry))) ⌝ }
 {
     let mut spans = [0usize; Span::WORDS];
-    fill_spans(words, &mut spans);
-    judge_with(words, Table::of(words), &spans)
+    let table = Table::of(words);
+    fill_notes(words, table, &mut spans);
+    judge_with(words, table, &spans)
 }
 
 // "check (accepts a table by giving the count of sequents)"

@@ -3,3 +3,4 @@ pub mod Find
 pub mod Groups
 pub mod Slots
 pub mod Walk
+pub mod Kept

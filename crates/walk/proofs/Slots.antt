@@ -1,36 +1,20 @@
 -- A step of the walk keeps the place that is searched, and leaves fewer groups: what a walk over a group's rows passes is what its slots count (Find).
-use Prim.Native.Nat.{ℕ, zero, suc, _+_, _-_, _*_, _≤_, _<_}
+use Prim.Native.Nat.{ℕ, _+_, _-_, _*_, _≤_, _<_}
 use mathlib.Core.Path.{_≡_, refl, sym, ap, _∙_, subst}
 use mathlib.Core.Bool.{Bool, true, false}
 use mathlib.Core.Logic.{inl, inr}
 use native.Mathlib.Omega.{arith}
-use native.Mathlib.Nat.{suc-mul}
-use native.Mathlib.Numerals.{add-one}
 use lib.Dec.{ltb}
 use borrow.Author.Tests.{ltb-true, ltb-false}
 use Rattle.lists.specs.Choice.{pick}
-use Rattle.lists.specs.Below.{oneIf, countBelow}
-use Rattle.lists.specs.Sum.{sumBelow}
-use Rattle.lists.proofs.Choice.{chosen}
 use Rattle.lists.proofs.Below.{count-at-most}
 use Rattle.table.specs.Rows.{Rows, tagged, count}
 use Rattle.select.specs.declared.Sought.{Sought}
-use Rattle.select.specs.Selection.{selects}
 use Rattle.select.specs.Sought.{Passed}
 use Rattle.walk.specs.declared.Slot.{Slot}
-use Rattle.walk.specs.Groups.{groups, groupRows, each}
+use Rattle.walk.specs.Groups.{groups}
 use Rattle.walk.specs.Slots.{slotAt, soughtAt, nextGroup, slotCount, walkTo, Within, AtEnd, InWalk, position, Holds}
 use Rattle.walk.proofs.Find.{walk-group, walk-event}
-
--- numbers that each count for so many, added up
-sum-each : (P : ℕ → Bool) (n k : ℕ) → sumBelow (λ i. pick (P i) k 0) n ≡ countBelow P n * k
-unfolding sumBelow countBelow
-sum-each P zero k = omega arith
-sum-each P (suc n) k = ap (λ m. m + pick (P n) k 0) (sum-each P n k) ∙ last (P n)
-  where
-    last : (b : Bool) → countBelow P n * k + pick b k 0 ≡ (countBelow P n + oneIf b) * k
-    last true = sym (ap (λ m. m * k) (add-one (countBelow P n)) ∙ suc-mul (countBelow P n) k)
-    last false = let p : countBelow P n + 0 ≡ countBelow P n = omega arith in sym (ap (λ m. m * k) p ∙ omega arith)
 
 module _ (t : Rows) where
   -- the groups from s on
@@ -39,27 +23,17 @@ module _ (t : Rows) where
 
   -- the rows of a group that a walk has come to
   abbrev PassedIn : Slot → Sought → Type 0
-  PassedIn s r = Passed (selects t (groupRows t (s .event) (s .group))) (each (s .group)) (t .size) (soughtAt s) r
-
-  walked-rows : (e g i : ℕ) → sumBelow (slotCount t e g) i ≡ countBelow (selects t (groupRows t e g)) i * each g
-  unfolding slotCount
-  walked-rows e g i = sum-each (selects t (groupRows t e g)) i (each g)
+  PassedIn s r = Passed (slotCount t (s .event) (s .group)) (t .size) (soughtAt s) r
 
   module _ {s : Slot} {r : Sought} (w : Within t s) (p : PassedIn s r) where
     -- it keeps the place
     pub passed-position : position t (slotAt (s .event) (s .group) (r .row) (r .left)) ≡ position t s
     unfolding walkTo
-    passed-position = omega (arith, p .place, walked-rows (s .event) (s .group) (r .row), walked-rows (s .event) (s .group) (s .row))
+    passed-position = omega (arith, p .place)
 
     -- and stops in the slot that holds it
     pub passed-holds : r .row < t .size → Holds t (slotAt (s .event) (s .group) (r .row) (r .left))
-    unfolding slotCount
-    passed-holds l = record {
-      event = w .event;
-      group = w .group;
-      row = l;
-      left = omega (arith, p .found l .1, chosen _ (each (s .group)) 0 (p .found l .0));
-    }
+    passed-holds l = record { event = w .event; group = w .group; row = l; left = p .found l }
 
     -- or past the last row, from where the next group is walked
     module _ {n : Slot} (last : t .size ≤ r .row) (q : n ≡ nextGroup s (r .left)) where

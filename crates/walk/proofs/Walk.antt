@@ -1,32 +1,29 @@
--- The list of sequents is what the slots hold, in their order, and there are as many as the slots count, for any table. Group by group (Groups).
+-- The full list of obligations is what the slots hold, in their order, for any table. Group by group (Groups).
 use Prim.Native.Nat.{ℕ, _+_, _≤_}
 use mathlib.Core.Path.{_≡_, refl, sym, ap, ap₂, _∙_}
-use mathlib.Core.Bool.{Bool, true, false}
 use mathlib.Core.List.{List, [], _++_, flatMap, append-assoc, append-nil}
 use native.Mathlib.Omega.{arith}
 use native.Mathlib.Numerals.{add-one}
-use lib.Dec.{ltb, eqb}
-use lib.ListN.{length, List·getD-eq-default}
-use borrow.Author.Tests.{ltb-true, ltb-false, ne-eqb}
+use lib.Dec.{eqb}
+use lib.ListN.{List·getD-eq-default}
+use borrow.Author.Tests.{ne-eqb}
 use Rattle.lists.specs.Choice.{pick}
 use Rattle.lists.specs.All.{All, all-nil, all-cons}
 use Rattle.lists.specs.Below.{numbers}
 use Rattle.lists.proofs.All.{all-at}
-use Rattle.lists.proofs.Below.{numbers-in, in-numbers}
-use Rattle.lists.proofs.Flat.{flat-none, flat-join, flat-same, flat-length, sum-same}
+use Rattle.lists.proofs.Below.{in-numbers}
+use Rattle.lists.proofs.Flat.{flat-none, flat-join, flat-same}
 use Rattle.table.specs.Rows.{Rows, count}
 use Rattle.machine.specs.Described.{machineOf}
 use Rattle.sequent.specs.Sequent.{Sequent, WD}
-use Rattle.sequent.specs.Listed.{inOrder, eventSequents, formulas, sequents}
+use Rattle.sequent.specs.Listed.{inOrder, eventSequents, formulas, obligations}
 use Rattle.sequent.proofs.Parts.{eventSequents-parts, inOrder-join}
 use Rattle.select.specs.declared.Selection.{Selection}
 use Rattle.select.specs.declared.Selection.the-variants.{None}
-use Rattle.select.specs.Selection.{selects}
-use Rattle.walk.specs.declared.Item.the-variants.{A}
+use Rattle.select.specs.declared.Item.the-variants.{A}
 use Rattle.walk.specs.declared.Group.{Group}
-use Rattle.walk.specs.Groups.{groups, groupOf, groupTable, groupAt, groupRows, each, axiomGroup, abstractInvariantGroup, concreteInvariantGroup, variantGroup}
-use Rattle.walk.specs.Slots.{slotCount, groupCount, eventCount, walkCount}
-use Rattle.walk.proofs.Groups.{roleOf, writtenOf, made, slot, groupSlots, group-none, axiom-group, abstract-invariant-group, concrete-invariant-group, variant-group}
+use Rattle.walk.specs.Groups.{groups, wholeGroup, groupTable, groupAt, groupRows, axiomGroup, abstractInvariantGroup, concreteInvariantGroup, variantGroup}
+use Rattle.walk.proofs.Groups.{roleOf, writtenOf, groupSlots, group-none, axiom-group, abstract-invariant-group, concrete-invariant-group, variant-group}
 use Rattle.walk.proofs.Groups.{guard-group, action-group, feasible-group, witness-group, grd-group, sim-group, inv-group, variant-groups}
 
 -- two lists joined, each written another way
@@ -39,27 +36,9 @@ module _ (t : Rows) where
   at-number e k p q = q ∙ sym (ap (groupAt t e) p)
 
   -- no rows beyond the last group
-  no-group : (e g : ℕ) → groups ≤ g → groupRows t e g ≡ None
+  pub no-group : (e g : ℕ) → groups ≤ g → groupRows t e g ≡ None
   unfolding groupAt
-  no-group e g h = ap (λ r. r .rows) (List·getD-eq-default (groupTable t e) (groupOf WD None A) h)
-
-  -- a slot has as many sequents as it counts
-  pub slot-count : (e g i : ℕ) → length (slot t e g i) ≡ slotCount t e g i
-  unfolding slot slotCount made numbers
-  slot-count e g i = by-group (ltb g groups) refl
-    where
-      several : All (λ g. length (made t e g i) ≡ each g) (numbers groups 0)
-      several =
-          all-cons refl (all-cons refl (all-cons refl (all-cons refl (all-cons refl (all-cons refl (all-cons refl (all-cons refl (all-cons refl
-          (all-cons refl (all-cons refl (all-cons refl (all-cons refl all-nil))))))))))))
-
-      by-test : (b : Bool) → length (made t e g i) ≡ each g → length (pick b (made t e g i) []) ≡ pick b (each g) 0
-      by-test true p = p
-      by-test false p = refl
-
-      by-group : (b : Bool) → ltb g groups ≡ b → length (pick (selects t (groupRows t e g) i) (made t e g i) []) ≡ pick (selects t (groupRows t e g) i) (each g) 0
-      by-group true p = by-test (selects t (groupRows t e g) i) (all-at several (numbers-in groups 0 g (omega arith) (omega (arith, ltb-true g groups p))))
-      by-group false p = rw (no-group e g (ltb-false g groups p))
+  no-group e g h = ap (λ r. r .rows) (List·getD-eq-default (groupTable t e) (wholeGroup WD None A) h)
 
   abbrev pub eventSlots : ℕ → List Sequent
   eventSlots e = flatMap (groupSlots t e) (numbers groups 0)
@@ -115,8 +94,8 @@ module _ (t : Rows) where
   events = flatMap eventSlots (numbers (count t 40) 1)
 
   -- the list is the walk
-  pub walked : sequents (machineOf t) ≡ walk
-  unfolding sequents machineOf flatMap numbers
+  pub walked : obligations (machineOf t) ≡ walk
+  unfolding obligations machineOf flatMap numbers
   walked =
       both formulas-walked
       (both (variant-group t) (flat-same _ eventSlots (numbers (count t 40) 1) (λ e i. event-walked e (in-numbers (count t 40) 1 e i .0))))
@@ -126,14 +105,3 @@ module _ (t : Rows) where
     where
       regroup : (a b c d es : List Sequent) → (a ++ (b ++ c)) ++ (d ++ es) ≡ (a ++ (b ++ (c ++ d))) ++ es
       regroup a b c d es = simp append-assoc
-
-  -- the counts of a group, of an event and of the walk
-  pub group-length : (e g : ℕ) → length (groupSlots t e g) ≡ groupCount t e g
-  group-length e g = flat-length (slot t e g) (t .size) ∙ sum-same _ (slotCount t e g) (t .size) (slot-count e g)
-
-  pub event-length : (e : ℕ) → length (eventSlots e) ≡ eventCount t e
-  event-length e = flat-length (groupSlots t e) groups ∙ sum-same _ (groupCount t e) groups (group-length e)
-
-  pub walk-count : length (sequents (machineOf t)) ≡ walkCount t
-  unfolding walkCount
-  walk-count = ap length walked ∙ flat-length eventSlots (count t 40 + 1) ∙ sum-same _ (eventCount t) (count t 40 + 1) event-length

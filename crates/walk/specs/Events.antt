@@ -29,6 +29,10 @@ module _ (t : Rows) where
   abbrev pub isNew : ℕ → Bool
   isNew e = not (isAbstract e) && not (isInitial e || eqb (classOf t e) ordinaryClass)
 
+  -- 02, request 4: "initialisations keep theirs", and so do events that refine
+  abbrev pub keepsAll : ℕ → Bool
+  keepsAll e = isInitial e || isRefining e
+
   -- the abstract event that a matched event's steps are matched by: the initialisation is event 1
   abbrev pub matchedBy : ℕ → ℕ
   matchedBy e = pick (isInitial e) 1 (refinedBy t e)

@@ -1,7 +1,7 @@
 -- 01, Sequents, "Order: WD of axioms, invariants, variant; then event by event: WD of guards, of actions by variable, FIS by variable, each witness's WD then WFIS,
 -- GRD, SIM, INV, NAT, VAR": the groups of sequents in this order, one line each. "Table order otherwise": a group has a sequent for each row of its selection, a
--- witness has two.
-use Prim.Native.Nat.{ℕ, _+_}
+-- witness has two; 02, request 4: those that are not dropped.
+use Prim.Native.Nat.{ℕ}
 use mathlib.Core.Bool.{Bool, _&&_}
 use mathlib.Core.List.{List, [], _∷_}
 use lib.Dec.{eqb}
@@ -11,12 +11,14 @@ use Rattle.table.specs.Names.{axiomTag, abstractInvariantTag, concreteInvariant
 use Rattle.table.specs.Rows.{Rows, refinedBy}
 use Rattle.select.specs.declared.Selection.{Selection}
 use Rattle.select.specs.declared.Selection.the-variants.{None, Tagged, OfEvent, Identifiers, Variables, Assigned, SuchThat}
-use Rattle.select.specs.Selection.{actionRow}
+use Rattle.select.specs.declared.Item.{Item}
+use Rattle.select.specs.declared.Item.the-variants.{A, B, C, Action, Identifier}
+use Rattle.select.specs.declared.Each.{Each}
+use Rattle.select.specs.declared.Each.the-variants.{One, Defined, Witness, Touched}
+use Rattle.select.specs.Each.{itemAt, divisions}
 use Rattle.sequent.specs.Sequent.{WD, INV, FIS, GRD, SIM, WFIS, NAT, VAR}
-use Rattle.walk.specs.declared.Item.{Item}
-use Rattle.walk.specs.declared.Item.the-variants.{A, B, C, Action, Identifier}
 use Rattle.walk.specs.declared.Group.{Group}
-use Rattle.walk.specs.Events.{isRefining, isMatched, isConvergent, isNew, ownKind, ownInvariantTag}
+use Rattle.walk.specs.Events.{isRefining, isMatched, isConvergent, isNew, keepsAll, ownKind, ownInvariantTag}
 
 -- the groups by number
 abbrev pub axiomGroup : ℕ
@@ -62,8 +64,15 @@ varGroup = 12
 abbrev pub groups : ℕ
 groups = 13
 
-abbrev pub groupOf : ℕ → Selection → Item → Group
-groupOf kind rows item = record { kind = kind; rows = rows; item = item }
+abbrev pub groupOf : ℕ → Selection → Item → Each → Group
+groupOf kind rows item each = record { kind = kind; rows = rows; item = item; each = each }
+
+-- WD, where the formula divides; a kind that is listed whole
+abbrev pub definedGroup : Selection → Item → ℕ → Group
+definedGroup rows item e = groupOf WD rows item (Defined item e)
+
+abbrev pub wholeGroup : ℕ → Selection → Item → Group
+wholeGroup kind rows item = groupOf kind rows item One
 
 -- rows where a test passes
 abbrev pub when : Bool → Selection → Selection
@@ -76,53 +85,46 @@ alone e rows = pick (eqb e 0) rows None
 abbrev pub ofEvent : ℕ → Selection → Selection
 ofEvent e rows = pick (eqb e 0) None rows
 
--- "each witness's WD then WFIS": how many sequents a row of a group has, and the second of a witness
-abbrev pub each : ℕ → ℕ
-each g = pick (eqb g witnessGroup) 2 1
-
-abbrev pub isWFIS : ℕ → ℕ → Bool
-isWFIS g w = eqb g witnessGroup && eqb w 1
-
 module _ (t : Rows) where
   -- SIM: "each abstract variable", each shared one too; 02, request 2: "SIM is made for it also at convergent and anticipated events"
   abbrev pub simulatedRows : ℕ → Selection
   simulatedRows e = pick (isMatched t e) (Variables abstractVariableKind) (when (isNew t e) (Identifiers sharedVariableKind))
 
+  -- INV, where the event assigns what the invariant mentions, or is one that keeps all
+  abbrev pub invariantEach : ℕ → Each
+  invariantEach e = pick (keepsAll t e) One (Touched e)
+
   abbrev pub groupTable : ℕ → List Group
   groupTable e =
-      groupOf WD (alone e (Tagged axiomTag)) A
-      ∷ groupOf WD (alone e (Tagged abstractInvariantTag)) A
-      ∷ groupOf WD (alone e (Tagged concreteInvariantTag)) A
-      ∷ groupOf WD (alone e (Tagged variantTag)) A
-      ∷ groupOf WD (ofEvent e (OfEvent guardTag e)) B
-      ∷ groupOf WD (ofEvent e (Assigned (ownKind t e) e)) Action
-      ∷ groupOf FIS (ofEvent e (SuchThat (ownKind t e) e)) Identifier
-      ∷ groupOf WD (ofEvent e (OfEvent witnessTag e)) C
-      ∷ groupOf GRD (ofEvent e (when (isRefining t e) (OfEvent guardTag (refinedBy t e)))) B
-      ∷ groupOf SIM (ofEvent e (simulatedRows e)) Identifier
-      ∷ groupOf INV (ofEvent e (Tagged (ownInvariantTag t e))) A
-      ∷ groupOf NAT (ofEvent e (when (isConvergent t e) (Tagged variantTag))) A
-      ∷ groupOf VAR (ofEvent e (when (isNew t e) (Tagged variantTag))) A
+      definedGroup (alone e (Tagged axiomTag)) A e
+      ∷ definedGroup (alone e (Tagged abstractInvariantTag)) A e
+      ∷ definedGroup (alone e (Tagged concreteInvariantTag)) A e
+      ∷ definedGroup (alone e (Tagged variantTag)) A e
+      ∷ definedGroup (ofEvent e (OfEvent guardTag e)) B e
+      ∷ definedGroup (ofEvent e (Assigned (ownKind t e) e)) Action e
+      ∷ wholeGroup FIS (ofEvent e (SuchThat (ownKind t e) e)) Identifier
+      ∷ groupOf WD (ofEvent e (OfEvent witnessTag e)) C Witness
+      ∷ wholeGroup GRD (ofEvent e (when (isRefining t e) (OfEvent guardTag (refinedBy t e)))) B
+      ∷ wholeGroup SIM (ofEvent e (simulatedRows e)) Identifier
+      ∷ groupOf INV (ofEvent e (Tagged (ownInvariantTag t e))) A (invariantEach e)
+      ∷ wholeGroup NAT (ofEvent e (when (isConvergent t e) (Tagged variantTag))) A
+      ∷ wholeGroup VAR (ofEvent e (when (isNew t e) (Tagged variantTag))) A
       ∷ []
 
   -- a group of an event, by number; another number has no rows
   unfoldable pub groupAt : ℕ → ℕ → Group
-  groupAt e g = getD (groupTable e) g (groupOf WD None A)
+  groupAt e g = getD (groupTable e) g (wholeGroup WD None A)
 
   abbrev pub groupRows : ℕ → ℕ → Selection
   groupRows e g = groupAt e g .rows
 
-  -- the number that a row of an event gives: an item, or the root of an entry
-  abbrev pub itemAt : Item → ℕ → ℕ → ℕ
-  itemAt A e i = t .a i
-  itemAt B e i = t .b i
-  itemAt C e i = t .c i
-  itemAt Action e i = t .c (actionRow t e (i + 1))
-  itemAt Identifier e i = i + 1
+  -- "each witness's WD then WFIS": the sequent w of a witness's row, counted from 0, is its WFIS
+  abbrev pub isWFIS : ℕ → ℕ → ℕ → Bool
+  isWFIS g i w = eqb g witnessGroup && eqb w (divisions t (t .c i))
 
   -- the kind and the item of row 80
-  unfoldable pub headerKind : ℕ → ℕ → ℕ → ℕ
-  headerKind e g w = pick (isWFIS g w) WFIS (groupAt e g .kind)
+  unfoldable pub headerKind : ℕ → ℕ → ℕ → ℕ → ℕ
+  headerKind e g i w = pick (isWFIS g i w) WFIS (groupAt e g .kind)
 
   unfoldable pub headerItem : ℕ → ℕ → ℕ → ℕ → ℕ
-  headerItem e g i w = pick (isWFIS g w) (t .b i) (itemAt (groupAt e g .item) e i)
+  headerItem e g i w = pick (isWFIS g i w) (t .b i) (itemAt t (groupAt e g .item) e i)

@@ -1,4 +1,4 @@
--- The list of sequents as a walk of slots: an event (0 for none), a group and a row. A slot has as many sequents as its group has for a row of its selection, so
+-- The list of sequents as a walk of slots: an event (0 for none), a group and a row. A slot has as many sequents as its group has of a row of its selection, so
 -- that counting the sequents makes none of them.
 use Prim.Native.Nat.{ℕ, _+_, _≤_, _<_}
 use mathlib.Core.Path.{_≡_}
@@ -9,9 +9,9 @@ use Rattle.lists.specs.Sum.{sumBelow}
 use Rattle.table.specs.Names.{eventTag}
 use Rattle.table.specs.Rows.{Rows, count}
 use Rattle.select.specs.declared.Sought.{Sought}
-use Rattle.select.specs.Selection.{selects}
+use Rattle.select.specs.Each.{countAt}
 use Rattle.walk.specs.declared.Slot.{Slot}
-use Rattle.walk.specs.Groups.{groups, groupRows, each}
+use Rattle.walk.specs.Groups.{groups, groupAt}
 
 abbrev pub slotAt : ℕ → ℕ → ℕ → ℕ → Slot
 slotAt e g i left = record { event = e; group = g; row = i; left = left }
@@ -26,8 +26,8 @@ nextGroup s left = pick (ltb (s .group + 1) groups) (slotAt (s .event) (s .group
 
 module _ (t : Rows) where
   -- how many sequents a slot has, a group of an event, an event, and the walk
-  unfoldable pub slotCount : ℕ → ℕ → ℕ → ℕ
-  slotCount e g i = pick (selects t (groupRows t e g) i) (each g) 0
+  abbrev pub slotCount : ℕ → ℕ → ℕ → ℕ
+  slotCount e g i = countAt t (groupAt t e g .rows) (groupAt t e g .each) i
 
   abbrev pub groupCount : ℕ → ℕ → ℕ
   groupCount e g = sumBelow (slotCount e g) (t .size)

@@ -1,12 +1,14 @@
 // 01, "Order: WD of axioms, invariants, variant; then event by event ..": the groups of sequents, and the walk of the list, which counts and finds sequents without
 // making them. A slot is an event (0 for none), a group and a row.
+use select::Each;
+use select::Item;
 use select::Selection;
 use select::Sought;
-use select::action_row;
+use select::divisions;
+use select::item_at;
 use select::seek_row;
 use sequent::kind;
 use table::Table;
-use table::a_at;
 use table::b_at;
 use table::c_at;
 use table::event;
@@ -23,14 +25,16 @@ ghost use Rattle.table.specs.Names.{guardTag, variantTag};
 ghost use Rattle.table.specs.Rows.{rowsOf, refinedBy};
 ghost use Rattle.table.specs.Counts.{countsOf};
 ghost use Rattle.machine.specs.Described.{machineOf};
+ghost use Rattle.sequent.specs.Sequent.{WD};
 ghost use Rattle.sequent.specs.Listed.{sequents};
-ghost use Rattle.scan.specs.Spans.{Spanned};
+ghost use Rattle.nodes.specs.Notes.{Noted};
+ghost use Rattle.rules.specs.Verdict.{Passes};
 ghost use Rattle.select.specs.declared.Selection.the-variants.{Tagged, OfEvent, Assigned, SuchThat};
-ghost use Rattle.select.specs.Selection.{selects};
+ghost use Rattle.select.specs.declared.Each.the-variants.{One, Defined};
 ghost use Rattle.select.specs.Sought.{Passed};
-ghost use Rattle.walk.specs.Events.{isAbstract, isInitial, isRefining, isMatched, isConvergent, isNew, matchedBy, ownKind, ownInvariantTag};
-ghost use Rattle.walk.specs.Groups.{groups, groupOf, when, alone, ofEvent, simulatedRows, groupAt, groupRows, itemAt, isWFIS, headerKind, headerItem, each};
-ghost use Rattle.walk.specs.Slots.{slotAt, soughtAt, nextGroup, InWalk, position, SoughtSlot};
+ghost use Rattle.walk.specs.Events.{isAbstract, isInitial, isRefining, isMatched, isConvergent, isNew, keepsAll, matchedBy, ownKind, ownInvariantTag};
+ghost use Rattle.walk.specs.Groups.{groups, groupOf, when, alone, ofEvent, simulatedRows, invariantEach, groupAt, isWFIS, headerKind, headerItem};
+ghost use Rattle.walk.specs.Slots.{slotAt, soughtAt, nextGroup, slotCount, InWalk, position, SoughtSlot};
 
 // "machine: 1 abstract, 2 concrete"
 pub fn is_abstract(words: &[u64], table: Table, event: u64) -> bool
@@ -84,6 +88,14 @@ pub fn is_new(words: &[u64], table: Table, event: u64) -> bool
         & !((class == event::INITIALISATION) | (class == event::ORDINARY))
 }
 
+// 02, request 4: an initialisation, or a concrete ordinary event, keeps all its INV.
+fn keeps_all(words: &[u64], table: Table, event: u64) -> bool
+    requires { ⌜ table ≡ countsOf (rowsOf (now words)) ⌝ }
+    ensures { λ r. ⌜ r ≡ keepsAll (rowsOf (now (words .entry))) event ⌝ }
+{
+    is_initial(words, table, event) | is_refining(words, table, event)
+}
+
 // The abstract event that an event's steps are matched by.
 pub fn matched_by(words: &[u64], table: Table, event: u64) -> u64
     requires { ⌜ table ≡ countsOf (rowsOf (now words)) ⌝ }
@@ -134,29 +146,6 @@ fn own_invariant_tag(words: &[u64], table: Table, event: u64) -> u64
     )
 }
 
-// What the item of a row 80, or the number of an entry, is: a column of a row, the root of the action for the identifier that the row stands for, or that identifier.
-pub enum Item {
-    A,
-    B,
-    C,
-    Action,
-    Identifier,
-}
-
-// The item that row i gives.
-pub fn item_at(words: &[u64], spans: &[usize], item: Item, event: u64, i: usize) -> u64
-    requires { ⌜ Spanned (rowsOf (now words)) (now spans) × (i < rowsOf (now words) .size) ⌝ }
-    ensures { λ r. ⌜ r ≡ itemAt (rowsOf (now (words .entry))) item event i ⌝ }
-{
-    match item {
-        Item::A => a_at(words, i),
-        Item::B => b_at(words, i),
-        Item::C => c_at(words, i),
-        Item::Action => c_at(words, action_row(words, spans, event, i as u64 + 1)),
-        Item::Identifier => i as u64 + 1,
-    }
-}
-
 // Rows where a test passes.
 pub fn when(test: bool, rows: Selection) -> Selection
     ensures { λ r. ⌜ r ≡ when test rows ⌝ }
@@ -187,11 +176,12 @@ fn of_event(event: u64, rows: Selection) -> Selection
     rows
 }
 
-// A line of 01's "Order": the kind of its sequents, the rows that they are made for, and their items.
+// A line of 01's "Order": the kind of its sequents, the rows that they are made for, their items, and how many of a row are listed.
 pub struct Group {
     pub kind: u64,
     pub rows: Selection,
     pub item: Item,
+    pub each: Each,
 }
 
 impl Group {
@@ -224,10 +214,30 @@ impl Group {
 
     pub const COUNT: u64 = 13;
 
-    fn new(kind: u64, rows: Selection, item: Item) -> Self
-        ensures { λ r. ⌜ r ≡ groupOf kind rows item ⌝ }
+    fn new(kind: u64, rows: Selection, item: Item, each: Each) -> Self
+        ensures { λ r. ⌜ r ≡ groupOf kind rows item each ⌝ }
     {
-        Self { kind, rows, item }
+        Self {
+            kind,
+            rows,
+            item,
+            each,
+        }
+    }
+
+    // WD, of formulas that divide.
+    fn defined(rows: Selection, item: Item, event: u64) -> Self
+        ensures { λ r. ⌜ r ≡ groupOf WD rows item (Defined item event) ⌝ }
+    {
+        let each = Each::Defined { item, event };
+        Group::new(kind::WD, rows, item, each)
+    }
+
+    // A kind of which every sequent is listed.
+    fn whole(kind: u64, rows: Selection, item: Item) -> Self
+        ensures { λ r. ⌜ r ≡ groupOf kind rows item One ⌝ }
+    {
+        Group::new(kind, rows, item, Each::One)
     }
 }
 
@@ -262,6 +272,17 @@ fn own_invariants(words: &[u64], table: Table, event: u64) -> Selection
 {
     let tag = own_invariant_tag(words, table, event);
     of_event(event, Selection::Tagged(tag))
+}
+
+// Which of their INV are listed.
+fn invariant_each(words: &[u64], table: Table, event: u64) -> Each
+    requires { ⌜ table ≡ countsOf (rowsOf (now words)) ⌝ }
+    ensures { λ r. ⌜ r ≡ invariantEach (rowsOf (now (words .entry))) event ⌝ }
+{
+    if keeps_all(words, table, event) {
+        return Each::One;
+    }
+    Each::Touched(event)
 }
 
 // The guards of the event that an event refines.
@@ -302,52 +323,51 @@ pub fn group_at(words: &[u64], table: Table, event: u64, group: u64) -> Group
     ensures { λ r. ⌜ r ≡ groupAt (rowsOf (now (words .entry))) event group ⌝ }
 {
     match group {
-        Group::AXIOM => Group::new(
-            kind::WD,
-            alone(event, Selection::Tagged(tag::AXIOM)),
-            Item::A,
-        ),
-        Group::ABSTRACT_INVARIANT => Group::new(
-            kind::WD,
+        Group::AXIOM => Group::defined(alone(event, Selection::Tagged(tag::AXIOM)), Item::A, event),
+        Group::ABSTRACT_INVARIANT => Group::defined(
             alone(event, Selection::Tagged(tag::ABSTRACT_INVARIANT)),
             Item::A,
+            event,
         ),
-        Group::CONCRETE_INVARIANT => Group::new(
-            kind::WD,
+        Group::CONCRETE_INVARIANT => Group::defined(
             alone(event, Selection::Tagged(tag::CONCRETE_INVARIANT)),
             Item::A,
+            event,
         ),
-        Group::VARIANT => Group::new(
-            kind::WD,
+        Group::VARIANT => Group::defined(
             alone(event, Selection::Tagged(tag::VARIANT)),
             Item::A,
+            event,
         ),
-        Group::GUARD => Group::new(kind::WD, rows_of(event, tag::GUARD), Item::B),
-        Group::ACTION => Group::new(kind::WD, assigned(words, table, event), Item::Action),
-        Group::FIS => Group::new(kind::FIS, such_that(words, table, event), Item::Identifier),
-        Group::WITNESS => Group::new(kind::WD, rows_of(event, tag::WITNESS), Item::C),
-        Group::GRD => Group::new(kind::GRD, refined_guards(words, table, event), Item::B),
-        Group::SIM => Group::new(kind::SIM, simulated(words, table, event), Item::Identifier),
-        Group::INV => Group::new(kind::INV, own_invariants(words, table, event), Item::A),
-        Group::NAT => Group::new(
+        Group::GUARD => Group::defined(rows_of(event, tag::GUARD), Item::B, event),
+        Group::ACTION => Group::defined(assigned(words, table, event), Item::Action, event),
+        Group::FIS => Group::whole(kind::FIS, such_that(words, table, event), Item::Identifier),
+        Group::WITNESS => Group::new(
+            kind::WD,
+            rows_of(event, tag::WITNESS),
+            Item::C,
+            Each::Witness,
+        ),
+        Group::GRD => Group::whole(kind::GRD, refined_guards(words, table, event), Item::B),
+        Group::SIM => Group::whole(kind::SIM, simulated(words, table, event), Item::Identifier),
+        Group::INV => Group::new(
+            kind::INV,
+            own_invariants(words, table, event),
+            Item::A,
+            invariant_each(words, table, event),
+        ),
+        Group::NAT => Group::whole(
             kind::NAT,
             variant_when(event, is_convergent(words, table, event)),
             Item::A,
         ),
-        Group::VAR => Group::new(
+        Group::VAR => Group::whole(
             kind::VAR,
             variant_when(event, is_new(words, table, event)),
             Item::A,
         ),
-        _ => Group::new(kind::WD, Selection::None, Item::A),
+        _ => Group::whole(kind::WD, Selection::None, Item::A),
     }
-}
-
-// How many sequents a row of a group has: of a witness WD and WFIS.
-pub fn each(group: u64) -> u64
-    ensures { λ r. ⌜ r ≡ each group ⌝ }
-{
-    if group == Group::WITNESS { 2 } else { 1 }
 }
 
 // A slot of the walk, and how many sequents from its first on a search has still to pass over.
@@ -418,19 +438,23 @@ impl Slot {
     }
 }
 
-// Whether a slot's sequent is the WFIS of a witness.
-fn is_wfis(slot: Slot) -> bool
-    ensures { λ r. ⌜ r ≡ isWFIS (slot .group) (slot .left) ⌝ }
+// Whether a slot's sequent is the WFIS of a witness, which stands behind its WD, where that is listed.
+fn is_wfis(words: &[u64], spans: &[usize], slot: Slot) -> bool
+    requires { ⌜ Noted (rowsOf (now words)) (now spans) ⌝ }
+    ensures { λ r. ⌜ r ≡ isWFIS (rowsOf (now (words .entry))) (slot .group) (slot .row) (slot .left) ⌝ }
 {
-    (slot.group == Group::WITNESS) & (slot.left == 1)
+    if slot.group == Group::WITNESS {
+        return slot.left == divisions(words, spans, c_at(words, slot.row));
+    }
+    false
 }
 
 // The kind of a slot's sequent.
-pub fn header_kind(words: &[u64], table: Table, slot: Slot) -> u64
-    requires { ⌜ table ≡ countsOf (rowsOf (now words)) ⌝ }
-    ensures { λ r. ⌜ r ≡ headerKind (rowsOf (now (words .entry))) (slot .event) (slot .group) (slot .left) ⌝ }
+pub fn header_kind(words: &[u64], table: Table, spans: &[usize], slot: Slot) -> u64
+    requires { ⌜ (table ≡ countsOf (rowsOf (now words))) × Noted (rowsOf (now words)) (now spans) ⌝ }
+    ensures { λ r. ⌜ r ≡ headerKind (rowsOf (now (words .entry))) (slot .event) (slot .group) (slot .row) (slot .left) ⌝ }
 {
-    if is_wfis(slot) {
+    if is_wfis(words, spans, slot) {
         return kind::WFIS;
     }
     group_at(words, table, slot.event, slot.group).kind
@@ -438,10 +462,10 @@ pub fn header_kind(words: &[u64], table: Table, slot: Slot) -> u64
 
 // Its item: root, variable or identifier.
 pub fn header_item(words: &[u64], table: Table, spans: &[usize], slot: Slot) -> u64
-    requires { ⌜ (table ≡ countsOf (rowsOf (now words))) × Spanned (rowsOf (now words)) (now spans) × (slot .row < rowsOf (now words) .size) ⌝ }
+    requires { ⌜ (table ≡ countsOf (rowsOf (now words))) × Noted (rowsOf (now words)) (now spans) × (slot .row < rowsOf (now words) .size) ⌝ }
     ensures { λ r. ⌜ r ≡ headerItem (rowsOf (now (words .entry))) (slot .event) (slot .group) (slot .row) (slot .left) ⌝ }
 {
-    if is_wfis(slot) {
+    if is_wfis(words, spans, slot) {
         return b_at(words, slot.row);
     }
     let group = group_at(words, table, slot.event, slot.group);
@@ -451,29 +475,22 @@ pub fn header_item(words: &[u64], table: Table, spans: &[usize], slot: Slot) -> 
 
 // Walks on within a slot's group.
 fn seek_in_group(words: &[u64], table: Table, spans: &[usize], slot: Slot) -> Sought
-    requires { ⌜ (table ≡ countsOf (rowsOf (now words))) × Spanned (rowsOf (now words)) (now spans) × (slot .row ≤ rowsOf (now words) .size) ⌝ }
-    ensures { λ r. ⌜ Passed (selects (rowsOf (now (words .entry))) (groupRows (rowsOf (now (words .entry))) (slot .event) (slot .group))) (each (slot .group)) (rowsOf (now (words .entry)) .size) (soughtAt slot) r ⌝ }
+    requires { ⌜ (table ≡ countsOf (rowsOf (now words))) × Noted (rowsOf (now words)) (now spans) × (slot .row ≤ rowsOf (now words) .size) ⌝ }
+    ensures { λ r. ⌜ Passed (slotCount (rowsOf (now (words .entry))) (slot .event) (slot .group)) (rowsOf (now (words .entry)) .size) (soughtAt slot) r ⌝ }
 {
     let group = group_at(words, table, slot.event, slot.group);
     let rows = group.rows;
+    let each = group.each;
     let from = Sought {
         row: slot.row,
         left: slot.left,
     };
-    seek_row(
-        words,
-        table,
-        spans,
-        rows,
-        each(slot.group),
-        size(words),
-        from,
-    )
+    seek_row(words, table, spans, rows, each, size(words), from)
 }
 
 // Walks on from a slot until what is left to pass over lies in a slot, or to the end. Counting, finding and printing all walk by this.
 pub fn seek(words: &[u64], table: Table, spans: &[usize], from: Slot) -> Slot
-    requires { ⌜ (table ≡ countsOf (rowsOf (now words))) × Spanned (rowsOf (now words)) (now spans) × InWalk (rowsOf (now words)) from ⌝ }
+    requires { ⌜ (table ≡ countsOf (rowsOf (now words))) × Noted (rowsOf (now words)) (now spans) × InWalk (rowsOf (now words)) from ⌝ }
     ensures { λ r. ⌜ SoughtSlot (rowsOf (now (words .entry))) (position (rowsOf (now (words .entry))) from) r ⌝ }
 {
     let rows = size(words);
@@ -491,9 +508,10 @@ pub fn seek(words: &[u64], table: Table, spans: &[usize], from: Slot) -> Slot
 // More sequents than a table can have.
 const MANY: u64 = 4294967296;
 
-// How many sequents a table has.
+// How many sequents a table that passes all checks has.
 pub fn count(words: &[u64], table: Table, spans: &[usize]) -> u64
-    requires { ⌜ (table ≡ countsOf (rowsOf (now words))) × Spanned (rowsOf (now words)) (now spans) × (length (now words) ≤ mostWords) ⌝ }
+    requires { ⌜ (table ≡ countsOf (rowsOf (now words))) × Noted (rowsOf (now words)) (now spans) × (length (now words) ≤ mostWords) ⌝ }
+    requires { ⌜ Passes (rowsOf (now words)) ⌝ }
     ensures { λ r. ⌜ r ≡ length (sequents (machineOf (rowsOf (now (words .entry))))) ⌝ }
 {
     let end = seek(words, table, spans, Slot::start(MANY));

@@ -1,6 +1,6 @@
 -- Rows and end are the table's.
 use mathlib.Core.Path.{ap₂, _∙_}
-use Rattle.walk.specs.declared.Item.the-variants.{Identifier}
+use Rattle.select.specs.declared.Item.the-variants.{Identifier}
 use Rattle.entries.specs.Segments.{segmentOf}
 use borrow.Author.Needs.{needs}
 use Rattle.entries.proofs.moves.Statement.{statement}

@@ -3,7 +3,8 @@ use Prim.Native.Nat.{_+_, _-_, _≤_, _<_}
 use mathlib.Core.Path.{_≡_, refl, ap, _∙_, subst}
 use native.Mathlib.Omega.{arith}
 use Rattle.table.specs.Rows.{rowsOf}
-use Rattle.select.specs.Selection.{selects}
+use Rattle.select.specs.declared.Each.the-variants.{One}
+use Rattle.select.specs.Each.{countAt}
 use Rattle.select.specs.Sought.{Passed}
 use Rattle.entries.specs.Segments.{segments}
 use Rattle.entries.specs.Seek.{Stands, hypothesesBefore}
@@ -39,7 +40,7 @@ seek-entry-spec = tie.close (tie.spec
     let s = turn .before .before .before in
     let t = rowsOf (s .args .words .now) in
     let part = sought .before .segment-at in
-    let p = subst (λ r. Passed (selects t (r .rows)) 1 (r .before) (soughtIn (turn .loop .cursor)) (sought .seek-row .result)) (part .ensures) (sought .seek-row .ensures) in
+    let p = subst (λ r. Passed (countAt t (r .rows) One) (r .before) (soughtIn (turn .loop .cursor)) (sought .seek-row .result)) (part .ensures) (sought .seek-row .ensures) in
     let inside : sought .seek-row .result .row < end t (s .args .slot) (turn .loop .cursor .segment) = omega (arith, c .before .if2 .taken, ap (λ r. r .before) (part .ensures)) in
     let f = passed-found t (s .args .slot) (turn .loop .inv .0) (sought .before .before .if1 .taken) p inside (c .at .ensures) in
     record {
@@ -54,7 +55,7 @@ seek-entry-spec = tie.close (tie.spec
     let s = turn .before .before .before in
     let t = rowsOf (s .args .words .now) in
     let part = sought .before .segment-at in
-    let p = subst (λ r. Passed (selects t (r .rows)) 1 (r .before) (soughtIn (turn .loop .cursor)) (sought .seek-row .result)) (part .ensures) (sought .seek-row .ensures) in
+    let p = subst (λ r. Passed (countAt t (r .rows) One) (r .before) (soughtIn (turn .loop .cursor)) (sought .seek-row .result)) (part .ensures) (sought .seek-row .ensures) in
     let past : end t (s .args .slot) (turn .loop .cursor .segment) ≤ sought .seek-row .result .row = omega (arith, c .before .if2 .left, ap (λ r. r .before) (part .ensures)) in
     let n = passed-next t (s .args .slot) (turn .loop .inv .0) (sought .before .before .if1 .taken) p past (c .next-segment .ensures) in
     (n .0, n .1 ∙ turn .loop .inv .1))

@@ -2,7 +2,7 @@
 use mathlib.Core.Path.{refl, sym, ap, _∙_, subst}
 use native.Mathlib.Omega.{arith}
 use lib.ListN.{length}
-use Rattle.reply.specs.Printed.{row}
+use Rattle.reply.specs.Row.{row}
 use Rattle.reply.proofs.Output.{output-refused}
 use Rattle.obligations.specs.Output.{StandsAt}
 use Rattle.obligations.proofs.Stands.{refusal-stands, fills}

@@ -38,7 +38,7 @@ print-sequents-spec = tie.close (tie.spec
     let g = turned .before in
     let s = g .before .before .before .before .before .before .before .before in
     let turn = turn (s .args .bytes .now) (s .args .words .now) (s .args .count) (s .pre .1 .0) (s .pre .1 .1) (omega (arith, turned .loop-test .taken)) (g .loop .inv .2) in
-    ((s .pre .0 .0, s .pre .0 .1, turn .row), ((g .loop .inv .1 .0, g .loop .inv .1 .1, omega (arith, s .pre .1 .2, g .loop .inv .0)), turn .stands)))
+    ((s .pre .0 .0, s .pre .0 .1, turn .row), ((g .loop .inv .1 .0, g .loop .inv .1 .1, omega (arith, s .pre .1 .2, g .loop .inv .0)), (turn .stands, turn .listed))))
     (λ c κs. let turned = c .before .before .before .before in
     let g = turned .before in
     let s = g .before .before .before .before .before .before .before .before in

@@ -16,14 +16,14 @@ print-slot-spec = tie.close (tie.spec
     (λ c. search needs)
     (λ c. search needs)
     (λ c κs. let s = c .before .before .before .before .before .before in
-    (s .pre .0, simp (length-take, length-drop) (omega (arith, at-most (rowsOf (s .args .words .now)) (s .args .slot) (s .pre .0 .2), s .pre .1 .0 .1, s .pre .1 .0 .2))))
+    (s .pre .0, (s .pre .1 .1 .1, simp (length-take, length-drop) (omega (arith, at-most (rowsOf (s .args .words .now)) (s .args .slot) (s .pre .0 .2), s .pre .1 .0 .1, s .pre .1 .0 .2)))))
     (λ c. let wrote = c .before .before in
     let s = wrote .before .before .before .before .before .before .before in
     omega (arith, s .good, wrote .write-slot .ensures .0, at-most (rowsOf (s .args .words .now)) (s .args .slot) (s .pre .0 .2), s .pre .1 .0 .1, s .pre .1 .0 .2))
     (λ c κs. let wrote = c .before .before .before in
     let s = wrote .before .before .before .before .before .before .before in
     let t = rowsOf (s .args .words .now) in
-    behind-waits (s .args .bytes .now) (s .pre .1 .0 .0) (s .pre .1 .1) (slot-length t (s .args .slot) ∙ sym (wrote .write-slot .ensures .0))
+    behind-waits (s .args .bytes .now) (s .pre .1 .0 .0) (s .pre .1 .1 .0) (slot-length t (s .args .slot) ∙ sym (wrote .write-slot .ensures .0))
     (omega (arith, wrote .write-slot .ensures .0, at-most t (s .args .slot) (s .pre .0 .2), s .pre .1 .0 .1, s .pre .1 .0 .2)) (wrote .write-slot .ensures .1))
     (λ c. search needs)
     (λ c. let wrote = c .before .before .before .before in

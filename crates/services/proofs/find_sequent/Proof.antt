@@ -19,4 +19,4 @@ find-sequent-spec = tie.close (tie.spec
     (s .pre .0 .0, s .pre .0 .1, subst (InWalk t) (sym (c .start .ensures)) (inl (start-within t (s .args .k - 1)))))
     (λ c. let s = c .before .before .before .before in
     let t = rowsOf (s .args .words .now) in
-    located t (s .args .k) (c .seek .result) (s .pre .1 .0) (s .pre .1 .1) (subst (λ from. SoughtSlot t (position t from) (c .seek .result)) (c .before .start .ensures) (c .seek .ensures))))
+    located t (s .pre .1 .0) (s .args .k) (c .seek .result) (s .pre .1 .1) (s .pre .1 .2) (subst (λ from. SoughtSlot t (position t from) (c .seek .result)) (c .before .start .ensures) (c .seek .ensures))))

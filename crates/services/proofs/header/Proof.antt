@@ -1,6 +1,6 @@
 -- Kind and item are the slot's.
 use mathlib.Core.Path.{ap₂}
-use Rattle.reply.specs.Printed.{row}
+use Rattle.reply.specs.Row.{row}
 use borrow.Author.Needs.{needs}
 use Rattle.services.proofs.header.Statement.{statement}
 use Rattle.services.proofs.header.Tie as tie

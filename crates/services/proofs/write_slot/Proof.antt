@@ -1,4 +1,4 @@
--- The header stands in front, and the entries are written into what is left (Slots).
+-- The header stands in front, and the rest is written into what is left (Slots).
 use mathlib.Core.Path.{sym, ap, _∙_}
 use native.Mathlib.Omega.{arith}
 use Rattle.lists.specs.Over.{over}
@@ -7,8 +7,7 @@ use Rattle.row.specs.Row.{rowBytes, width}
 use Rattle.row.proofs.Form.{row-length}
 use Rattle.table.specs.Rows.{rowsOf}
 use Rattle.reply.specs.Printed.{rowsBytes}
-use Rattle.entries.specs.Written.{entryRows}
-use Rattle.services.specs.Found.{headerRow}
+use Rattle.services.specs.Found.{headerRow, restRows}
 use Rattle.services.proofs.Slots.{slot-bytes}
 use borrow.Author.Needs.{needs}
 use Rattle.services.proofs.write_slot.Statement.{statement}
@@ -21,7 +20,7 @@ write-slot-spec = tie.close (tie.spec
     (λ c. search needs)
     (λ c. search needs)
     (λ c. search needs)
-    (λ c κs. search needs)
+    (λ c κs. let s = c .before .before .before .before .before .before .before .before .before in (s .pre .0, (s .pre .1 .0, search needs)))
     (λ c. search needs)
     (λ c. search needs)
     (λ c. let written = c .before .before in
@@ -29,10 +28,10 @@ write-slot-spec = tie.close (tie.spec
     let s = header .before .before .before .before .before .before in
     let t = rowsOf (s .args .words .now) in
     let slot = s .args .slot in
-    let entries = written .write-entries .ensures in (
-      omega (arith, entries .0),
-      over-tail (rowBytes width (headerRow t slot)) (rowsBytes (entryRows t slot)) (s .args .out .now) (header .write .last .1 .0)
-          (written .write-entries .last .1 .1 .1 .1 .0) 38 (row-length width (headerRow t slot))
+    let rest = written .write-rest .ensures in (
+      omega (arith, rest .0),
+      over-tail (rowBytes width (headerRow t slot)) (rowsBytes (restRows t slot)) (s .args .out .now) (header .write .last .1 .0)
+          (written .write-rest .last .1 .1 .1 .1 .0) 38 (row-length width (headerRow t slot))
           (header .write .ensures ∙ ap (λ r. over (rowBytes width r) (s .args .out .now)) (header .before .before .header .ensures))
-          (entries .1) ∙ ap (λ bs. over bs (s .args .out .now)) (sym (slot-bytes t slot)),
+          (rest .1) ∙ ap (λ bs. over bs (s .args .out .now)) (sym (slot-bytes t slot)),
     )))

@@ -1,7 +1,8 @@
 -- Of a WFIS the target, else the group's.
 use mathlib.Core.Path.{sym, ap, _∙_}
 use Rattle.table.specs.Rows.{rowsOf}
-use Rattle.walk.specs.Groups.{itemAt, headerItem}
+use Rattle.select.specs.Each.{itemAt}
+use Rattle.walk.specs.Groups.{headerItem}
 use borrow.Author.Needs.{needs}
 use Rattle.walk.proofs.header_item.Statement.{statement}
 use Rattle.walk.proofs.header_item.Tie as tie

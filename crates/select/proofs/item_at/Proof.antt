@@ -1,8 +1,8 @@
 -- By cases on the item.
 use native.Mathlib.Omega.{arith}
 use borrow.Author.Needs.{needs}
-use Rattle.walk.proofs.item_at.Statement.{statement}
-use Rattle.walk.proofs.item_at.Tie as tie
+use Rattle.select.proofs.item_at.Statement.{statement}
+use Rattle.select.proofs.item_at.Tie as tie
 
 pub item-at-spec : {M : Type 1} → statement M
 item-at-spec = tie.close (tie.spec

@@ -1,0 +1,3 @@
+pub mod Actions
+pub mod Forms
+pub mod Mentioned
