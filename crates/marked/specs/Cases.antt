@@ -1,4 +1,5 @@
--- 01, Table L and marked cases: P1 to P10 as rows of one table: what the definitions give, and what 01 says. One proof computes them all.
+-- 01, Table L and marked cases: P1 to P10 as rows of one table: what the definitions give, and what 01 says, P1 to P3 as 02's request 4 has them. One proof computes
+-- them all.
 use Prim.Native.Nat.{ℕ, zero, suc}
 use mathlib.Core.Path.{_≡_, refl}
 use mathlib.Core.Bool.{Bool, true, false, _&&_}
@@ -20,7 +21,8 @@ use Rattle.run.specs.Run.{State, blank, world, Taken}
 use Rattle.run.specs.SafeRun.{withinBound, convergentSteps}
 use Rattle.reply.specs.declared.Reply.{Reply}
 use Rattle.reply.specs.declared.Reply.the-variants as reply
-use Rattle.reply.specs.Printed.{row, rowsBytes}
+use Rattle.reply.specs.Row.{row}
+use Rattle.reply.specs.Printed.{rowsBytes}
 use Rattle.reply.specs.Replies.{Outcome, writeSequent, output}
 
 -- An answer of any kind as a list of numbers.
@@ -75,13 +77,12 @@ rowsL =
 abbrev pub bytesL : List ℕ
 bytesL = rowsBytes rowsL
 
-abbrev sequent5 : List Row
-sequent5 = row 80 5 2 1 ∷ row 81 4 2 2 ∷ row 81 1 5 0 ∷ row 82 4 1 1 ∷ []
+-- 02, request 4: "For L the program prints"
+abbrev sequent2 : List Row
+sequent2 = row 80 5 2 1 ∷ row 84 1 1 1 ∷ row 81 4 2 2 ∷ row 81 1 5 0 ∷ row 82 4 1 1 ∷ []
 
 abbrev printedL : List Row
-printedL =
-    row 80 1 1 1 ∷ row 82 3 1 0 ∷ row 80 1 2 2 ∷ row 82 3 2 0 ∷ row 80 1 2 5 ∷ row 81 4 2 2 ∷ row 82 3 5 0
-    ∷ row 80 6 2 1 ∷ row 81 4 2 2 ∷ row 82 6 2 1 ∷ sequent5
+printedL = row 80 6 2 1 ∷ row 84 2 1 2 ∷ row 81 4 2 2 ∷ row 82 6 2 1 ∷ sequent2
 
 -- L without its last row
 abbrev shortL : List Row
@@ -148,15 +149,15 @@ unfoldable pub cases : List Case
 cases =
     -- P1: the program prints for L
     gives (output bytesL) (rowsBytes printedL)
-    -- P2: count 5; k 5 accepted, 0 and 6 give 13
-    ∷ gives (ofVerdict (verdictOf bytesL)) (accepted 5)
-    ∷ gives (ofReply (writeSequent bytesL 5 (room 200) .reply)) (accepted 4)
+    -- P2: count 2; k 2 accepted, 0 and 3 give 13
+    ∷ gives (ofVerdict (verdictOf bytesL)) (accepted 2)
+    ∷ gives (ofReply (writeSequent bytesL 2 (room 200) .reply)) (accepted 5)
     ∷ gives (ofOutcome (writeSequent bytesL 0 (room 200))) (refused 13 0 ++ room 200)
-    ∷ gives (ofOutcome (writeSequent bytesL 6 (room 200))) (refused 13 0 ++ room 200)
-    -- P3: sequent 5 fits 152 bytes; 151 gives 15
-    ∷ gives (ofOutcome (writeSequent bytesL 5 (room 152))) (accepted 4 ++ rowsBytes sequent5)
-    ∷ gives (ofOutcome (writeSequent bytesL 5 (room 151))) (refused 15 0 ++ room 151)
-    ∷ gives (ofOutcome (writeSequent bytesL 5 (room 155))) (accepted 4 ++ (rowsBytes sequent5 ++ room 3))
+    ∷ gives (ofOutcome (writeSequent bytesL 3 (room 200))) (refused 13 0 ++ room 200)
+    -- P3: sequent 2 fits 190 bytes; 189 gives 15
+    ∷ gives (ofOutcome (writeSequent bytesL 2 (room 190))) (accepted 5 ++ rowsBytes sequent2)
+    ∷ gives (ofOutcome (writeSequent bytesL 2 (room 189))) (refused 15 0 ++ room 189)
+    ∷ gives (ofOutcome (writeSequent bytesL 2 (room 193))) (accepted 5 ++ (rowsBytes sequent2 ++ room 3))
     -- P4: L without its last row: 9, row 7
     ∷ gives (ofVerdict (verdictOf (rowsBytes shortL))) (refused 9 7)
     -- P5: L with node 6 = ⊤ and row 60 2 1 6 added: 11, row 14
@@ -172,7 +173,7 @@ cases =
     ∷ gives (ofReading (readTree at (connective and nonzero quotientOne))) (bit false)
     ∷ gives (ofReading (readTree at (connective and quotientOne nonzero))) undefined
     -- P10: variant 0, one convergent step to −1: allowed, two are not
-    ∷ gives (ofVerdict (verdictOf bytesP10)) (accepted 6)
+    ∷ gives (ofVerdict (verdictOf bytesP10)) (accepted 2)
     ∷ gives (ofReading (readTree (readIn (pos 0)) (falling .tree 8))) (whole (pos 0))
     ∷ gives (ofReading (readTree (readIn (negsuc 0)) (falling .tree 8))) (whole (negsuc 0))
     ∷ gives (bit (withinBound (convergentSteps falling (stepTo (negsuc 0) ∷ [])) (pos 0))) (bit true)

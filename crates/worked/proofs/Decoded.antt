@@ -1,15 +1,17 @@
--- The worked table is accepted with 45 sequents, and its rows are these numbers: both computed.
+-- The worked table is accepted with 25 sequents, and its rows are these numbers: both computed.
 use mathlib.Core.Path.{_≡_, refl}
 use mathlib.Core.List.{flatMap}
 use Rattle.lists.specs.Below.{countBelow, first, numbers, keep}
+use Rattle.lists.specs.Different.{someOf}
 use Rattle.number.specs.Number.{columnsOf}
 use Rattle.number.specs.Reading.{numberOf, scanFrom}
 use Rattle.row.specs.Row.{rowBytes}
 use Rattle.table.specs.Rows.{section, count, start}
 use Rattle.formula.specs.Mentions.{mentions}
+use Rattle.formula.specs.Identifiers.{identifiers, divides}
 use Rattle.machine.specs.Operator.{operatorNumbered, operandSort, resultSort}
 use Rattle.machine.specs.Described.{typeNumbered, kindNumbered, roleNumbered, treeTo, treeOf, actionOf, belonging, variablesOf, machineOf}
-use Rattle.sequent.specs.Listed.{inOrder, eventSequents, sequents}
+use Rattle.sequent.specs.Listed.{inOrder, eventSequents, obligations, sequents}
 use Rattle.rules.specs.Decoded.{lineOf, wordsOf}
 use Rattle.rules.specs.Tags.{columnsUsed, rowLimit}
 use Rattle.rules.specs.Sorts.{shapeOf, sortOf}
@@ -30,6 +32,6 @@ pub decodes : wordsOf bytes ≡ words
 unfolding words flatMap numbers columnsOf numberOf scanFrom rowBytes lineOf wordsOf rowsBytes
 decodes = refl
 
-pub accepted : verdict bytes ≡ Accepted 45
-unfolding flatMap countBelow first numbers keep columnsOf numberOf scanFrom rowBytes section count start mentions operatorNumbered typeNumbered kindNumbered roleNumbered treeTo treeOf actionOf belonging variablesOf machineOf inOrder eventSequents sequents lineOf wordsOf columnsUsed rowLimit shapeOf operandSort resultSort sortOf mayMention mayMentionAfter seesOnly tagOffends fullOffends eventOffends identifierOffends rootAt referenceOffends rootSort sortOffends usesTo useOffends sightOffends twiceOffends offends missing firstCheck judge verdict rowsBytes
+pub accepted : verdict bytes ≡ Accepted 25
+unfolding flatMap countBelow first numbers keep columnsOf numberOf scanFrom rowBytes section count start mentions operatorNumbered typeNumbered kindNumbered roleNumbered treeTo treeOf actionOf belonging variablesOf machineOf inOrder eventSequents obligations sequents someOf identifiers divides lineOf wordsOf columnsUsed rowLimit shapeOf operandSort resultSort sortOf mayMention mayMentionAfter seesOnly tagOffends fullOffends eventOffends identifierOffends rootAt referenceOffends rootSort sortOffends usesTo useOffends sightOffends twiceOffends offends missing firstCheck judge verdict rowsBytes
 accepted = refl

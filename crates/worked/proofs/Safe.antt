@@ -18,4 +18,4 @@ unfolding worked
 same-machine = ap (λ ws. machineOf (rowsOf ws)) decodes
 
 pub worked-safe : Safe (machine bytes)
-worked-safe = safe-run bytes 45 accepted (subst⁻¹ (λ m. All (Valid m) (sequents m)) same-machine valid)
+worked-safe = safe-run bytes 25 accepted (subst⁻¹ (λ m. All (Valid m) (sequents m)) same-machine valid)

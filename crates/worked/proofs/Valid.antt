@@ -1,4 +1,4 @@
--- The 45 sequents of the worked table are valid. Those of well-definedness without a division hold by one law; the others follow from one to
+-- The 25 sequents of the worked table are valid. They follow from one to
 -- three of their hypotheses, by putting equals for equals, and those of the variant and of u ≤ N by the order of the whole numbers.
 use Prim.Native.Nat.{ℕ}
 use mathlib.Core.Path.{_≡_, refl, sym, ap, _∙_, subst, subst⁻¹}
@@ -18,20 +18,14 @@ use Rattle.formula.specs.Formula.{Formula, someValue, someAfterValue, Holds}
 use Rattle.formula.proofs.Values.{equal-value-eq, eq-equal-value}
 use Rattle.formula.proofs.Order.{at-most-gap, gap-at-most, suc-less, less-at-most, at-most-refl, at-most-trans}
 use Rattle.formula.proofs.Override.{override-same, override-other}
-use Rattle.formula.proofs.NoDivision.{noDivision, no-division-defined}
 use Rattle.machine.specs.Operator.{operatorNumbered}
 use Rattle.machine.specs.Described.{treeTo, treeOf, machineOf}
 use Rattle.sequent.specs.Entry.{Entry, written, primed, defined, moves, feasible, witnessed, natural, decreases, notIncreased, unchanged, formula}
 use Rattle.sequent.specs.Sequent.{Meets, Valid, sequent, WD}
 use Rattle.sequent.specs.Listed.{sequents}
 use Rattle.worked.proofs.Decoded.{words}
-use Rattle.worked.proofs.Listed.{worked, listed, list0, list1, list2, list3, list4, list5, list6}
+use Rattle.worked.proofs.Listed.{worked, listed, list1, list2, list3, list4, list5, list6}
 use Rattle.worked.proofs.Formulas as f
-
--- no division
-defined-anywhere : (e r : ℕ) (hs : List Entry) → T (noDivision (worked .tree r)) → Valid worked (sequent WD e r hs (defined r))
-unfolding Valid
-defined-anywhere e r hs h ρ hyps = no-division-defined ρ (worked .tree r) h
 
 -- Equals for equals, of any values.
 equal-for : (P : AnyValue → Type 0) (v w : AnyValue) → T (equalValue v w) → P w → P v
@@ -125,52 +119,32 @@ module _ (ρ : Env (worked .type)) where
       let v : Value (type x) = asValue (type x) (number (pos 0)) in
       ∣ (v, subst (λ z. T (atMostℤ (pos 0) (asNumber z))) (sym (ap (wrap (type x)) (override-same type (ρ .after) x v) ∙ fits-type (type x) integer e (pos 0))) tt) ∣₁
 
--- axioms, invariants and the variant
-valid0 : All (Valid worked) list0
-unfolding Valid evaluate worked words machineOf treeOf treeTo start countBelow operatorNumbered noDivision
-valid0 =
-    (all-cons (defined-anywhere 0 3 _ tt)
-    (all-cons (defined-anywhere 0 6 _ tt)
-    (all-cons (defined-anywhere 0 9 _ tt)
-    (all-cons (defined-anywhere 0 12 _ tt)
-    (all-cons (defined-anywhere 0 56 _ tt)
-    all-nil)))))
-
 -- the abstract initialisation: a := N, b := FALSE
 valid1 : All (Valid worked) list1
-unfolding Valid evaluate worked words machineOf treeOf treeTo start countBelow operatorNumbered noDivision
+unfolding Valid evaluate worked words machineOf treeOf treeTo start countBelow operatorNumbered
 valid1 =
-    (all-cons (defined-anywhere 1 13 _ tt)
-    (all-cons (defined-anywhere 1 14 _ tt)
     -- INV of 6
     (all-cons (λ ρ h. shown ρ (primed 6) f.primed-6 (not-negative-from (next ρ 2) (now ρ 1) (from ρ (moves 1 2) f.moves-1-2 (all-head (all-tail h))) (from ρ (written 3) f.written-3 (all-head h))))
     -- INV of 9
     (all-cons (λ ρ h. shown ρ (primed 9) f.primed-9 (from ρ (moves 1 3) f.moves-1-3 (all-head (all-tail (all-tail h)))))
-    all-nil))))
+    all-nil))
 
 -- the abstract event: guards ¬(q = 0) and 0 ≤ a ÷ q, a :| 0 ≤ a′
 valid2 : All (Valid worked) list2
-unfolding Valid evaluate worked words machineOf treeOf treeTo start countBelow operatorNumbered noDivision
+unfolding Valid evaluate worked words machineOf treeOf treeTo start countBelow operatorNumbered
 valid2 =
-    (all-cons (defined-anywhere 2 18 _ tt)
     -- WD of 23
     (all-cons (λ ρ h. shown ρ (defined 23) f.defined-23 (from ρ (written 18) f.written-18 (all-head (all-tail (all-tail (all-tail h))))))
-    (all-cons (defined-anywhere 2 26 _ tt)
     -- FIS of 2
     (all-cons (λ ρ h. shown ρ (feasible 2 2) f.feasible-2-2 (some-natural ρ 2 f.type-2))
     -- INV of 6
     (all-cons (λ ρ h. shown ρ (primed 6) f.primed-6 (from ρ (moves 2 2) f.moves-2-2 (all-head (all-tail (all-tail (all-tail (all-tail (all-tail h))))))))
-    -- INV of 9
-    (all-cons (λ ρ h. shown ρ (primed 9) f.primed-9 (transitive (next ρ 3) (now ρ 3) (truth false) (from ρ (moves 2 3) f.moves-2-3 (all-head (all-tail (all-tail (all-tail (all-tail (all-tail (all-tail h)))))))) (from ρ (written 9) f.written-9 (all-head (all-tail (all-tail h))))))
-    all-nil))))))
+    all-nil)))
 
 -- the concrete initialisation: a := N, u := N
 valid3 : All (Valid worked) list3
-unfolding Valid evaluate worked words machineOf treeOf treeTo start countBelow operatorNumbered noDivision
+unfolding Valid evaluate worked words machineOf treeOf treeTo start countBelow operatorNumbered
 valid3 =
-    (all-cons (defined-anywhere 3 27 _ tt)
-    (all-cons (defined-anywhere 3 28 _ tt)
-    (all-cons (defined-anywhere 3 31 _ tt)
     -- WFIS of 3
     (all-cons (λ ρ h. shown ρ (witnessed 3 3) f.witnessed-3-3 (some-false ρ 3 f.type-3))
     -- SIM of 2
@@ -179,21 +153,18 @@ valid3 =
     (all-cons (λ ρ h. shown ρ (moves 1 3) f.moves-1-3 (from ρ (written 31) f.written-31 (all-head (all-tail (all-tail (all-tail h))))))
     -- INV of 12
     (all-cons (λ ρ h. shown ρ (primed 12) f.primed-12 (at-most-from (next ρ 4) (now ρ 1) (now ρ 1) (from ρ (moves 3 4) f.moves-3-4 (all-head (all-tail (all-tail h)))) (at-most-refl (asNumber (now ρ 1)))))
-    all-nil)))))))
+    all-nil))))
 
 -- the refining event: guards ¬(p = 0) and 0 ≤ a ÷ p, a := a ÷ p
 valid4 : All (Valid worked) list4
-unfolding Valid evaluate worked words machineOf treeOf treeTo start countBelow operatorNumbered noDivision
+unfolding Valid evaluate worked words machineOf treeOf treeTo start countBelow operatorNumbered
 valid4 =
-    (all-cons (defined-anywhere 4 35 _ tt)
     -- WD of 40
     (all-cons (λ ρ h. shown ρ (defined 40) f.defined-40 (from ρ (written 35) f.written-35 (all-head (all-tail (all-tail (all-tail (all-tail h)))))))
     -- WD of 43
     (all-cons (λ ρ h. shown ρ (defined 43) f.defined-43 (from ρ (written 35) f.written-35 (all-head (all-tail (all-tail (all-tail (all-tail h)))))))
-    (all-cons (defined-anywhere 4 46 _ tt)
     -- WFIS of 5
     (all-cons (λ ρ h. shown ρ (witnessed 4 5) f.witnessed-4-5 (some-value ρ 5 6 (λ e. omega arith) (f.type-5 ∙ sym f.type-6)))
-    (all-cons (defined-anywhere 4 49 _ tt)
     -- WFIS of 3
     (all-cons (λ ρ h. shown ρ (witnessed 4 3) f.witnessed-4-3 (some-false ρ 3 f.type-3))
     -- GRD of 18
@@ -206,14 +177,12 @@ valid4 =
     (all-cons (λ ρ h. shown ρ (moves 2 3) f.moves-2-3 (transitive (next ρ 3) (truth false) (now ρ 3) (from ρ (written 49) f.written-49 (all-head (all-tail (all-tail (all-tail (all-tail (all-tail (all-tail (all-tail (all-tail (all-tail h))))))))))) (symmetric (now ρ 3) (truth false) (from ρ (written 9) f.written-9 (all-head (all-tail (all-tail h)))))))
     -- INV of 12
     (all-cons (λ ρ h. shown ρ (primed 12) f.primed-12 (at-most-from (next ρ 4) (now ρ 4) (now ρ 1) (from ρ (moves 4 4) f.moves-4-4 (all-head (all-tail (all-tail (all-tail (all-tail (all-tail (all-tail (all-tail h))))))))) (from ρ (written 12) f.written-12 (all-head (all-tail (all-tail (all-tail h)))))))
-    all-nil))))))))))))
+    all-nil)))))))))
 
 -- the convergent event: guard 0 < u, u := u − 1
 valid5 : All (Valid worked) list5
-unfolding Valid evaluate worked words machineOf treeOf treeTo start countBelow operatorNumbered noDivision
+unfolding Valid evaluate worked words machineOf treeOf treeTo start countBelow operatorNumbered
 valid5 =
-    (all-cons (defined-anywhere 5 52 _ tt)
-    (all-cons (defined-anywhere 5 55 _ tt)
     -- SIM of 2
     (all-cons (λ ρ h. shown ρ (unchanged 2) f.unchanged-2 (from ρ (moves 5 2) f.moves-5-2 (all-head (all-tail (all-tail (all-tail (all-tail (all-tail h))))))))
     -- INV of 12
@@ -222,22 +191,20 @@ valid5 =
     (all-cons (λ ρ h. shown ρ (natural 56) f.natural-56 (less-at-most (pos 0) (asNumber (now ρ 4)) (from ρ (written 52) f.written-52 (all-head (all-tail (all-tail (all-tail (all-tail h))))))))
     -- VAR of 56
     (all-cons (λ ρ h. shown ρ (decreases 56) f.decreases-56 (less-from (next ρ 4) (now ρ 4) (from ρ (moves 5 4) f.moves-5-4 (all-head (all-tail (all-tail (all-tail (all-tail (all-tail (all-tail h))))))))))
-    all-nil))))))
+    all-nil))))
 
 -- the anticipated event: guard 0 ≤ r, u := u − r
 valid6 : All (Valid worked) list6
-unfolding Valid evaluate worked words machineOf treeOf treeTo start countBelow operatorNumbered noDivision
+unfolding Valid evaluate worked words machineOf treeOf treeTo start countBelow operatorNumbered
 valid6 =
-    (all-cons (defined-anywhere 6 59 _ tt)
-    (all-cons (defined-anywhere 6 62 _ tt)
     -- SIM of 2
     (all-cons (λ ρ h. shown ρ (unchanged 2) f.unchanged-2 (from ρ (moves 6 2) f.moves-6-2 (all-head (all-tail (all-tail (all-tail (all-tail (all-tail h))))))))
     -- INV of 12
     (all-cons (λ ρ h. shown ρ (primed 12) f.primed-12 (at-most-trans (asNumber (next ρ 4)) (asNumber (now ρ 4)) (asNumber (now ρ 1)) (not-more-from (next ρ 4) (now ρ 4) (now ρ 7) (from ρ (moves 6 4) f.moves-6-4 (all-head (all-tail (all-tail (all-tail (all-tail (all-tail (all-tail h)))))))) (from ρ (written 59) f.written-59 (all-head (all-tail (all-tail (all-tail (all-tail h))))))) (from ρ (written 12) f.written-12 (all-head (all-tail (all-tail (all-tail h)))))))
     -- VAR of 56
     (all-cons (λ ρ h. shown ρ (notIncreased 56) f.notIncreased-56 (not-more-from (next ρ 4) (now ρ 4) (now ρ 7) (from ρ (moves 6 4) f.moves-6-4 (all-head (all-tail (all-tail (all-tail (all-tail (all-tail (all-tail h)))))))) (from ρ (written 59) f.written-59 (all-head (all-tail (all-tail (all-tail (all-tail h))))))))
-    all-nil)))))
+    all-nil)))
 
 pub valid : All (Valid worked) (sequents worked)
 valid =
-    subst (All (Valid worked)) (sym listed) (all-join valid0 (all-join valid1 (all-join valid2 (all-join valid3 (all-join valid4 (all-join valid5 valid6))))))
+    subst (All (Valid worked)) (sym listed) (all-join valid1 (all-join valid2 (all-join valid3 (all-join valid4 (all-join valid5 valid6)))))

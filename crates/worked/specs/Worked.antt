@@ -3,7 +3,8 @@
 use Prim.Native.Nat.{ℕ}
 use mathlib.Core.List.{List, [], _∷_}
 use Rattle.row.specs.declared.Row.{Row}
-use Rattle.reply.specs.Printed.{row, rowsBytes}
+use Rattle.reply.specs.Row.{row}
+use Rattle.reply.specs.Printed.{rowsBytes}
 
 abbrev pub rows : List Row
 rows =
