@@ -88,7 +88,8 @@ struct Planned {
 }
 
 /// The calls made with a table, and how they were answered. What they must answer is worked out before, as that takes
-/// more stack than a thread that calls may have.
+/// more stack than a thread that calls may have. The list and row 84 are made the plain way here, from spelled rows: what is
+/// timed uses sets of identifiers, and a test asks that both agree.
 pub struct Comparison<'a> {
     services: &'a dyn Services,
     table: &'a [u8],
@@ -105,7 +106,7 @@ impl<'a> Comparison<'a> {
         Comparison {
             services,
             table,
-            answers: Answers::of(table),
+            answers: Answers::plain(table),
             planned: vec![],
             calls: 0,
             refused: [0; 3],
@@ -171,8 +172,8 @@ impl<'a> Comparison<'a> {
     /// The number of entries of sequent k, 0 if there is none.
     fn entries(&self, k: u64) -> u64 {
         self.answers
-            .sequent(k as usize)
-            .map_or(0, |rows| rows.len() as u64 - 1)
+            .entries(k as usize)
+            .map_or(0, |entries| entries as u64)
     }
 
     fn plan_write(&mut self, k: u64, effort: Effort, random: &mut Random) {

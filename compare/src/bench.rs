@@ -246,7 +246,7 @@ fn check_times(proved: &dyn Services, subject: &Subject) -> Times {
 
 fn write_times(proved: &dyn Services, subject: &Subject) -> Times {
     let (table, k) = (&subject.table, subject.count);
-    let mut out = vec![0; 178 * ROW_BYTES];
+    let mut out = vec![0; 179 * ROW_BYTES];
     let mut same = out.clone();
     let times = time(
         "last sequent",

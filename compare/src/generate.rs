@@ -8,6 +8,7 @@ pub mod plan;
 pub mod random;
 pub mod sections;
 pub mod shared;
+pub mod told_apart;
 pub mod tree;
 
 use crate::checks::{accept, ENTRY, FRAME, MISSING, ROOM, SEQUENT};
@@ -20,6 +21,7 @@ use near::near_miss;
 use plan::{extreme, Plan, EXTREMES};
 use random::Random;
 use sections::{arranged, sectioned};
+use told_apart::told_apart;
 
 /// A table and the calls to make with it.
 #[derive(Clone, Debug)]
@@ -63,9 +65,10 @@ fn seeded(seed: u64, random: &mut Random) -> Vec<u8> {
     }
 }
 
-/// A draft of an accepted table: tiny to large, one in seven at all limits or some, two in five by their sections.
+/// A draft of an accepted table: tiny to large, one in nine at all limits or some, one in three by their sections, one in six
+/// by what request 4 tells apart.
 pub fn accepted_draft(random: &mut Random) -> Draft {
-    match random.below(14) {
+    match random.below(18) {
         0 | 1 => {
             let number = random.below(EXTREMES);
             extreme(number, random)
@@ -76,6 +79,7 @@ pub fn accepted_draft(random: &mut Random) -> Draft {
         6 => Plan::any(random, 16).draft(random),
         7 => Plan::any(random, 512).draft(random),
         8 => arranged(random),
+        9..=11 => told_apart(random),
         _ => sectioned(random),
     }
 }
@@ -124,11 +128,12 @@ fn called(table: Vec<u8>, refusal: i32, random: &mut Random) -> Case {
     let entries = list.get(k - 1).map(|one| one.entries()).unwrap_or_default();
     let mut j = random.between(1, entries.len().max(1));
     let spelled = entries.get(j - 1).map(|&one| spell_out(&read, one));
-    let mut sequent_room = (entries.len() + 1) * ROW_BYTES + random.pick(&[0, 0, 1, 37, 38, 99]);
+    // Rows 80 and 84 come before the entries.
+    let mut sequent_room = (entries.len() + 2) * ROW_BYTES + random.pick(&[0, 0, 1, 37, 38, 99]);
     let rows = spelled.unwrap_or_default().len();
     let mut entry_room = rows * ROW_BYTES + random.pick(&[0, 0, 1, 37, 38, 99]);
     if is(ROOM, random) {
-        sequent_room = short(entries.len() + 1, random);
+        sequent_room = short(entries.len() + 2, random);
         entry_room = short(rows, random);
     }
     if is(ENTRY, random) {

@@ -10,7 +10,9 @@ pub mod formula;
 pub mod generate;
 #[cfg(library)]
 pub mod library;
+pub mod mentioned;
 pub mod operators;
+pub mod plain;
 pub mod program;
 pub mod refute;
 pub mod rows;
@@ -20,3 +22,4 @@ pub mod shrink;
 pub mod stack;
 pub mod statistics;
 pub mod table;
+pub mod validity;

@@ -8,6 +8,7 @@ use compare::checks::{accept, Refusal};
 use compare::generate;
 use compare::operators::family;
 use compare::operators::wanted::{missing, wanted};
+use compare::plain::is_left_out;
 use compare::program::{self, Program};
 use compare::refute;
 use compare::rows::{bytes_of, layout, Row};
@@ -15,6 +16,7 @@ use compare::services::{print, refusal_row, Answers};
 use compare::stack::report;
 use compare::statistics::Statistics;
 use compare::table::Table;
+use compare::validity::{search, Under};
 use std::fs::read_to_string;
 use std::io::{stdin, stdout, Read, Write};
 use std::path::Path;
@@ -22,7 +24,8 @@ use std::process::ExitCode;
 
 const USAGE: &str =
     "use: compare print | sequent K | entry K J | layout | refute LOW HIGH | table SEED
-     | statistics SEEDS [FIRST] | against-library TABLES [FIRST] | operators
+     | statistics SEEDS [FIRST] | left-out SEEDS [FIRST]
+     | against-library TABLES [FIRST] | operators
      | against-program PROGRAM TABLES [FIRST] | by-sequent PROGRAM [FILE..]
      | bench [PROGRAM] | bench-table NAME | stack";
 
@@ -67,8 +70,23 @@ fn answer(words: &[&str]) -> Result<Vec<u8>, String> {
             let statistics = Statistics::of(number(first)?, number(seeds)?);
             Ok(statistics.report().into_bytes())
         }
+        ["left-out", seeds] => left_out(number(seeds)?, 0),
+        ["left-out", seeds, first] => left_out(number(seeds)?, number(first)?),
         _ => compared(words),
     }
+}
+
+/// Searches the sequents that request 4 leaves out for values that refute them.
+fn left_out(count: u64, first: u64) -> Result<Vec<u8>, String> {
+    let mut text = String::new();
+    for under in [Under::All, Under::Needed] {
+        let searched = search(first, count, under, is_left_out);
+        text += &format!("hypotheses: {under:?}; {}", searched.report());
+        if let Some(refuted) = searched.refuted {
+            return Err(text + "REFUTED " + &refuted);
+        }
+    }
+    Ok((text + "none is refuted\n").into_bytes())
 }
 
 /// The commands that hold another implementation against this one.

@@ -5,6 +5,7 @@ pub mod coverage;
 pub mod frames;
 pub mod wanted;
 
+use crate::checks::accept;
 use crate::formula::Sort::{Boolean, Integer, Predicate};
 use crate::formula::*;
 use crate::generate::tree::Tree;
@@ -70,7 +71,7 @@ pub fn operator_numbers() -> impl Iterator<Item = i32> {
 }
 
 /// The parts of the family.
-pub const PARTS: [fn() -> Vec<Vec<u8>>; 8] = [
+pub const PARTS: [fn() -> Vec<Vec<u8>>; 9] = [
     column_tables,
     mention_tables,
     hidden_tables,
@@ -79,6 +80,7 @@ pub const PARTS: [fn() -> Vec<Vec<u8>>; 8] = [
     operand_tables,
     pair_tables,
     nested_tables,
+    beside_division_tables,
 ];
 
 /// All tables, each once.
@@ -301,6 +303,38 @@ pub fn nested_tables() -> Vec<Vec<u8>> {
         }
     }
     tables
+}
+
+/// Every operator over leaves beside a formula with ÷ or mod, on either side, in each sort of row: WD is made for the other
+/// side's sake, and has the operator's shape in it. All are accepted.
+pub fn beside_division_tables() -> Vec<Vec<u8>> {
+    let mut tables = Vec::new();
+    for place in places() {
+        let (operator, sort) = match place.takes {
+            Integer => (PLUS, Integer),
+            _ => (AND, Predicate),
+        };
+        let shapes = SHAPES.iter();
+        for shape in shapes.filter(|shape| can_fit(shape.makes, sort)) {
+            let tree = example(&place, shape, plain);
+            let tree = below(tree, shape.makes, sort);
+            let left = Tree::two(operator, tree.clone(), dividing(&place, sort, 1));
+            let right = Tree::two(operator, dividing(&place, sort, 0), tree);
+            tables.extend([left, right].map(|whole| fitted(&place, &whole, sort)));
+        }
+    }
+    // An after value isn't seen in every place.
+    tables.retain(|table| accept(table).is_ok());
+    tables
+}
+
+/// The tree below what makes a predicate of it, if one is wanted.
+fn below(tree: Tree, makes: Sort, wanted: Sort) -> Tree {
+    match (makes, wanted) {
+        (Integer, Predicate) => Tree::two(AT_MOST, tree, Tree::leaf(LITERAL, 1)),
+        (Boolean, Predicate) => Tree::two(EQUAL, tree, Tree::leaf(TRUE, 0)),
+        _ => tree,
+    }
 }
 
 /// The tree as the place's formula, below what makes its sort the place's.

@@ -1,9 +1,10 @@
 //! Looks for values that make all hypotheses of a sequent true and its goal false, among small ones.
 
-use crate::evaluate::{evaluate, Reading, Value, Values};
+use crate::evaluate::{evaluate, NoValue, Reading, Value, Values};
 use crate::formula::{Symbol, AFTER, EQUAL, IDENTIFIER};
 use crate::sequents::{sequents, spell_out, Sequent};
 use crate::table::{Table, INTEGER};
+use std::collections::BTreeSet;
 use std::ops::RangeInclusive;
 
 /// An identifier's number less one, and whether its after value is meant.
@@ -50,6 +51,22 @@ pub fn counterexample(
     search.all_met().then(|| search.found())
 }
 
+/// How many identifiers and after values the sequent mentions that an equation among its hypotheses doesn't give.
+pub fn free_names(table: &Table, sequent: &Sequent) -> usize {
+    let entries = sequent.entries().into_iter();
+    let demands: Vec<Demand> = entries
+        .map(|entry| Demand::new(spell_out(table, entry), true))
+        .collect();
+    let names: BTreeSet<&Name> = demands.iter().flat_map(|one| &one.names).collect();
+    let given = |name: &Name| {
+        let gives = |one: &Demand| {
+            one.spelled[0].operator == EQUAL && name_of(&one.spelled[1]) == Some(*name)
+        };
+        name.1 && demands.iter().any(gives)
+    };
+    names.into_iter().filter(|&&name| !given(&name)).count()
+}
+
 /// A line for each sequent that some values of this range refute, and how many there are.
 pub fn report(table: &Table, integers: RangeInclusive<i128>) -> String {
     let list = sequents(table);
@@ -72,7 +89,7 @@ pub fn report(table: &Table, integers: RangeInclusive<i128>) -> String {
 }
 
 /// The values by identifier numbers, after values with a prime.
-fn shown(values: &[(Name, Value)]) -> String {
+pub fn shown(values: &[(Name, Value)]) -> String {
     let mut text = String::new();
     for &((place, after), value) in values {
         let prime = if after { "'" } else { "" };
@@ -166,14 +183,17 @@ impl Search<'_> {
     fn holds_so_far(&self) -> bool {
         self.demands.iter().all(|demand| {
             let closed = demand.names.iter().all(|name| self.known.contains(name));
-            !closed || self.truth_of(demand) == demand.truth
+            !closed || self.is_met(demand)
         })
     }
 
-    /// What has no value, or is "some value" and isn't found, counts as false.
-    fn truth_of(&self, demand: &Demand) -> bool {
-        let answer = evaluate(&demand.spelled, self.table, &self.values, Reading::Sequent);
-        answer == Ok(Value::Truth(true))
+    /// "Some value" that isn't found counts as false; with integers too large for here no demand is met.
+    fn is_met(&self, demand: &Demand) -> bool {
+        match evaluate(&demand.spelled, self.table, &self.values, Reading::Sequent) {
+            Ok(value) => value == Value::Truth(demand.truth),
+            Err(NoValue::NotFound) => !demand.truth,
+            Err(_) => false,
+        }
     }
 
     fn values_of(&self, (place, _): Name) -> Vec<Value> {

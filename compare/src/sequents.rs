@@ -5,6 +5,7 @@ use crate::formula::{
     bare, spell, spell_after, spell_well_definedness, Symbol, AFTER, AT_MOST, EQUAL, IDENTIFIER,
     LESS, LITERAL, SOME_AFTER_VALUE, SOME_VALUE,
 };
+use crate::mentioned::Mentioned;
 use crate::table::*;
 
 pub const WD: i32 = 1;
@@ -40,6 +41,11 @@ impl Sequent {
         entries.push(self.goal);
         entries
     }
+
+    /// How many rows it is written in: 80, 84, one for each hypothesis, and 82.
+    pub fn rows(&self) -> usize {
+        self.hypotheses.len() + 3
+    }
 }
 
 fn entry(form: i32, first: i32, second: i32) -> Entry {
@@ -57,26 +63,73 @@ fn as_written(formula: &Formula) -> Entry {
 
 /// The sequents of an accepted table, in order.
 pub fn sequents(table: &Table) -> Vec<Sequent> {
-    let mut list = Vec::new();
+    list(table, &Mentioned::of(table))
+}
+
+/// The same, with what the formulas mention worked out before.
+pub fn list(table: &Table, mentioned: &Mentioned) -> Vec<Sequent> {
+    made(table, Some(mentioned))
+}
+
+/// The list before request 4, which leaves some of these out.
+pub fn whole_list(table: &Table) -> Vec<Sequent> {
+    made(table, None)
+}
+
+fn made(table: &Table, leaving_out: Option<&Mentioned>) -> Vec<Sequent> {
+    let mut list = List {
+        leaving_out,
+        sequents: Vec::new(),
+    };
     wd_of_axioms_and_invariants(table, &mut list);
     for number in 1..=table.events.len() as i32 {
         sequents_of_event(table, number, &mut list);
     }
-    list
+    list.sequents
+}
+
+/// The list as far as it is made. Nothing is left out where it isn't known what formulas mention.
+struct List<'a> {
+    leaving_out: Option<&'a Mentioned>,
+    sequents: Vec<Sequent>,
+}
+
+impl List<'_> {
+    fn push(&mut self, sequent: Sequent) {
+        self.sequents.push(sequent);
+    }
+
+    /// WD is left out where the formula has no ÷ and no mod.
+    fn has_wd(&self, root: i32) -> bool {
+        self.leaving_out.is_none_or(|known| known.divides(root))
+    }
+
+    /// INV is left out for an abstract, convergent or anticipated event that assigns no variable the invariant mentions;
+    /// initialisations keep theirs.
+    fn has_inv(&self, event: Event, number: i32, root: i32) -> bool {
+        let keeps =
+            event.class == INITIALISATION || (event.machine == CONCRETE && event.class == ORDINARY);
+        keeps
+            || self
+                .leaving_out
+                .is_none_or(|known| known.assigns(number, root))
+    }
 }
 
 /// WD of axioms, invariants and variant, each under those before it.
-fn wd_of_axioms_and_invariants(table: &Table, list: &mut Vec<Sequent>) {
+fn wd_of_axioms_and_invariants(table: &Table, list: &mut List) {
     let mut before = Vec::new();
     for tag in [AXIOM, ABSTRACT_INVARIANT, CONCRETE_INVARIANT, VARIANT] {
         for formula in table.tagged(tag) {
-            list.push(Sequent {
-                kind: WD,
-                event: 0,
-                item: formula.root,
-                hypotheses: before.clone(),
-                goal: entry(3, formula.root, 0),
-            });
+            if list.has_wd(formula.root) {
+                list.push(Sequent {
+                    kind: WD,
+                    event: 0,
+                    item: formula.root,
+                    hypotheses: before.clone(),
+                    goal: entry(3, formula.root, 0),
+                });
+            }
             before.push(as_written(formula));
         }
     }
@@ -143,7 +196,7 @@ fn moves(event: i32, variables: Vec<i32>) -> Vec<Entry> {
 }
 
 /// The sequents of one event, in order.
-fn sequents_of_event(table: &Table, number: i32, list: &mut Vec<Sequent>) {
+fn sequents_of_event(table: &Table, number: i32, list: &mut List) {
     let event = table.events[number as usize - 1];
     let known = Hypotheses::new(table, number);
     wd_of_guards(table, number, &known, list);
@@ -166,16 +219,18 @@ fn sequents_of_event(table: &Table, number: i32, list: &mut Vec<Sequent>) {
     }
 }
 
-fn wd_of_guards(table: &Table, event: i32, known: &Hypotheses, list: &mut Vec<Sequent>) {
+fn wd_of_guards(table: &Table, event: i32, known: &Hypotheses, list: &mut List) {
     let mut hypotheses = known.base.clone();
     for guard in table.guards(event) {
-        list.push(Sequent {
-            kind: WD,
-            event,
-            item: guard.root,
-            hypotheses: hypotheses.clone(),
-            goal: entry(3, guard.root, 0),
-        });
+        if list.has_wd(guard.root) {
+            list.push(Sequent {
+                kind: WD,
+                event,
+                item: guard.root,
+                hypotheses: hypotheses.clone(),
+                goal: entry(3, guard.root, 0),
+            });
+        }
         hypotheses.push(as_written(guard));
     }
 }
@@ -190,19 +245,21 @@ fn actions(table: &Table, event: i32) -> Vec<Formula> {
         .collect()
 }
 
-fn wd_of_actions(table: &Table, event: i32, known: &Hypotheses, list: &mut Vec<Sequent>) {
+fn wd_of_actions(table: &Table, event: i32, known: &Hypotheses, list: &mut List) {
     for action in actions(table, event) {
-        list.push(Sequent {
-            kind: WD,
-            event,
-            item: action.root,
-            hypotheses: known.base_and_guards(),
-            goal: entry(3, action.root, 0),
-        });
+        if list.has_wd(action.root) {
+            list.push(Sequent {
+                kind: WD,
+                event,
+                item: action.root,
+                hypotheses: known.base_and_guards(),
+                goal: entry(3, action.root, 0),
+            });
+        }
     }
 }
 
-fn fis(table: &Table, event: i32, known: &Hypotheses, list: &mut Vec<Sequent>) {
+fn fis(table: &Table, event: i32, known: &Hypotheses, list: &mut List) {
     for action in actions(table, event) {
         if action.tag == BECOMES_SUCH_THAT {
             list.push(Sequent {
@@ -216,12 +273,7 @@ fn fis(table: &Table, event: i32, known: &Hypotheses, list: &mut Vec<Sequent>) {
     }
 }
 
-fn wd_and_wfis_of_witnesses(
-    table: &Table,
-    event: i32,
-    known: &Hypotheses,
-    list: &mut Vec<Sequent>,
-) {
+fn wd_and_wfis_of_witnesses(table: &Table, event: i32, known: &Hypotheses, list: &mut List) {
     for witness in table.witnesses(event) {
         let target = table.identifiers[witness.identifier as usize - 1];
         let hypotheses = if target.is_variable() {
@@ -229,13 +281,15 @@ fn wd_and_wfis_of_witnesses(
         } else {
             known.base_and_guards()
         };
-        list.push(Sequent {
-            kind: WD,
-            event,
-            item: witness.root,
-            hypotheses: hypotheses.clone(),
-            goal: entry(3, witness.root, 0),
-        });
+        if list.has_wd(witness.root) {
+            list.push(Sequent {
+                kind: WD,
+                event,
+                item: witness.root,
+                hypotheses: hypotheses.clone(),
+                goal: entry(3, witness.root, 0),
+            });
+        }
         list.push(Sequent {
             kind: WFIS,
             event,
@@ -247,7 +301,7 @@ fn wd_and_wfis_of_witnesses(
 }
 
 /// Each guard of the refined event. An initialisation refines 0, which has no guards.
-fn grd(table: &Table, event: i32, known: &Hypotheses, list: &mut Vec<Sequent>) {
+fn grd(table: &Table, event: i32, known: &Hypotheses, list: &mut List) {
     let refined = table.events[event as usize - 1].refined;
     for guard in table.guards(refined) {
         list.push(Sequent {
@@ -261,7 +315,7 @@ fn grd(table: &Table, event: i32, known: &Hypotheses, list: &mut Vec<Sequent>) {
 }
 
 /// Each variable of the abstract machine, against the refined event or the abstract initialisation.
-fn sim(table: &Table, number: i32, known: &Hypotheses, list: &mut Vec<Sequent>) {
+fn sim(table: &Table, number: i32, known: &Hypotheses, list: &mut List) {
     let event = table.events[number as usize - 1];
     let matched = if event.class == INITIALISATION {
         initialisation(table, ABSTRACT).unwrap_or(0)
@@ -280,7 +334,7 @@ fn sim(table: &Table, number: i32, known: &Hypotheses, list: &mut Vec<Sequent>) 
 }
 
 /// Each shared variable at an event that no abstract step matches: it keeps its value.
-fn sim_of_shared(table: &Table, event: i32, known: &Hypotheses, list: &mut Vec<Sequent>) {
+fn sim_of_shared(table: &Table, event: i32, known: &Hypotheses, list: &mut List) {
     for variable in table.of_kind(|kind| kind == SHARED_VARIABLE) {
         list.push(Sequent {
             kind: SIM,
@@ -293,7 +347,7 @@ fn sim_of_shared(table: &Table, event: i32, known: &Hypotheses, list: &mut Vec<S
 }
 
 /// Each invariant of the event's own machine. Shared variables stand among the moves already.
-fn inv(table: &Table, number: i32, known: &Hypotheses, list: &mut Vec<Sequent>) {
+fn inv(table: &Table, number: i32, known: &Hypotheses, list: &mut List) {
     let event = table.events[number as usize - 1];
     let last = if is_new(event.class) {
         moves(number, table.of_kind(|kind| kind == ABSTRACT_VARIABLE))
@@ -306,17 +360,19 @@ fn inv(table: &Table, number: i32, known: &Hypotheses, list: &mut Vec<Sequent>) 
         CONCRETE_INVARIANT
     };
     for invariant in table.tagged(tag) {
-        list.push(Sequent {
-            kind: INV,
-            event: number,
-            item: invariant.root,
-            hypotheses: [known.and_moves(), last.clone()].concat(),
-            goal: entry(2, invariant.root, 0),
-        });
+        if list.has_inv(event, number, invariant.root) {
+            list.push(Sequent {
+                kind: INV,
+                event: number,
+                item: invariant.root,
+                hypotheses: [known.and_moves(), last.clone()].concat(),
+                goal: entry(2, invariant.root, 0),
+            });
+        }
     }
 }
 
-fn nat(table: &Table, event: i32, known: &Hypotheses, list: &mut Vec<Sequent>) {
+fn nat(table: &Table, event: i32, known: &Hypotheses, list: &mut List) {
     for variant in table.tagged(VARIANT) {
         list.push(Sequent {
             kind: NAT,
@@ -329,7 +385,7 @@ fn nat(table: &Table, event: i32, known: &Hypotheses, list: &mut Vec<Sequent>) {
 }
 
 /// A convergent event lowers the variant, an anticipated one doesn't raise it. Without a variant there is none.
-fn var(table: &Table, event: i32, known: &Hypotheses, list: &mut Vec<Sequent>) {
+fn var(table: &Table, event: i32, known: &Hypotheses, list: &mut List) {
     let converges = table.events[event as usize - 1].class == CONVERGENT;
     let form = if converges { 8 } else { 9 };
     for variant in table.tagged(VARIANT) {

@@ -2,39 +2,82 @@
 
 use crate::checks::{accept, Refusal, ENTRY, ROOM, SEQUENT};
 use crate::formula::Symbol;
+use crate::mentioned::{counted, Mentioned};
+use crate::plain;
 use crate::rows::{bytes_of, Row, ROW_BYTES};
-use crate::sequents::{sequents, spell_out, Sequent};
+use crate::sequents::{list, spell_out, Sequent};
 use crate::table::Table;
 
-/// A table read once, for any number of calls: the table and its sequents, or its refusal.
+/// A table read once, for any number of calls: what was accepted, or its refusal.
 pub struct Answers {
-    accepted: Result<(Table, Vec<Sequent>), Refusal>,
+    accepted: Result<Accepted, Refusal>,
+}
+
+/// A table and its sequents.
+struct Accepted {
+    table: Table,
+    list: Vec<Sequent>,
+    counting: Counting,
+}
+
+/// How row 84 is worked out: from sets of identifiers made once, or from the goal's rows 83.
+enum Counting {
+    Sets(Mentioned),
+    Spelled,
 }
 
 impl Answers {
     pub fn of(table: &[u8]) -> Answers {
         let accepted = accept(table).map(|table| {
-            let list = sequents(&table);
-            (table, list)
+            let mentioned = Mentioned::of(&table);
+            Accepted {
+                list: list(&table, &mentioned),
+                counting: Counting::Sets(mentioned),
+                table,
+            }
         });
         Answers { accepted }
     }
 
+    /// The same answers with the list and row 84 worked out from spelled rows, one sequent at a time.
+    pub fn plain(table: &[u8]) -> Answers {
+        let accepted = accept(table).map(|table| Accepted {
+            list: plain::sequents(&table),
+            counting: Counting::Spelled,
+            table,
+        });
+        Answers { accepted }
+    }
+
+    fn accepted(&self) -> Result<&Accepted, Refusal> {
+        self.accepted.as_ref().map_err(|&refusal| refusal)
+    }
+
     /// The count of sequents.
     pub fn check(&self) -> Result<usize, Refusal> {
-        let (_, list) = self.accepted.as_ref().map_err(|&refusal| refusal)?;
-        Ok(list.len())
+        Ok(self.accepted()?.list.len())
     }
 
     /// The rows of sequent k (from 1).
     pub fn sequent(&self, k: usize) -> Result<Vec<Row>, Refusal> {
-        let (_, list) = self.accepted.as_ref().map_err(|&refusal| refusal)?;
-        Ok(sequent_rows(numbered(list, k, SEQUENT)?))
+        let accepted = self.accepted()?;
+        let sequent = numbered(&accepted.list, k, SEQUENT)?;
+        let identifiers = match &accepted.counting {
+            Counting::Sets(mentioned) => counted(mentioned.in_entry(sequent.goal)),
+            Counting::Spelled => plain::counted(&accepted.table, sequent.goal),
+        };
+        Ok(sequent_rows(sequent, identifiers))
+    }
+
+    /// How many entries sequent k (from 1) has.
+    pub fn entries(&self, k: usize) -> Result<usize, Refusal> {
+        let sequent = numbered(&self.accepted()?.list, k, SEQUENT)?;
+        Ok(sequent.hypotheses.len() + 1)
     }
 
     /// The rows of entry j (from 1, the goal last) of sequent k.
     pub fn entry(&self, k: usize, j: usize) -> Result<Vec<Row>, Refusal> {
-        let (table, list) = self.accepted.as_ref().map_err(|&refusal| refusal)?;
+        let Accepted { table, list, .. } = self.accepted()?;
         let entries = numbered(list, k, SEQUENT)?.entries();
         let entry = numbered(&entries, j, ENTRY)?;
         let row = |symbol: Symbol| Row::new(83, symbol.operator, symbol.b, 0);
@@ -61,7 +104,12 @@ pub fn spell_entry(table: &[u8], k: usize, j: usize, out: &mut [u8]) -> Result<u
 pub fn print(table: &[u8]) -> Vec<u8> {
     match accept(table) {
         Ok(table) => {
-            let rows: Vec<Row> = sequents(&table).iter().flat_map(sequent_rows).collect();
+            let mentioned = Mentioned::of(&table);
+            let mut rows = Vec::new();
+            for sequent in list(&table, &mentioned) {
+                let identifiers = counted(mentioned.in_entry(sequent.goal));
+                rows.extend(sequent_rows(&sequent, identifiers));
+            }
             bytes_of(&rows)
         }
         Err(refusal) => bytes_of(&[refusal_row(refusal)]),
@@ -73,9 +121,14 @@ pub fn refusal_row(refusal: Refusal) -> Row {
     Row::new(89, refusal.number, refusal.row as i32, 0)
 }
 
-/// Row 80 (kind, event or 0, item), rows 81 (hypotheses), row 82 (goal).
-pub fn sequent_rows(sequent: &Sequent) -> Vec<Row> {
-    let mut rows = vec![Row::new(80, sequent.kind, sequent.event, sequent.item)];
+/// Row 80 (kind, event or 0, item), row 84 (how many identifiers the goal spelled out mentions, the lowest, the highest),
+/// rows 81 (hypotheses), row 82 (goal).
+pub fn sequent_rows(sequent: &Sequent, identifiers: [i32; 3]) -> Vec<Row> {
+    let [count, lowest, highest] = identifiers;
+    let mut rows = vec![
+        Row::new(80, sequent.kind, sequent.event, sequent.item),
+        Row::new(84, count, lowest, highest),
+    ];
     for entry in &sequent.hypotheses {
         rows.push(Row::new(81, entry.form, entry.first, entry.second));
     }

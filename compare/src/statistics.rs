@@ -1,14 +1,16 @@
 //! What the tables of many seeds contain and how they are answered.
 
 pub mod anticipated;
+pub mod left_out;
 pub mod shapes;
 pub mod shared;
 
 use crate::checks::{accept, Refusal};
 use crate::generate::sections::COMBINATIONS;
 use crate::generate::{case, Case};
+use crate::plain;
 use crate::rows::ROW_BYTES;
-use crate::sequents::{sequents, spell_out, Sequent, SIM};
+use crate::sequents::{sequents, spell_out, whole_list, Sequent, SIM};
 use crate::services::{check, print, spell_entry, write_sequent};
 use crate::table::Table;
 use shapes::{empty_sections, shapes};
@@ -24,6 +26,8 @@ pub struct Statistics {
     pub accepted: usize,
     pub refusals: Counts,
     pub kinds: Counts,
+    /// Sequents that request 4 leaves out.
+    pub left_out: Counts,
     pub hypothesis_forms: Counts,
     pub goal_forms: Counts,
     /// SIM of shared variables, by the class of its event.
@@ -31,6 +35,8 @@ pub struct Statistics {
     pub operators: Counts,
     /// Tables by words for where their rows stand and how near a refusal they are.
     pub shapes: BTreeMap<String, usize>,
+    /// Sequents by words for what their goals mention.
+    pub goals: BTreeMap<&'static str, usize>,
     /// Combinations of empty sections in accepted tables.
     pub empty: BTreeSet<Vec<i32>>,
     pub most_sequents: usize,
@@ -69,6 +75,11 @@ impl Statistics {
 
     fn add_table(&mut self, table: &Table) {
         let list = sequents(table);
+        for sequent in whole_list(table) {
+            if plain::is_left_out(table, &sequent) {
+                count(&mut self.left_out, sequent.kind);
+            }
+        }
         self.most_rows = self.most_rows.max(table.rows.len());
         self.most_sequents = self.most_sequents.max(list.len());
         for sequent in &list {
@@ -77,7 +88,7 @@ impl Statistics {
                 let event = table.events[sequent.event as usize - 1];
                 count(&mut self.shared_sim, event.class);
             }
-            self.longest_sequent = self.longest_sequent.max(sequent.hypotheses.len() + 2);
+            self.longest_sequent = self.longest_sequent.max(sequent.rows());
             for entry in &sequent.hypotheses {
                 count(&mut self.hypothesis_forms, entry.form);
             }
@@ -89,6 +100,9 @@ impl Statistics {
         count(&mut self.goal_forms, sequent.goal.form);
         let spelled = spell_out(table, sequent.goal);
         self.longest_entry = self.longest_entry.max(spelled.len());
+        for word in left_out::goals(table, sequent, &spelled) {
+            *self.goals.entry(word).or_default() += 1;
+        }
         for symbol in spelled {
             count(&mut self.operators, symbol.operator);
         }
@@ -100,6 +114,7 @@ impl Statistics {
         let lists = [
             ("refusal (cases)", &self.refusals),
             ("kind (sequents)", &self.kinds),
+            ("kind (sequents left out)", &self.left_out),
             ("form (hypotheses)", &self.hypothesis_forms),
             ("form (goals)", &self.goal_forms),
             ("class (SIM of shared variables)", &self.shared_sim),
@@ -114,6 +129,9 @@ impl Statistics {
         }
         for (word, count) in &self.shapes {
             text += &format!("{word}: {count}\n");
+        }
+        for (word, count) in &self.goals {
+            text += &format!("goal with {word}: {count}\n");
         }
         let empty = self.empty.len();
         text += &format!("combinations of empty sections {empty} of {COMBINATIONS}\n");

@@ -43,41 +43,24 @@ const MIXED: &str = "
 
 /// B stands for the base of events 3 to 5, G for that with the guards of event 5, M for the initialisation's moves.
 const WANTED: &str = "
-    80 1 0 3; 82 3 3 0
-    80 1 0 6; 81 1 3 0; 82 3 6 0
-    80 1 0 11; 81 1 3 0; 81 1 6 0; 82 3 11 0
-    80 1 0 28; B; 82 3 28 0
+    80 2 1 6; 84 2 1 2; 81 1 3 0; 81 4 1 2; 81 4 1 4; 82 2 6 0
 
-    80 1 1 29; 81 1 3 0; 82 3 29 0
-    80 1 1 30; 81 1 3 0; 82 3 30 0
-    80 2 1 6; 81 1 3 0; 81 4 1 2; 81 4 1 4; 82 2 6 0
+    80 6 2 2; 84 2 2 3; 81 1 3 0; M; 82 6 2 2
+    80 6 2 4; 84 1 4 4; 81 1 3 0; M; 82 6 2 4
+    80 5 2 2; 84 1 2 2; 81 1 3 0; M; 81 1 35 0; 81 1 36 0; 82 4 1 2
+    80 5 2 4; 84 1 4 4; 81 1 3 0; M; 81 1 35 0; 81 1 36 0; 82 4 1 4
+    80 2 2 11; 84 3 2 5; 81 1 3 0; M; 81 1 35 0; 81 1 36 0; 82 2 11 0
 
-    80 1 2 31; 81 1 3 0; 82 3 31 0
-    80 1 2 32; 81 1 3 0; 82 3 32 0
-    80 1 2 35; 81 1 3 0; M; 82 3 35 0
-    80 6 2 2; 81 1 3 0; M; 82 6 2 2
-    80 1 2 36; 81 1 3 0; M; 82 3 36 0
-    80 6 2 4; 81 1 3 0; M; 82 6 2 4
-    80 5 2 2; 81 1 3 0; M; 81 1 35 0; 81 1 36 0; 82 4 1 2
-    80 5 2 4; 81 1 3 0; M; 81 1 35 0; 81 1 36 0; 82 4 1 4
-    80 2 2 11; 81 1 3 0; M; 81 1 35 0; 81 1 36 0; 82 2 11 0
+    80 8 3 28; 84 2 1 5; B; 81 4 3 3; 81 4 3 5; 82 9 28 0
 
-    80 2 3 11; B; 81 4 3 3; 81 4 3 5; 81 4 3 2; 81 4 3 4; 82 2 11 0
-    80 8 3 28; B; 81 4 3 3; 81 4 3 5; 82 9 28 0
+    80 2 4 11; 84 3 2 5; B; 81 1 37 0; 81 4 4 3; 81 4 4 5; 81 4 4 2; 81 4 4 4; 82 2 11 0
+    80 7 4 28; 84 2 1 5; B; 81 1 37 0; 82 7 28 0
+    80 8 4 28; 84 2 1 5; B; 81 1 37 0; 81 4 4 3; 81 4 4 5; 82 8 28 0
 
-    80 1 4 37; B; 82 3 37 0
-    80 1 4 38; B; 81 1 37 0; 82 3 38 0
-    80 2 4 11; B; 81 1 37 0; 81 4 4 3; 81 4 4 5; 81 4 4 2; 81 4 4 4; 82 2 11 0
-    80 7 4 28; B; 81 1 37 0; 82 7 28 0
-    80 8 4 28; B; 81 1 37 0; 81 4 4 3; 81 4 4 5; 82 8 28 0
-
-    80 1 5 14; B; 82 3 14 0
-    80 1 5 19; B; 81 1 14 0; 82 3 19 0
-    80 1 5 22; G; 82 3 22 0
-    80 1 5 25; G; 82 3 25 0
-    80 3 5 5; G; 82 5 5 5
-    80 2 5 11; G; 81 4 5 3; 81 4 5 5; 81 4 5 2; 81 4 5 4; 82 2 11 0
-    80 8 5 28; G; 81 4 5 3; 81 4 5 5; 82 9 28 0
+    80 1 5 19; 84 1 1 1; B; 81 1 14 0; 82 3 19 0
+    80 3 5 5; 84 1 5 5; G; 82 5 5 5
+    80 2 5 11; 84 3 2 5; G; 81 4 5 3; 81 4 5 5; 81 4 5 2; 81 4 5 4; 82 2 11 0
+    80 8 5 28; 84 2 1 5; G; 81 4 5 3; 81 4 5 5; 82 9 28 0
 ";
 
 fn wanted() -> Vec<Row> {
@@ -91,16 +74,16 @@ fn wanted() -> Vec<Row> {
 #[test]
 fn mixed_table_prints() {
     assert_eq!(print(&table(MIXED)), bytes_of(&wanted()));
-    assert_eq!(check(&table(MIXED)), Ok(30));
+    assert_eq!(check(&table(MIXED)), Ok(14));
 }
 
-/// The convergent event becomes anticipated: its NAT goes, its VAR has form 9, and WD of the variant stays.
+/// The convergent event becomes anticipated: its NAT goes, and its VAR has form 9.
 #[test]
 fn anticipated_events_alone_keep_the_variant() {
     let mut rows = wanted();
     let nat = rows.iter().position(|row| row.tag == 80 && row.a == 7);
     let nat = nat.expect("the convergent event's");
-    rows.drain(nat..nat + 6);
+    rows.drain(nat..nat + 7);
     let lowers = rows.iter_mut().find(|row| row.tag == 82 && row.a == 8);
     lowers.expect("the convergent event's").a = 9;
     assert_eq!(print(&changed(MIXED, 51, [40, 2, 3, 0])), bytes_of(&rows));
@@ -110,23 +93,36 @@ fn anticipated_events_alone_keep_the_variant() {
 #[test]
 fn var_is_made_only_with_a_variant() {
     let with = "10 3 1 0; 20 1 0 0; 20 2 1 0; 40 1 0 0; 40 2 0 0; 40 2 3 0; 51 2 1 1; 70 2 0 0";
-    let wanted = "80 1 0 2; 82 3 2 0; 80 1 2 1; 82 3 1 0; 80 8 3 2; 81 4 3 1; 82 9 2 0";
+    let wanted = "80 8 3 2; 84 1 1 1; 81 4 3 1; 82 9 2 0";
     assert_eq!(print(&table(with)), table(wanted));
     let without = "10 3 1 0; 20 1 0 0; 40 1 0 0; 40 2 0 0; 40 2 3 0; 51 2 1 1";
-    assert_eq!(print(&table(without)), table("80 1 2 1; 82 3 1 0"));
+    assert_eq!(print(&table(without)), b"");
+}
+
+/// WD of a variant that divides is made with its row, also with an anticipated event alone.
+#[test]
+fn wd_of_the_variant_needs_no_convergent_event() {
+    let text = "10 3 1 0; 20 1 0 0; 20 1 7 0; 20 2 1 0; 20 13 2 3;
+        40 1 0 0; 40 2 0 0; 40 2 3 0; 51 2 1 1; 70 4 0 0";
+    let wanted = "80 1 0 4; 84 1 1 1; 82 3 4 0; 80 8 3 4; 84 1 1 1; 81 4 3 1; 82 9 4 0";
+    assert_eq!(print(&table(text)), table(wanted));
 }
 
 /// Without a variant all but VAR is made: WD, FIS and INV under the abstract variable's "after equals before".
+/// The invariant is v = v ÷ v (node 8), the guard 1 mod v < 0 (13), the action v' ≤ v ÷ v (18), the witness ⊤ (3).
 #[test]
 fn other_sequents_need_no_variant() {
-    let text = "10 2 1 0; 10 3 1 0; 20 1 0 0; 20 1 0 0; 20 30 0 0; 20 30 0 0; 20 30 0 0; 20 30 0 0;
-        32 4 0 0; 40 1 0 0; 40 2 0 0; 40 2 3 0; 50 3 5 0; 51 1 1 1; 51 2 2 2; 52 3 2 6; 60 2 1 3";
-    let wanted = "80 1 0 4; 82 3 4 0; 80 1 1 1; 82 3 1 0;
-        80 1 2 2; 82 3 2 0; 80 1 2 3; 81 4 2 2; 82 3 3 0; 80 6 2 1; 81 4 2 2; 82 6 2 1;
-        80 5 2 1; 81 4 2 2; 81 1 3 0; 82 4 1 1; 80 2 2 4; 81 4 2 2; 81 1 3 0; 82 2 4 0;
-        80 1 3 5; 81 1 4 0; 82 3 5 0; 80 1 3 6; 81 1 4 0; 81 1 5 0; 82 3 6 0;
-        80 3 3 2; 81 1 4 0; 81 1 5 0; 82 5 3 2;
-        80 2 3 4; 81 1 4 0; 81 1 5 0; 81 4 3 2; 81 4 3 1; 82 2 4 0";
+    let text = "10 2 1 0; 10 3 1 0; 20 1 0 0; 20 1 0 0; 20 30 0 0;
+        20 2 2 0; 20 2 2 0; 20 2 2 0; 20 13 5 6; 20 20 4 7;
+        20 1 1 0; 20 2 2 0; 20 14 9 10; 20 1 0 0; 20 21 11 12;
+        20 3 2 0; 20 2 2 0; 20 2 2 0; 20 13 15 16; 20 22 14 17;
+        32 8 0 0; 40 1 0 0; 40 2 0 0; 40 2 3 0; 50 3 13 0; 51 1 1 1; 51 2 2 2; 52 3 2 18; 60 2 1 3";
+    let wanted = "80 1 0 8; 84 1 2 2; 82 3 8 0;
+        80 6 2 1; 84 1 1 1; 81 4 2 2; 82 6 2 1; 80 5 2 1; 84 1 1 1; 81 4 2 2; 81 1 3 0; 82 4 1 1;
+        80 2 2 8; 84 1 2 2; 81 4 2 2; 81 1 3 0; 82 2 8 0;
+        80 1 3 13; 84 1 2 2; 81 1 8 0; 82 3 13 0; 80 1 3 18; 84 1 2 2; 81 1 8 0; 81 1 13 0; 82 3 18 0;
+        80 3 3 2; 84 1 2 2; 81 1 8 0; 81 1 13 0; 82 5 3 2;
+        80 2 3 8; 84 1 2 2; 81 1 8 0; 81 1 13 0; 81 4 3 2; 81 4 3 1; 82 2 8 0";
     assert_eq!(print(&table(text)), table(wanted));
 }
 
@@ -135,15 +131,15 @@ fn other_sequents_need_no_variant() {
 fn form_9_is_spelled() {
     let answers = Answers::of(&table(MIXED));
     let goal = "83 22 0 0; 83 10 0 0; 83 3 5 0; 83 2 1 0; 83 10 0 0; 83 2 5 0; 83 2 1 0";
-    assert_eq!(answers.entry(30, 8), Ok(rows(goal)));
-    assert_eq!(answers.entry(30, 9), Err(refusal(14, 0)));
+    assert_eq!(answers.entry(14, 8), Ok(rows(goal)));
+    assert_eq!(answers.entry(14, 9), Err(refusal(14, 0)));
     // The abstract variables of its INV keep their values.
     assert_eq!(
-        answers.entry(29, 8),
+        answers.entry(13, 8),
         Ok(rows("83 20 0 0; 83 3 2 0; 83 2 2 0"))
     );
     assert_eq!(
-        answers.entry(29, 9),
+        answers.entry(13, 9),
         Ok(rows("83 20 0 0; 83 3 4 0; 83 2 4 0"))
     );
 }
@@ -174,7 +170,7 @@ fn event() {
         check(&changed(RICH, 59, [40, 1, 3, 0])),
         Err(refusal(5, 59))
     );
-    assert_eq!(check(&changed(RICH, 62, [40, 2, 3, 0])), Ok(36));
+    assert_eq!(check(&changed(RICH, 62, [40, 2, 3, 0])), Ok(19));
 }
 
 /// Refusal 6: it owns concrete parameters only.
@@ -204,7 +200,7 @@ fn reference() {
         check(&changed(MIXED, 55, [50, 3, 19, 0])),
         Err(refusal(10, 55))
     );
-    assert_eq!(check(&changed(MIXED, 54, [50, 3, 37, 0])), Ok(30));
+    assert_eq!(check(&changed(MIXED, 54, [50, 3, 37, 0])), Ok(14));
 }
 
 /// Refusals 10 and 11 hold as for other concrete events.
@@ -242,14 +238,14 @@ fn missing() {
 fn nothing_is_missing() {
     let accepted = [
         ("40 1 0 0; 40 2 0 0; 40 2 3 0", 0),
-        ("20 1 0 0; 40 1 0 0; 40 2 0 0; 40 2 3 0; 70 1 0 0", 2),
+        ("20 1 0 0; 40 1 0 0; 40 2 0 0; 40 2 3 0; 70 1 0 0", 1),
         (
             "20 1 0 0; 40 1 0 0; 40 2 0 0; 40 2 3 0; 40 2 2 0; 70 1 0 0",
-            4,
+            3,
         ),
         (
             "20 1 0 0; 40 1 0 0; 40 2 0 0; 40 2 2 0; 40 2 3 0; 70 1 0 0",
-            4,
+            3,
         ),
     ];
     for (text, count) in accepted {

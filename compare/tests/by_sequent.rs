@@ -112,9 +112,9 @@ fn an_end_is_found() {
     let printed = print(&table);
     let size = printed.len();
     assert_eq!(place(held(&table, b"")), (1, 1));
-    assert_eq!(place(held(&table, &printed[..size - 1])), (size, 5));
+    assert_eq!(place(held(&table, &printed[..size - 1])), (size, 2));
     let more = [&printed[..], b"\n"].concat();
-    assert_eq!(place(held(&table, &more)), (size + 1, 6));
+    assert_eq!(place(held(&table, &more)), (size + 1, 3));
 }
 
 /// A refused table has one row 89: neither none, nor another, nor one more.
@@ -138,15 +138,15 @@ fn with(fault: Fault) -> Held {
 #[test]
 fn a_fault_of_the_services_is_found() {
     let byte = with(|call, _, out| {
-        if matches!(call, Call::Write { k: 3, .. }) {
+        if matches!(call, Call::Write { k: 2, .. }) {
             out[40] = b'x';
         }
     });
-    assert_eq!(place(byte), (4 * ROW_BYTES + 41, 3));
+    assert_eq!(place(byte), (4 * ROW_BYTES + 41, 2));
     let low = with(|call, reply, _| reply.value -= u64::from(call == Call::Check));
-    assert_eq!(place(low).1, 5);
+    assert_eq!(place(low).1, 2);
     let high = with(|call, reply, _| reply.value += u64::from(call == Call::Check));
-    assert_eq!(place(high).1, 6);
+    assert_eq!(place(high).1, 3);
     let room = with(|call, reply, _| {
         if matches!(call, Call::Write { k: 2, .. }) {
             *reply = Reply {
@@ -156,8 +156,8 @@ fn a_fault_of_the_services_is_found() {
         }
     });
     let difference = room.difference.expect("a difference");
-    assert!(matches!(difference.fault, Found::Reply { room: 76, .. }));
-    assert_eq!((difference.byte, difference.sequent), (77, 2));
+    assert!(matches!(difference.fault, Found::Reply { room: 190, .. }));
+    assert_eq!((difference.byte, difference.sequent), (153, 2));
 }
 
 /// A byte in a sequent that isn't chosen stays unseen, but an end doesn't.
@@ -166,25 +166,25 @@ fn chosen_sequents_stand_in_their_places() {
     let table = table(L);
     let mut printed = print(&table);
     printed[0] = b'x';
-    let chosen = |printed: &[u8]| hold_chosen(&NO_FAULT, &table, printed, |k| k == 4);
+    let chosen = |printed: &[u8]| hold_chosen(&NO_FAULT, &table, printed, |k| k == 2);
     assert_eq!(chosen(&printed).difference, None);
     printed.push(b'x');
-    assert_eq!(place(chosen(&printed)).1, 6);
-    printed[ends(&table)[3] - 2] = b'x';
-    assert_eq!(place(chosen(&printed)).1, 4);
+    assert_eq!(place(chosen(&printed)).1, 3);
+    printed[ends(&table)[1] - 2] = b'x';
+    assert_eq!(place(chosen(&printed)).1, 2);
 }
 
 #[test]
 fn lines_say_what_differs() {
     let table = table(L);
     let mut printed = print(&table);
-    assert_eq!(held(&table, &printed).report(), "count 5, 532 bytes, same");
+    assert_eq!(held(&table, &printed).report(), "count 2, 342 bytes, same");
     printed[37] = b'x';
     assert_eq!(
         held(&table, &printed).report(),
-        "count 5, 532 bytes, DIFFERENCE at byte 38 (row 1), sequent 1\n\
-         by sequent \"  80          1          1          1\\n\"\n\
-         printed    \"  80          1          1          1x\""
+        "count 2, 342 bytes, DIFFERENCE at byte 38 (row 1), sequent 1\n\
+         by sequent \"  80          6          2          1\\n\"\n\
+         printed    \"  80          6          2          1x\""
     );
 }
 
@@ -227,7 +227,7 @@ fn the_command_fails() {
     remove_file(&script).expect("the script is there");
     assert_eq!(output.status.code(), Some(1));
     let lines = String::from_utf8_lossy(&output.stdout);
-    let start = "../models/L.txt: count 5, 532 bytes, DIFFERENCE at byte 1 (row 1), sequent 1";
+    let start = "../models/L.txt: count 2, 342 bytes, DIFFERENCE at byte 1 (row 1), sequent 1";
     assert!(lines.starts_with(start), "{lines}");
     // and a line for each timed table
     let timed = compare::bench::tables().len();

@@ -8,11 +8,12 @@ use compare::generate::random::Random;
 use compare::generate::sections::{COMBINATIONS, TAGS};
 use compare::generate::{accepted_draft, case, ROUND};
 use compare::rows::{bytes_of, ROW_BYTES};
-use compare::sequents::{sequents, spell_out, Entry};
+use compare::sequents::{sequents, spell_out, Entry, INV, WD};
 use compare::services::{check, print, spell_entry, write_sequent};
 use compare::statistics::{refusals_of, Statistics};
 use compare::table::{Table, INTEGER};
 use std::collections::BTreeSet;
+use std::sync::OnceLock;
 
 #[test]
 fn cases_are_the_same_each_time() {
@@ -46,10 +47,16 @@ fn all_kinds_forms_and_operators_occur() {
     }
 }
 
+/// The statistics of many seeds, made once.
+fn of_many() -> &'static Statistics {
+    static MANY: OnceLock<Statistics> = OnceLock::new();
+    MANY.get_or_init(|| Statistics::of(0, 6000))
+}
+
 /// Rows stand in every way that matters to a program that goes by sections, and tables are near the refusals.
 #[test]
 fn shapes_occur_in_numbers() {
-    let statistics = Statistics::of(0, 3000);
+    let statistics = of_many();
     assert!(3 * statistics.accepted >= statistics.cases);
     assert!(3 * statistics.empty.len() >= 2 * COMBINATIONS);
     let count = |word: &str| statistics.shapes.get(word).copied().unwrap_or(0);
@@ -77,6 +84,113 @@ fn shapes_occur_in_numbers() {
         assert!(count(word) >= *least, "{word}: {}", count(word));
     }
 }
+
+/// Tables have ÷ and mod in every place, and invariants and goals of every sort that request 4 tells apart.
+#[test]
+fn what_is_left_out_occurs_in_numbers() {
+    let statistics = of_many();
+    let asked = |word: String, least: usize| {
+        let found = statistics.shapes.get(&format!("accepted, {word}"));
+        let found = found.copied().unwrap_or(0);
+        assert!(found >= least, "{word}: {found}");
+    };
+    for place in ["30", "31", "32", "70"].iter().chain(OF_EVENTS) {
+        asked(format!("no division in {place}"), 200);
+        asked(format!("÷ alone in {place}"), 30);
+        asked(format!("mod alone in {place}"), 30);
+        asked(format!("÷ and mod in {place}"), 5);
+        if *place != "70" {
+            asked(format!("division under bool alone in {place}"), 20);
+            asked(format!("division never read in {place}"), 6);
+        }
+    }
+    for group in ["guards", "actions", "witnesses", "axioms and invariants"] {
+        asked(
+            format!("division in some {group} of one event, not in others"),
+            150,
+        );
+    }
+    for (place, words) in INV_PLACES {
+        for word in words.iter() {
+            asked(format!("INV at {place}: {word}"), 8);
+        }
+    }
+    for (word, least) in GOALS {
+        let found = statistics.goals.get(word).copied().unwrap_or(0);
+        assert!(found >= *least, "{word}: {found}");
+    }
+    for kind in [WD, INV] {
+        assert!(statistics.kinds[&kind] > 2000, "{kind}");
+        assert!(statistics.left_out[&kind] > 2000, "{kind}");
+    }
+    assert_eq!(statistics.left_out.len(), 2);
+}
+
+/// Places of formulas of events.
+const OF_EVENTS: &[&str] = &[
+    "abstract 50",
+    "concrete 50",
+    "abstract 51",
+    "abstract 51, initial",
+    "concrete 51",
+    "concrete 51, initial",
+    "abstract 52",
+    "abstract 52, initial",
+    "concrete 52",
+    "concrete 52, initial",
+    "parameter witness",
+    "variable witness",
+    "variable witness, initial",
+];
+
+/// What invariants mention, by the event of INV. Initialisations set all that is their machine's.
+const INV_PLACES: [(&str, &[&str]); 6] = [
+    (
+        "the abstract initialisation",
+        &[
+            "no variable",
+            "a variable that is set",
+            "shared variables alone",
+        ],
+    ),
+    (
+        "the concrete initialisation",
+        &[
+            "no variable",
+            "a variable that is set",
+            "no variable that is set",
+            "one that is set, one that isn't",
+            "shared variables alone",
+            "abstract variables alone",
+        ],
+    ),
+    ("an abstract event", OTHERS),
+    ("a refining event", OTHERS),
+    ("a convergent event", OTHERS),
+    ("an anticipated event", OTHERS),
+];
+
+const OTHERS: &[&str] = &[
+    "no variable",
+    "a variable that is set",
+    "no variable that is set",
+    "variables, and no action at all",
+    "one that is set, one that isn't",
+    "shared variables alone",
+    "abstract variables alone",
+    "set by x := x alone",
+];
+
+/// Goals by what they mention, and how many there must be.
+const GOALS: &[(&str, usize)] = &[
+    ("no identifier", 1000),
+    ("identifier 64 alone", 500),
+    ("identifiers 1 and 64", 100),
+    ("the bound identifier in 40 or 41 alone", 1000),
+    ("present and after value of one identifier", 1000),
+    ("WD with fewer identifiers than its formula", 1000),
+    ("INV of an event that may lack it", 1000),
+];
 
 /// And how many there must be.
 const SHAPES: &[(&str, usize)] = &[

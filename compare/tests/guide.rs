@@ -127,15 +127,15 @@ fn counts_are_right() {
     assert_eq!(rows(model("L")).len(), 12);
     assert_eq!(rows(model("counter")).len(), 140);
     assert_eq!(rows(model("placing_head")).len(), 114);
-    assert_eq!(Answers::of(&table(model("L"))).check(), Ok(5));
-    assert_eq!(Answers::of(&table(model("counter"))).check(), Ok(57));
-    assert_eq!(Answers::of(&table(model("placing_head"))).check(), Ok(50));
+    assert_eq!(Answers::of(&table(model("L"))).check(), Ok(2));
+    assert_eq!(Answers::of(&table(model("counter"))).check(), Ok(33));
+    assert_eq!(Answers::of(&table(model("placing_head"))).check(), Ok(24));
     // The free list's sizes after the variable is shared, by tag.
     let free_list = rows(model("free_list"));
     let tagged = |tag| free_list.iter().filter(|row| row.tag == tag).count();
     assert_eq!([10, 20, 32, 60].map(tagged), [13, 372, 14, 3]);
     assert_eq!(free_list.len(), 478);
-    assert_eq!(Answers::of(&table(model("free_list"))).check(), Ok(254));
+    assert_eq!(Answers::of(&table(model("free_list"))).check(), Ok(138));
     let printed = print(&table(model("free_list")));
-    assert_eq!(printed.len() / ROW_BYTES, 6076);
+    assert_eq!(printed.len() / ROW_BYTES, 3914);
 }

@@ -12,34 +12,36 @@ use compare::table::Table;
 
 #[test]
 fn p1_prints_table_l() {
-    let wanted = "80 1 1 1; 82 3 1 0; 80 1 2 2; 82 3 2 0; 80 1 2 5; 81 4 2 2; 82 3 5 0;
-        80 6 2 1; 81 4 2 2; 82 6 2 1; 80 5 2 1; 81 4 2 2; 81 1 5 0; 82 4 1 1";
+    let wanted = "80 6 2 1; 84 2 1 2; 81 4 2 2; 82 6 2 1;
+        80 5 2 1; 84 1 1 1; 81 4 2 2; 81 1 5 0; 82 4 1 1";
     assert_eq!(print(&table(L)), table(wanted));
     let bytes = print(&table(L));
-    assert_eq!(&bytes[..38], b"  80          1          1          1\n");
-    assert_eq!(bytes.len(), 14 * 38);
+    assert_eq!(&bytes[..38], b"  80          6          2          1\n");
+    assert_eq!(&bytes[38..76], b"  84          2          1          2\n");
+    assert_eq!(bytes.len(), 9 * 38);
 }
 
 #[test]
-fn p2_counts_five() {
-    assert_eq!(check(&table(L)), Ok(5));
+fn p2_counts_two() {
+    assert_eq!(check(&table(L)), Ok(2));
     let mut out = [0; 200];
-    assert_eq!(write_sequent(&table(L), 5, &mut out), Ok(4));
-    for k in [0, 6, usize::MAX] {
+    assert_eq!(write_sequent(&table(L), 2, &mut out), Ok(5));
+    for k in [0, 3, usize::MAX] {
         assert_eq!(write_sequent(&table(L), k, &mut out), Err(refusal(13, 0)));
         assert_eq!(spell_entry(&table(L), k, 1, &mut out), Err(refusal(13, 0)));
     }
 }
 
 #[test]
-fn p3_fits_152_bytes() {
-    let mut out = [7; 153];
-    assert_eq!(write_sequent(&table(L), 5, &mut out[..152]), Ok(4));
-    assert_eq!(out[..152], table("80 5 2 1; 81 4 2 2; 81 1 5 0; 82 4 1 1"));
-    assert_eq!(out[152], 7);
-    let mut short = [7; 151];
-    assert_eq!(write_sequent(&table(L), 5, &mut short), Err(refusal(15, 0)));
-    assert_eq!(short, [7; 151]);
+fn p3_fits_190_bytes() {
+    let mut out = [7; 191];
+    assert_eq!(write_sequent(&table(L), 2, &mut out[..190]), Ok(5));
+    let wanted = "80 5 2 1; 84 1 1 1; 81 4 2 2; 81 1 5 0; 82 4 1 1";
+    assert_eq!(out[..190], table(wanted));
+    assert_eq!(out[190], 7);
+    let mut short = [7; 189];
+    assert_eq!(write_sequent(&table(L), 2, &mut short), Err(refusal(15, 0)));
+    assert_eq!(short, [7; 189]);
 }
 
 #[test]

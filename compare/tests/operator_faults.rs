@@ -127,7 +127,7 @@ fn notices(services: &dyn Services, tables: &[Vec<u8>], operator: i32, effort: E
 /// The paper's rules written a second time spell the same; any other rule for any one operator is noticed.
 #[test]
 fn a_wrong_rule_of_well_definedness_is_noticed() {
-    let tables = nested_tables();
+    let tables = [nested_tables(), beside_division_tables()].concat();
     for bytes in &tables {
         let read = accept(bytes).expect("accepted");
         let right = Misdefined {
@@ -142,7 +142,6 @@ fn a_wrong_rule_of_well_definedness_is_noticed() {
             }
         }
     }
-    let mentions = mention_tables();
     for operator in OPERATORS {
         let others: &[Rule] = match rule(operator) {
             Rule::Leaf(_) => &[Rule::Leaf(31), Rule::Leaf(4)],
@@ -156,17 +155,12 @@ fn a_wrong_rule_of_well_definedness_is_noticed() {
                 Rule::Ordered(35),
             ],
         };
-        let shows = if operator == AFTER {
-            &mentions
-        } else {
-            &tables
-        };
         for &other in others.iter().filter(|&&other| other != rule(operator)) {
             let services = Misdefined {
                 operator,
                 rule: other,
             };
-            let noticed = notices(&services, shows, operator, Effort::Every);
+            let noticed = notices(&services, &tables, operator, Effort::Every);
             assert!(noticed, "{operator} {other:?}");
         }
     }
@@ -368,6 +362,6 @@ fn a_wrong_operator_in_an_entry_is_found() {
     let compared = compare_list(&Faulty(fault), &nested_tables(), 1);
     let found = compared.expect("no panic").1.expect("found");
     assert!(matches!(found.difference.call, Call::Spell { .. }));
-    assert!(found.table.len() <= 9 * ROW_BYTES, "{}", found.report());
+    assert!(found.table.len() <= 12 * ROW_BYTES, "{}", found.report());
     assert!(found.report().starts_with("DIFFERENCE at table "));
 }

@@ -4,7 +4,7 @@ mod common;
 
 use common::{has, table, OPERATORS};
 use compare::checks::accept;
-use compare::formula::Sort::{Boolean, Integer};
+use compare::formula::Sort::{Boolean, Integer, Predicate};
 use compare::formula::*;
 use compare::operators::coverage::{shown, Case};
 use compare::operators::wanted::{missing, wanted};
@@ -49,6 +49,12 @@ fn cases_are_counted() {
     let leaves = 17 * 3 + 2 * 4 + 10 * 2 - 2 * 2;
     let below = inner + leaves;
     assert_eq!(count(|case| matches!(case, Case::Below { .. })), below);
+    // All 22 stand in 52 and witnesses, all but 3 in the five other rows of predicates and booleans, 8 in the two of integers;
+    // without ÷ and mod two fewer in each of nine rows.
+    let defined = 2 * 22 + 5 * 21 + 2 * 8;
+    assert_eq!(count(|case| matches!(case, Case::Defined { .. })), defined);
+    let left_out = defined - 9 * 2;
+    assert_eq!(count(|case| matches!(case, Case::LeftOut { .. })), left_out);
 }
 
 #[test]
@@ -87,7 +93,7 @@ fn a_smaller_family_lacks_cases() {
 /// Nothing but what is tried is wrong, so that no other refusal hides the reply; 0 is an accepted table.
 #[test]
 fn parts_are_answered_as_they_are_meant() {
-    let meant: [&[i32]; 8] = [
+    let meant: [&[i32]; 9] = [
         &[0, 7, 8, 9, 10],
         &[0, 7, 8, 10],
         &[10],
@@ -95,6 +101,7 @@ fn parts_are_answered_as_they_are_meant() {
         &[0, 8, 10],
         &[0, 8],
         &[0, 8],
+        &[0],
         &[0],
     ];
     for (part, meant) in PARTS.iter().zip(meant) {
@@ -114,6 +121,39 @@ fn lists_are_short() {
             assert!(list.iter().all(|sequent| sequent.entries().len() <= 64));
         }
     }
+}
+
+/// Whether ÷ or mod is among the nodes below this one, by the rows alone.
+fn divides(rows: &[Row], number: i32) -> bool {
+    let mut nodes = rows.iter().filter(|row| row.tag == 20);
+    let node = nodes.nth(number as usize - 1).expect("a node");
+    match node.a {
+        13 | 14 => true,
+        6 | 15 | 32 => divides(rows, node.b),
+        10..=12 | 20..=22 | 33..=36 => divides(rows, node.b) || divides(rows, node.c),
+        _ => false,
+    }
+}
+
+/// WD of a formula is in the list just if it divides, whatever its row.
+#[test]
+fn wd_is_made_for_divisions_alone() {
+    let (mut made, mut left_out) = (0, 0);
+    for table in family() {
+        let Ok(read) = accept(&table) else {
+            continue;
+        };
+        let list = sequents(&read);
+        for formula in &read.formulas {
+            let listed = list
+                .iter()
+                .any(|one| one.kind == 1 && one.item == formula.root);
+            assert_eq!(listed, divides(&read.rows, formula.root));
+            made += usize::from(listed);
+            left_out += usize::from(!listed);
+        }
+    }
+    assert!(made > 1000 && left_out > 1000, "{made} {left_out}");
 }
 
 /// The list of operators and the checks, which were written apart, agree.
@@ -181,17 +221,17 @@ fn sorts_are_the_papers() {
     assert_eq!(answer("20 2 2 0; 20 1 7 0; 20 20 1 2"), Err((8, 7)));
     assert_eq!(answer("20 2 1 0; 20 5 0 0; 20 20 1 2"), Err((8, 7)));
     assert_eq!(answer("20 30 0 0; 20 31 0 0; 20 20 1 2"), Err((8, 7)));
-    // = of two integers and of two booleans: WD of the axiom and of two actions.
-    assert_eq!(answer("20 2 1 0; 20 1 7 0; 20 20 1 2"), Ok(3));
-    assert_eq!(answer("20 2 2 0; 20 5 0 0; 20 20 1 2"), Ok(3));
+    // = of two integers and of two booleans: nothing divides, so that no WD is made, nor any other sequent.
+    assert_eq!(answer("20 2 1 0; 20 1 7 0; 20 20 1 2"), Ok(0));
+    assert_eq!(answer("20 2 2 0; 20 5 0 0; 20 20 1 2"), Ok(0));
     // < takes no booleans, ∧ no booleans either, ¬ no integer.
     assert_eq!(answer("20 2 2 0; 20 5 0 0; 20 21 1 2"), Err((8, 7)));
     assert_eq!(answer("20 2 2 0; 20 5 0 0; 20 33 1 2"), Err((8, 7)));
     assert_eq!(answer("20 2 1 0; 20 32 1 0"), Err((8, 6)));
-    assert_eq!(answer("20 30 0 0; 20 31 0 0; 20 36 1 2"), Ok(3));
+    assert_eq!(answer("20 30 0 0; 20 31 0 0; 20 36 1 2"), Ok(0));
     // TRUE is an expression, ⊤ a predicate.
     assert_eq!(answer("20 4 0 0"), Err((8, 8)));
-    assert_eq!(answer("20 30 0 0"), Ok(3));
+    assert_eq!(answer("20 30 0 0"), Ok(0));
     // An after value in an axiom: a boolean isn't a predicate; below = it may not be mentioned.
     assert_eq!(answer("20 3 4 0"), Err((8, 8)));
     let hidden = "20 3 4 0; 20 5 0 0; 20 20 1 2";
@@ -219,6 +259,7 @@ fn rows_83(words: &str) -> Vec<Row> {
 fn assert_defined(nodes: &str, words: &str) {
     let table = axiom(nodes);
     assert!(is_member(&table), "{nodes}");
+    assert_eq!(check(&table), Ok(1), "{nodes}");
     let spelled = Answers::of(&table).entry(1, 1);
     assert_eq!(spelled.expect("accepted"), rows_83(words), "{nodes}");
 }
@@ -265,7 +306,7 @@ fn well_definedness_of_integers() {
     }
 }
 
-/// A concrete invariant that says P: WD of it, of two initial actions, and INV, whose goal has after values.
+/// A concrete invariant that says P: WD of it and INV, whose goal has after values; WD of two initial actions is left out.
 #[test]
 fn after_values_of_an_invariant() {
     let nodes =
@@ -276,10 +317,10 @@ fn after_values_of_an_invariant() {
     );
     let table = table(&text);
     assert!(is_member(&table));
-    let printed = "80 1 0 8; 82 3 8 0; 80 1 2 9; 82 3 9 0; 80 1 2 10; 82 3 10 0;
-        80 2 2 8; 81 4 2 3; 81 4 2 4; 82 2 8 0";
+    let printed = "80 1 0 8; 84 1 3 3; 82 3 8 0;
+        80 2 2 8; 84 1 3 3; 81 4 2 3; 81 4 2 4; 82 2 8 0";
     assert_eq!(print(&table), common::table(printed));
-    let goal = Answers::of(&table).entry(4, 3).expect("accepted");
+    let goal = Answers::of(&table).entry(2, 3).expect("accepted");
     assert_eq!(goal, rows_83("32 21 13 3:3 1:3 14 1:5 3:3"));
 }
 
@@ -291,9 +332,15 @@ fn shown_cases_are_read_from_tables() {
     let sorts = vec![Integer, Integer];
     let operator = EQUAL;
     assert!(cases.contains(&Case::Takes { operator, sorts }));
-    let form = 3;
-    assert!(cases.contains(&Case::Spelled { operator, form }));
+    let (form, row) = (3, (30, Predicate));
+    assert!(cases.contains(&Case::LeftOut { operator, row }));
+    assert!(!cases.contains(&Case::Spelled { operator, form }));
     assert!(!cases.contains(&Case::Divides { operator }));
+    let divided = [axiom("20 2 1 0; 20 1 7 0; 20 13 1 2; 20 1 0 0; 20 20 3 4")];
+    let cases = shown(&divided);
+    assert!(cases.contains(&Case::Defined { operator, row }));
+    assert!(cases.contains(&Case::Spelled { operator, form }));
+    assert!(!cases.contains(&Case::LeftOut { operator, row }));
     let wrong = [axiom("20 2 2 0; 20 1 7 0; 20 20 1 2")];
     let sorts = vec![Boolean, Integer];
     let misfit = Case::Misfit { operator, sorts };

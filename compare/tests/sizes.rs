@@ -5,8 +5,9 @@ mod common;
 use common::{refusal, table};
 use compare::generate::plan::{extreme, EXTREMES};
 use compare::generate::random::Random;
+use compare::plain::may_lack_inv;
 use compare::rows::{bytes_of, Row};
-use compare::sequents::{sequents, spell_out};
+use compare::sequents::{sequents, spell_out, whole_list, Sequent, INV};
 use compare::services::{check, print, spell_entry};
 use compare::table::Table;
 
@@ -36,7 +37,8 @@ fn nodes(count: usize) -> Vec<u8> {
 
 #[test]
 fn five_hundred_and_twelve_nodes_are_most() {
-    assert_eq!(check(&nodes(512)), Ok(1));
+    // None divides, so that no WD is made.
+    assert_eq!(check(&nodes(512)), Ok(0));
     assert_eq!(check(&nodes(513)), Err(refusal(4, 513)));
 }
 
@@ -88,20 +90,36 @@ fn every_limit_at_once() {
     }
 }
 
-/// 48 WD, 64 guards, 128 actions with FIS, 120 witnesses with WFIS, 29 × 64 GRD, 120 SIM, 512 INV.
+/// 360 formulas leave 152 nodes, four more for each that divides: 38 WD. 128 FIS, 120 WFIS, 29 × 64 GRD, 120 SIM, 512 INV.
 #[test]
 fn most_sequents() {
-    let count = 48 + 64 + 2 * 128 + 2 * 120 + 29 * 64 + 120 + 32 * 16;
-    assert_eq!(count, 3096);
+    let count = 38 + 128 + 120 + 29 * 64 + 120 + 32 * 16;
+    assert_eq!(count, 2774);
     assert_eq!(check(&extreme_table(1)), Ok(count));
 }
 
 /// The same with 60 shared variables for concrete ones: 30 × 64 SIM.
 #[test]
 fn most_sequents_with_shared_variables() {
-    let count = 48 + 64 + 2 * 128 + 2 * 120 + 29 * 64 + 30 * 64 + 32 * 16;
-    assert_eq!(count, 4896);
+    let count = 38 + 128 + 120 + 29 * 64 + 30 * 64 + 32 * 16;
+    assert_eq!(count, 4574);
     assert_eq!(check(&extreme_table(11)), Ok(count));
+}
+
+/// What is timed and grows to its limits has sequents of every kind, WD and INV that are left out elsewhere among them.
+#[test]
+fn timed_tables_have_every_kind() {
+    for name in ["512 nodes, 32 events", "table, a quarter", "table, whole"] {
+        let bytes = compare::bench::table(name).expect("a timed table");
+        let read = compare::checks::accept(&bytes).expect("accepted");
+        let list = sequents(&read);
+        for kind in 1..=8 {
+            assert!(list.iter().any(|one| one.kind == kind), "{name} {kind}");
+        }
+        let may_lack = |one: &&Sequent| one.kind == INV && may_lack_inv(&read, one.event);
+        assert!(list.iter().filter(may_lack).count() > 0, "{name}");
+        assert!(list.len() < whole_list(&read).len(), "{name}");
+    }
 }
 
 #[test]
@@ -110,8 +128,8 @@ fn longest_sequent() {
     for number in [2, 9, 12] {
         let read = compare::checks::accept(&extreme_table(number)).expect("accepted");
         let list = sequents(&read);
-        let longest = list.iter().map(|one| one.hypotheses.len() + 2).max();
-        assert_eq!(longest, Some(178), "{number}");
+        let longest = list.iter().map(|one| one.rows()).max();
+        assert_eq!(longest, Some(179), "{number}");
     }
 }
 

@@ -1,10 +1,11 @@
 //! Accepted tables: first how many of everything, then the draft itself.
 
+use super::damage::is_action;
 use super::draft::{Draft, DraftFormula};
 use super::random::Random;
 use super::sections::arrange;
-use super::tree::{Grower, Leaf, Tree};
-use crate::formula::{Sort, AFTER, DIVIDE, IDENTIFIER, LITERAL, NEGATION};
+use super::tree::{least_dividing, Grower, Leaf, Tree};
+use crate::formula::{Sort, AFTER, DIVIDE, EQUAL, IDENTIFIER, LITERAL, MOD, NEGATION};
 use crate::table::*;
 
 /// How actions are shared between rows 51 and 52.
@@ -32,7 +33,8 @@ pub enum Acting {
 
 /// How many of everything. `guards_at` is one event for all guards, or 0 for any. Convergent events have a variant,
 /// anticipated ones alone only if `variant` says so.
-/// Rows of one tag stand in any order unless they are `arranged`. `nodes` come on top of one for each formula, `spare_nodes` are left to the limit.
+/// Rows of one tag stand in any order unless they are `arranged`. `nodes` come on top of one for each formula, `spare_nodes`
+/// are left to the limit; if the plan is `dividing`, as many formulas have ÷ or mod as these nodes are enough for.
 #[derive(Clone, Debug, Default)]
 pub struct Plan {
     pub constants: usize,
@@ -57,6 +59,7 @@ pub struct Plan {
     pub arranged: bool,
     pub nodes: usize,
     pub spare_nodes: usize,
+    pub dividing: bool,
 }
 
 /// A formula's row before it has a tree: tag, event, identifier.
@@ -299,20 +302,27 @@ impl Plan {
 
     /// Gives every formula one node, then hands out the others.
     fn grow_formulas(&self, draft: &mut Draft, places: &[Place], random: &mut Random) {
-        let mut sizes = vec![1; places.len()];
         let most_nodes = Table::MOST_NODES - self.spare_nodes;
-        let mut left = self.nodes.min(most_nodes.saturating_sub(places.len()));
-        let most = random.pick(&[1, 4, 16, 512]);
-        while left > 0 && !sizes.is_empty() {
-            let some = random.between(1, most.min(left));
-            let place = random.below(sizes.len());
-            sizes[place] += some;
-            left -= some;
-        }
-        for (&(tag, event, identifier), size) in places.iter().zip(sizes) {
+        let left = self.nodes.min(most_nodes.saturating_sub(places.len()));
+        let sorts: Vec<Sort> = places
+            .iter()
+            .map(|&(tag, _, identifier)| root_sort(draft, tag, identifier))
+            .collect();
+        let sizes = if self.dividing {
+            dividing_sizes(&sorts, left, random)
+        } else {
+            any_sizes(&sorts, left, random)
+        };
+        for (place, &(tag, event, identifier)) in places.iter().enumerate() {
             let sight = sight(draft, tag, event, identifier);
-            let sort = root_sort(draft, tag, identifier);
-            let tree = Grower::new(random, &sight).grow(sort, size);
+            let (sort, size) = (sorts[place], sizes[place]);
+            let division = random.pick(&[DIVIDE, MOD]);
+            let mut grower = Grower::new(random, &sight);
+            let tree = if self.dividing && size > 1 {
+                grower.grow_dividing(division, sort, size)
+            } else {
+                grower.grow(sort, size)
+            };
             draft.formulas.push(DraftFormula {
                 tag,
                 event,
@@ -321,6 +331,39 @@ impl Plan {
             });
         }
     }
+}
+
+/// The sizes of formulas that so many nodes are handed out to, by few or by many.
+fn any_sizes(sorts: &[Sort], mut left: usize, random: &mut Random) -> Vec<usize> {
+    let mut sizes = vec![1; sorts.len()];
+    let most = random.pick(&[1, 4, 16, 512]);
+    while left > 0 && !sizes.is_empty() {
+        let some = random.between(1, most.min(left));
+        let place = random.below(sizes.len());
+        sizes[place] += some;
+        left -= some;
+    }
+    sizes
+}
+
+/// The same, to each as many as a division takes, and what is left over to one of them.
+fn dividing_sizes(sorts: &[Sort], mut left: usize, random: &mut Random) -> Vec<usize> {
+    let mut sizes = vec![1; sorts.len()];
+    let mut order: Vec<usize> = (0..sorts.len()).collect();
+    random.shuffle(&mut order);
+    let mut divides = None;
+    for place in order {
+        let more = least_dividing(sorts[place]) - 1;
+        if more <= left {
+            sizes[place] += more;
+            left -= more;
+            divides = Some(place);
+        }
+    }
+    if let Some(place) = divides {
+        sizes[place] += left;
+    }
+    sizes
 }
 
 fn action_tag(such_that: bool) -> i32 {
@@ -447,8 +490,8 @@ fn sees_after(draft: &Draft, (tag, _, target): Place, number: i32) -> bool {
 
 pub const EXTREMES: usize = 14;
 
-/// Tables at the limits. Numbers 1, 2 and 3 have the most sequents without shared variables, the longest sequent
-/// and the longest spelled entry that were found, number 11 the most sequents.
+/// Tables at the limits. Numbers 1, 2 and 3 have the longest list without shared variables, the longest sequent and the
+/// longest spelled entry that were found, number 11 the longest list: of tables with all axioms, whose nodes add hypotheses.
 pub fn extreme(number: usize, random: &mut Random) -> Draft {
     let full = Plan {
         axioms: 16,
@@ -461,7 +504,7 @@ pub fn extreme(number: usize, random: &mut Random) -> Draft {
     };
     let plan = match number {
         0 => everything(full),
-        1 => most_sequents(full),
+        1 => return most_sequents(full, 0, random),
         2 => longest_sequent(full),
         3 => return longest_entry(random),
         4 => sixty_four_identifiers(random),
@@ -471,7 +514,7 @@ pub fn extreme(number: usize, random: &mut Random) -> Draft {
         8 => anticipated_everything(full, random),
         9 => longest_anticipated(full, random),
         10 => shared_everything(full, random),
-        11 => most_sequents_shared(full),
+        11 => return most_sequents(full, 60, random),
         12 => only_shared(full, random),
         _ => near_limits(full, random),
     };
@@ -488,6 +531,7 @@ fn everything(full: Plan) -> Plan {
         abstract_events: 5,
         ordinary: 15,
         convergent: 10,
+        dividing: true,
         ..full
     }
 }
@@ -526,27 +570,54 @@ pub fn growing(quarters: usize) -> Plan {
         actions: part(128),
         nodes: part(512),
         spare_nodes: 512 - part(512),
+        dividing: true,
         ..Plan::default()
     }
 }
 
-fn most_sequents(full: Plan) -> Plan {
-    Plan {
+/// So many of the 60 concrete variables are shared: these have SIM at every concrete event, and no witnesses.
+fn most_sequents(full: Plan, shared: usize, random: &mut Random) -> Draft {
+    let mut plan = Plan {
         abstract_variables: 4,
         concrete_variables: 60,
         abstract_events: 1,
         ordinary: 29,
         guards_at: 2,
         action_tags: ActionTags::SuchThat,
+        nodes: 0,
         ..full
-    }
+    };
+    plan.share_concrete(shared);
+    let mut draft = plan.draft(random);
+    spend_nodes(&mut draft);
+    draft
 }
 
-/// A shared variable has SIM at every concrete event, and no witnesses to fill their section.
-fn most_sequents_shared(full: Plan) -> Plan {
-    let mut plan = most_sequents(full);
-    plan.share_concrete(plan.concrete_variables);
-    plan
+/// All formulas have one node: what is left of 512 makes WD of the abstract invariants, then of the abstract event's guards,
+/// and INV of these invariants at that event, event 2.
+fn spend_nodes(draft: &mut Draft) {
+    let variable = numbers_of(&draft.identifiers, |one| one[0] == ABSTRACT_VARIABLE)[0];
+    draft.identifiers[variable as usize - 1][1] = INTEGER;
+    let is_set = |one: &DraftFormula| one.event == 2 && one.identifier == variable;
+    let mut actions = draft.formulas.iter_mut().filter(|one| is_action(one.tag));
+    if !actions.any(|one| is_set(one)) {
+        let mut actions = draft.formulas.iter_mut().filter(|one| is_action(one.tag));
+        // Events 1 and 3 are the initialisations.
+        let other = actions.find(|one| one.event != 1 && one.event != 3);
+        let other = other.expect("fewer actions are initial than there may be");
+        (other.event, other.identifier) = (2, variable);
+    }
+    let mut left = Table::MOST_NODES - draft.nodes();
+    for tag in [ABSTRACT_INVARIANT, GUARD] {
+        for formula in draft.formulas.iter_mut().filter(|one| one.tag == tag) {
+            let leaf = || Tree::leaf(IDENTIFIER, variable);
+            let tree = Tree::two(EQUAL, Tree::two(DIVIDE, leaf(), leaf()), leaf());
+            if tree.nodes() <= left + 1 {
+                left = left + 1 - tree.nodes();
+                formula.tree = tree;
+            }
+        }
+    }
 }
 
 /// Base 48, guards 64, and one hypothesis for each of 64 variables.

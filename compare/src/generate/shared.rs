@@ -11,7 +11,7 @@ use crate::formula::{Sort, AFTER, AND, BOOL, EQUAL, IDENTIFIER, LITERAL, PLUS, T
 use crate::table::*;
 
 /// The refusals that they come near to, those with most ways to it more than once.
-pub const NEAR_SHARED: [i32; 8] = [6, 7, 10, 10, 10, 10, 11, 12];
+pub const NEAR_SHARED: [i32; 12] = [6, 7, 10, 10, 10, 10, 10, 10, 10, 10, 11, 12];
 
 /// One change near refusal 6, 7, 10, 11 or 12.
 pub fn near_shared(refusal: i32, draft: &mut Draft, random: &mut Random) {
@@ -85,14 +85,18 @@ fn name_in_row(draft: &mut Draft, variable: i32, random: &mut Random) {
     }
 }
 
-/// The tags of formulas, those of several sorts more than once.
-const MENTIONING: [i32; 14] = [
+/// The tags of formulas, those of several sorts and those that many tables lack more than once.
+const MENTIONING: [i32; 18] = [
     AXIOM,
     ABSTRACT_INVARIANT,
     CONCRETE_INVARIANT,
     VARIANT,
+    VARIANT,
+    VARIANT,
     GUARD,
     GUARD,
+    BECOMES_EQUAL,
+    BECOMES_EQUAL,
     BECOMES_EQUAL,
     BECOMES_EQUAL,
     BECOMES_EQUAL,
@@ -126,7 +130,7 @@ fn any_formula(draft: &mut Draft, tag: i32, random: &mut Random) -> Option<usize
         add_leaf(draft, tag, 0, 0, TOP);
         return Some(draft.formulas.len() - 1);
     }
-    let wanted = random.one_in(2);
+    let wanted = random.one_in(3);
     let initial = [ABSTRACT, CONCRETE].map(|machine| of_class(draft, machine, INITIALISATION));
     let is_initial = |place: usize| initial.concat().contains(&draft.formulas[place].event);
     let (some, others): (Vec<usize>, Vec<usize>) = found

@@ -35,6 +35,11 @@ impl Tree {
             operands: vec![left, right],
         }
     }
+
+    /// The number of its nodes.
+    pub fn nodes(&self) -> usize {
+        1 + self.operands.iter().map(Tree::nodes).sum::<usize>()
+    }
 }
 
 /// An identifier or after value that a formula may mention.
@@ -43,6 +48,15 @@ pub struct Leaf {
     pub operator: i32,
     pub identifier: i32,
     pub sort: Sort,
+}
+
+/// The fewest nodes of a formula with ÷ or mod.
+pub fn least_dividing(sort: Sort) -> usize {
+    match sort {
+        Sort::Integer => 3,
+        Sort::Predicate => 5,
+        Sort::Boolean => 6,
+    }
 }
 
 /// How the nodes of a pair are shared between its sides.
@@ -54,11 +68,24 @@ enum Shape {
     Mixed,
 }
 
+/// Integer operators of a formula: with both ÷ and mod, one of them, or none.
+const INTEGERS: [&[i32]; 6] = [
+    &[PLUS, MINUS, TIMES, DIVIDE, MOD],
+    &[PLUS, MINUS, TIMES, DIVIDE, MOD],
+    &[PLUS, MINUS, TIMES, DIVIDE],
+    &[PLUS, MINUS, TIMES, MOD],
+    WITHOUT_DIVISION,
+    WITHOUT_DIVISION,
+];
+
+pub const WITHOUT_DIVISION: &[i32] = &[PLUS, MINUS, TIMES];
+
 /// Grows formulas of one shape from what they may mention.
 pub struct Grower<'a> {
     random: &'a mut Random,
     sight: &'a [Leaf],
     shape: Shape,
+    integers: &'static [i32],
 }
 
 impl Grower<'_> {
@@ -70,11 +97,18 @@ impl Grower<'_> {
             Shape::Mixed,
         ];
         let shape = random.pick(&shapes);
+        let integers = random.pick(&INTEGERS);
         Grower {
             random,
             sight,
             shape,
+            integers,
         }
+    }
+
+    /// The same with these integer operators.
+    pub fn with(self, integers: &'static [i32]) -> Self {
+        Grower { integers, ..self }
     }
 
     /// A formula with exactly so many nodes, at least one.
@@ -93,8 +127,28 @@ impl Grower<'_> {
         if self.random.one_in(6) {
             return Tree::one(NEGATION, self.grow(Sort::Integer, size - 1));
         }
-        let operator = self.random.pick(&[PLUS, MINUS, TIMES, DIVIDE, MOD]);
+        let operator = self.random.pick(self.integers);
         self.pair(operator, Sort::Integer, size)
+    }
+
+    /// A formula with this ÷ or mod in it, of so many nodes, which are enough.
+    pub fn grow_dividing(&mut self, division: i32, sort: Sort, size: usize) -> Tree {
+        match sort {
+            Sort::Integer => self.pair(division, Sort::Integer, size),
+            Sort::Boolean => Tree::one(
+                BOOL,
+                self.grow_dividing(division, Sort::Predicate, size - 1),
+            ),
+            Sort::Predicate => {
+                let divided = self.pair(division, Sort::Integer, 3);
+                let other = self.grow(Sort::Integer, size - 4);
+                let operator = self.random.pick(&[EQUAL, LESS, AT_MOST]);
+                match self.random.one_in(2) {
+                    true => Tree::two(operator, divided, other),
+                    false => Tree::two(operator, other, divided),
+                }
+            }
+        }
     }
 
     fn grow_predicate(&mut self, size: usize) -> Tree {
@@ -132,7 +186,11 @@ impl Grower<'_> {
             .filter(|leaf| leaf.sort == sort)
             .collect();
         if !seen.is_empty() && !self.random.one_in(4) {
-            let leaf = self.random.pick(&seen);
+            // The lowest and the highest number more often than others.
+            let any = self.random.pick(&seen);
+            let leaf = self
+                .random
+                .pick(&[any, any, any, seen[0], seen[seen.len() - 1]]);
             return Tree::leaf(leaf.operator, leaf.identifier);
         }
         match sort {

@@ -3,7 +3,7 @@
 use super::shape_of;
 use crate::checks::{accept, may_mention, Refusal, REFERENCE, SIGHT, SORT, USE};
 use crate::formula::*;
-use crate::sequents::{sequents, Entry};
+use crate::sequents::{sequents, Entry, Sequent, WD};
 use crate::shrink::rows_of;
 use crate::table::*;
 use std::collections::BTreeSet;
@@ -52,6 +52,10 @@ pub enum Case {
     Twice { operator: i32, side: usize },
     /// The operator in the formula of an entry of this form.
     Spelled { operator: i32, form: i32 },
+    /// The operator in a formula of such a row that has ÷ or mod: WD of it is in the list.
+    Defined { operator: i32, row: Named },
+    /// The operator in a formula of such a row that has neither: WD of it isn't in the list.
+    LeftOut { operator: i32, row: Named },
     /// Refused by 7 at its row.
     Unknown { operator: i32 },
     /// Refused by 7 at its row, for this column alone.
@@ -111,11 +115,13 @@ fn sorts(table: &Table, node: Node) -> Vec<Sort> {
 fn add_accepted(table: &Table, cases: &mut BTreeSet<Case>) {
     let all = table.nodes.iter();
     cases.extend(all.filter_map(|&node| mention(table, node, 0)));
+    let list = sequents(table);
     for formula in &table.formulas {
         cases.extend(root(table, *formula, 0));
         add_tree(table, named(table, *formula), formula.root, cases);
+        cases.extend(definedness(table, *formula, &list));
     }
-    for sequent in sequents(table) {
+    for sequent in list {
         for entry in sequent.entries() {
             let form = entry.form;
             let operators = root_of(table, entry).map(|root| operators(table, root));
@@ -159,6 +165,21 @@ fn add_tree(table: &Table, row: Named, root: i32, cases: &mut BTreeSet<Case>) {
         });
         add_tree(table, row, operand, cases);
     }
+}
+
+/// What the formula shows of WD: made for ÷ and mod, left out without them. What is otherwise shows nothing.
+fn definedness(table: &Table, formula: Formula, list: &[Sequent]) -> Vec<Case> {
+    let operators = operators(table, formula.root);
+    let divides = operators.contains(&DIVIDE) || operators.contains(&MOD);
+    let is_its = |one: &Sequent| one.kind == WD && one.item == formula.root;
+    let row = named(table, formula);
+    let case = |operator| match divides {
+        true => Case::Defined { operator, row },
+        false => Case::LeftOut { operator, row },
+    };
+    let as_it_should = list.iter().any(is_its) == divides;
+    let shown = operators.into_iter().filter(|_| as_it_should);
+    shown.map(case).collect()
 }
 
 /// Operator 2 or 3 with an identifier, answered so.

@@ -32,6 +32,7 @@ pub fn wanted() -> BTreeSet<Case> {
         cases.extend(ROOTS.map(|row| wanted_root(shape, row)));
         cases.extend(wanted_columns(shape));
         cases.extend(wanted_forms(shape));
+        cases.extend(ROOTS.into_iter().flat_map(|row| wanted_wd(shape, row)));
         cases.extend(SHAPES.iter().flat_map(|above| wanted_below(shape, above)));
         cases.extend(wanted_beside(shape));
         cases.insert(Case::Unused { operator });
@@ -149,6 +150,24 @@ fn wanted_forms(shape: &Shape) -> Vec<Case> {
     forms
         .map(|&form| Case::Spelled { operator, form })
         .collect()
+}
+
+/// The operator wherever it can stand: beside ÷ or mod with WD, and, but for these two, without them and without WD.
+fn wanted_wd(shape: &Shape, row: Named) -> Vec<Case> {
+    let operator = shape.operator;
+    let (tag, takes) = row;
+    let sees_after = tag == BECOMES_SUCH_THAT || tag == WITNESS;
+    let stands = takes != Integer || shape.makes == Integer;
+    if !stands || (operator == AFTER && !sees_after) {
+        return vec![];
+    }
+    match operator {
+        DIVIDE | MOD => vec![Case::Defined { operator, row }],
+        _ => vec![
+            Case::Defined { operator, row },
+            Case::LeftOut { operator, row },
+        ],
+    }
 }
 
 /// The operator on each side of the one above that takes what it makes: in every row where that can stand, but leaves only

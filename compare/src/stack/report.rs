@@ -114,7 +114,7 @@ fn calls(table: &[u8]) -> Vec<(Call, u64)> {
     let list = sequents(&table);
     let mut calls = vec![(Call::Check, 0)];
     for k in sequents_to_write(&list) {
-        let room = (list[k - 1].hypotheses.len() + 2) * ROW_BYTES;
+        let room = list[k - 1].rows() * ROW_BYTES;
         calls.push((Call::Write { k: k as u64, room }, 0));
     }
     for (k, j, rows) in entries_to_spell(&table, &list) {

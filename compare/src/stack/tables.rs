@@ -105,15 +105,15 @@ impl Shape {
         }
     }
 
-    /// A formula over this leaf, as deep as so many nodes go.
-    fn tree(self, operator: i32, leaf: &Tree, nodes: usize) -> Tree {
+    /// A formula over this leaf with that one at its end, as deep as so many nodes go.
+    fn tree(self, operator: i32, leaf: &Tree, end: &Tree, nodes: usize) -> Tree {
         let a_level = match self {
             Shape::Chain => 1,
             Shape::Left | Shape::Right => 2,
             Shape::Bool => 3,
         };
-        let mut tree = leaf.clone();
-        for _ in 0..(nodes - 1) / a_level {
+        let mut tree = end.clone();
+        for _ in 0..(nodes - end.nodes()) / a_level {
             tree = match self {
                 Shape::Chain => Tree::one(operator, tree),
                 Shape::Left => Tree::two(operator, tree, leaf.clone()),
@@ -133,11 +133,38 @@ fn leaf(sort: Sort) -> Tree {
     }
 }
 
+/// What a deep formula ends with: a leaf, or ÷ for the sake of its WD.
+#[derive(Clone, Copy)]
+enum End {
+    Leaf,
+    Division,
+}
+
+impl End {
+    fn tree(self, sort: Sort) -> Tree {
+        let number = || leaf(Sort::Integer);
+        let quotient = Tree::two(DIVIDE, number(), number());
+        match (self, sort) {
+            (End::Leaf, _) => leaf(sort),
+            (End::Division, Sort::Integer) => quotient,
+            (End::Division, _) => Tree::two(EQUAL, quotient, number()),
+        }
+    }
+
+    fn words(self) -> &'static str {
+        match self {
+            End::Leaf => "",
+            End::Division => ", ending with ÷",
+        }
+    }
+}
+
 /// A deep formula of this sort, if the operator can make one.
-fn deep_tree(shape: Shape, operator: i32, sort: Sort, nodes: usize) -> Option<Tree> {
+fn deep_tree(shape: Shape, operator: i32, end: End, sort: Sort, nodes: usize) -> Option<Tree> {
     let integers = (PLUS..=NEGATION).contains(&operator);
-    let of_integers = |nodes| shape.tree(operator, &leaf(Sort::Integer), nodes);
-    let of_predicates = |nodes| shape.tree(operator, &leaf(Sort::Predicate), nodes);
+    let over = |sort, nodes| shape.tree(operator, &leaf(sort), &end.tree(sort), nodes);
+    let of_integers = |nodes| over(Sort::Integer, nodes);
+    let of_predicates = |nodes| over(Sort::Predicate, nodes);
     match sort {
         Sort::Integer if integers => Some(of_integers(nodes)),
         Sort::Predicate if integers => {
@@ -175,7 +202,13 @@ fn with_leaves(mut draft: Draft, places: &[Place]) -> Draft {
 }
 
 /// The draft with a deep formula in this place, of all the nodes that its other formulas leave.
-fn with_deep(mut draft: Draft, wanted: Place, shape: Shape, operator: i32) -> Option<Named> {
+fn with_deep(
+    mut draft: Draft,
+    wanted: Place,
+    shape: Shape,
+    operator: i32,
+    end: End,
+) -> Option<Named> {
     // Of several the last one, whose row comes last.
     let found = draft.formulas.iter().rposition(|one| place(one) == wanted);
     let at = found.unwrap_or(draft.formulas.len());
@@ -185,9 +218,10 @@ fn with_deep(mut draft: Draft, wanted: Place, shape: Shape, operator: i32) -> Op
     let nodes = Table::MOST_NODES - (draft.formulas.len() - 1);
     let (tag, event, identifier) = wanted;
     let sort = root_sort(&draft, tag, identifier);
-    draft.formulas[at].tree = deep_tree(shape, operator, sort, nodes)?;
+    draft.formulas[at].tree = deep_tree(shape, operator, end, sort, nodes)?;
     let row = format!("row {tag} {event} {identifier}");
-    let words = format!("({}, operator {operator}, {row})", shape.name());
+    let (name, ends) = (shape.name(), end.words());
+    let words = format!("({name}, operator {operator}{ends}, {row})");
     Some((words, laid_out(&draft)))
 }
 
@@ -259,21 +293,24 @@ const PLACES: [Place; 18] = [
 fn deep(shape: Shape) -> Vec<Named> {
     let mut tables = Vec::new();
     for &operator in shape.operators() {
-        tables.extend(with_deep(bare(&[]), (AXIOM, 0, 0), shape, operator));
-        let both = bare(&[CONVERGENT, ANTICIPATED]);
-        tables.extend(with_deep(both, (VARIANT, 0, 0), shape, operator));
-        let in_place = |place| with_deep(small(), place, shape, operator);
-        tables.extend(PLACES.into_iter().filter_map(in_place));
+        for end in [End::Leaf, End::Division] {
+            let with = |draft, place| with_deep(draft, place, shape, operator, end);
+            tables.extend(with(bare(&[]), (AXIOM, 0, 0)));
+            tables.extend(with(bare(&[CONVERGENT, ANTICIPATED]), (VARIANT, 0, 0)));
+            let in_place = |place| with(small(), place);
+            tables.extend(PLACES.into_iter().filter_map(in_place));
+        }
     }
     tables
 }
 
-/// A formula of each shape in each of these places.
+/// A formula of each shape in each of these places, with WD.
 fn deep_in(draft: &Draft, places: &[Place]) -> Vec<Named> {
     let mut tables = Vec::new();
     for shape in SHAPES {
         for &operator in shape.few_operators() {
-            let in_place = |&place: &Place| with_deep(draft.clone(), place, shape, operator);
+            let in_place =
+                |&place: &Place| with_deep(draft.clone(), place, shape, operator, End::Division);
             tables.extend(places.iter().filter_map(in_place));
         }
     }
@@ -436,7 +473,8 @@ fn unseen() -> Named {
     let found = draft.identifiers.iter().position(hidden);
     let number = found.expect("an abstract variable") as i32 + 1;
     let nodes = Table::MOST_NODES - (draft.formulas.len() - 1);
-    let tree = Shape::Chain.tree(NEGATION, &Tree::leaf(IDENTIFIER, number), nodes);
+    let leaf = Tree::leaf(IDENTIFIER, number);
+    let tree = Shape::Chain.tree(NEGATION, &leaf, &leaf, nodes);
     let variant = draft.formulas.iter_mut().find(|one| one.tag == VARIANT);
     variant.expect("a variant").tree = tree;
     ("(deepest leaf, last row)".to_string(), laid_out(&draft))

@@ -1,6 +1,6 @@
 //! Where the rows of a table stand, and how near it is to a refusal: words for what a table has, to be counted.
 
-use super::{anticipated, shared};
+use super::{anticipated, left_out, shared};
 use crate::checks::{initialisation, Refusal, FULL, MISSING, TAG, TWICE, USE};
 use crate::formula::operands;
 use crate::generate::sections::TAGS;
@@ -94,6 +94,7 @@ fn accepted(table: &Table) -> Vec<String> {
     words.extend(found.map(|(word, _)| format!("accepted, {word}")));
     words.extend(anticipated::accepted(table));
     words.extend(shared::accepted(table));
+    words.extend(left_out::accepted(table));
     words
 }
 

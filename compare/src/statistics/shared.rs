@@ -89,7 +89,7 @@ fn settings(table: &Table) -> Vec<String> {
 }
 
 /// Where a formula stands, for the words about what it mentions.
-fn standing(table: &Table, formula: Formula) -> String {
+pub fn standing(table: &Table, formula: Formula) -> String {
     let event = table.event(formula.event);
     let initial = event.is_some_and(|event| event.class == INITIALISATION);
     let machine = match event {
