@@ -26,7 +26,7 @@ use Rattle.select.specs.declared.Each.the-variants.{One}
 use Rattle.select.specs.Each.{weight, countAt}
 use Rattle.select.specs.Selection.{between, rowOfEvent, variableAt, selects, sectionSpan, selectedSpan}
 
-left-true : (p q : Bool) → p && q ≡ true → p ≡ true
+pub left-true : (p q : Bool) → p && q ≡ true → p ≡ true
 left-true true q e = refl
 left-true false q e = e
 
