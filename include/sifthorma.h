@@ -79,9 +79,10 @@ enum {
 /* Checks the table. 0: it is accepted, and *value is the count of its sequents. Refusals 1 to 12. */
 uint64_t sifthorma_check(const uint8_t *table, size_t table_length, uint64_t *value);
 
-/* Writes sequent k, counted from 1: a row 80 (kind, event or 0, item), rows 81 (hypotheses), a row 82 (goal).
- * 0: *value is the number of rows written. Refusals 1 to 13 and 15. The longest sequent that was seen has 178 rows: measured, not
- * proved. A caller who is refused with 15 may lend a larger buffer. */
+/* Writes sequent k, counted from 1: a row 80 (kind, event or 0, item), a row 84 (of the goal spelled out: how many identifiers it
+ * mentions, the lowest and the highest, 0 where there are none), rows 81 (hypotheses), a row 82 (goal). Room is needed for all of them;
+ * rows 80 and 84 are no entries. 0: *value is the number of rows written. Refusals 1 to 13 and 15. The longest sequent that was seen has
+ * 179 rows: measured, not proved. A caller who is refused with 15 may lend a larger buffer. */
 uint64_t sifthorma_write_sequent(const uint8_t *table, size_t table_length, uint64_t k, uint8_t *out, size_t out_length, uint64_t *value);
 
 /* Spells entry j of sequent k, both counted from 1: the hypotheses in the order of the rows 81, then the goal. Writes rows 83
