@@ -1,7 +1,7 @@
 -- A formula turns only on its identifiers: environments that agree on all of them give it one value, by induction on the tree. What it mentions passes the tests
 -- of `mentions`. Its identifiers are those of the formula with its variables at their after values, and its well-definedness has no others.
 use mathlib.Core.Path.{_≡_, refl, ap, ap₂}
-use mathlib.Core.Bool.{Bool, true, false, _&&_, _||_}
+use mathlib.Core.Bool.{Bool, true, false, _||_}
 use mathlib.Core.List.{List, [], _∷_, _++_}
 use Prim.Native.Nat.{ℕ}
 use lib.Dec.{T}

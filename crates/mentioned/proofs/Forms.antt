@@ -1,11 +1,11 @@
 -- The set of an entry by its form: its number tells which entry it is.
-use Prim.Native.Nat.{ℕ, zero, suc, _≤_, _<_}
-use mathlib.Core.Path.{_≡_, refl, sym, ap, _∙_}
+use Prim.Native.Nat.{ℕ, zero, suc, _≤_}
+use mathlib.Core.Path.{_≡_, refl, sym, ap}
 use native.Mathlib.Omega.{arith}
 use lib.ListN.{getD, List·getD-eq-default}
 use Rattle.table.specs.Rows.{Rows}
 use Rattle.sequent.specs.declared.Entry.{Entry as Numbers}
-use Rattle.sequent.specs.Entry.{Entry, written}
+use Rattle.sequent.specs.Entry.{written}
 use Rattle.sequent.specs.Forms.{forms, entryOf}
 use Rattle.mentioned.specs.Mentioned.{nodeSet, entrySet}
 

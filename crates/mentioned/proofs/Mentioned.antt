@@ -6,11 +6,8 @@ use mathlib.Core.Bool.{Bool, true, false}
 use mathlib.Core.Logic.{inl, inr}
 use mathlib.Core.List.{List, [], _∷_, _++_}
 use native.Mathlib.Omega.{arith}
-use lib.Dec.{T, ltb}
 use lib.Bits.{bitOr, or-self}
 use Rattle.lists.specs.Choice.{pick}
-use Rattle.lists.specs.Below.{first}
-use Rattle.formula.specs.Tree.{Tree}
 use Rattle.formula.specs.AfterValues.{atAfter}
 use Rattle.formula.specs.WellDefined.{wellDefined}
 use Rattle.formula.specs.Identifiers.{identifiers}
@@ -18,11 +15,11 @@ use Rattle.formula.specs.Formula.{someValue, someAfterValue}
 use Rattle.formula.proofs.Identifiers.{identifiers-at-after}
 use Rattle.sets.specs.Set.{setOf}
 use Rattle.sets.proofs.Set.{set-join}
-use Rattle.table.specs.Rows.{Rows, tagged, named}
+use Rattle.table.specs.Rows.{Rows, tagged}
 use Rattle.table.proofs.Sections.{named-bounds}
 use Rattle.machine.specs.Machine.{Action, unassigned, becomesEqual, becomesSuchThat, Machine}
-use Rattle.machine.specs.Described.{treeOf, actionOf, machineOf}
-use Rattle.sequent.specs.Entry.{Entry, variable, actionTree, witnessTree, witnessRoot, formula}
+use Rattle.machine.specs.Described.{actionOf, machineOf}
+use Rattle.sequent.specs.Entry.{Entry, variable, actionTree, witnessTree, formula}
 use Rattle.sequent.proofs.Entries.{Root, action-root, witness-root, witness-for}
 use Rattle.sequent.proofs.Entries.{EntryOf, of-written, of-primed, of-defined, of-moves, of-feasible, of-witnessed, of-natural, of-decreases, of-not-increased, of-unchanged}
 use Rattle.rules.proofs.Obeys.{Obeys}

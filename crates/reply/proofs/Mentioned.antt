@@ -21,22 +21,20 @@ use Rattle.row.specs.declared.Row.{Row}
 use Rattle.formula.specs.Tree.{Constant, literal, TRUE, FALSE, top, bottom, Unary, bool, negation, logicalNot, Binary, plus, minus, times, equal, less, atMost, iff}
 use Rattle.formula.specs.Tree.{Division, quotient, remainder, Connective, and, or, implies, Tree, constant, identifier, after, unary, binary, division, connective}
 use Rattle.formula.specs.AfterValues.{atAfter}
-use Rattle.formula.specs.WellDefined.{wellDefined}
 use Rattle.formula.specs.Identifiers.{identifiers}
 use Rattle.formula.specs.Formula.{Formula, plain, someValue, someAfterValue}
 use Rattle.formula.proofs.Identifiers.{identifiers-at-after, well-defined-identifiers}
 use Rattle.table.specs.Rows.{Rows, named}
 use Rattle.machine.specs.Machine.{Action, unassigned, becomesEqual, becomesSuchThat, Machine}
-use Rattle.machine.specs.Described.{machineOf, treeOf}
-use Rattle.sequent.specs.Entry.{Entry, written, primed, defined, moves, feasible, witnessed, natural, decreases, notIncreased, unchanged, variable}
-use Rattle.sequent.specs.Entry.{witnessRoot, actionTree, witnessTree, formula}
+use Rattle.machine.specs.Described.{machineOf}
+use Rattle.sequent.specs.Entry.{Entry, variable}
+use Rattle.sequent.specs.Entry.{actionTree, witnessTree, formula}
 use Rattle.sequent.specs.Sequent.{Sequent}
 use Rattle.sequent.specs.Listed.{sequents}
-use Rattle.sequent.proofs.Entries.{Root, action-root, witness-root, VariableOf, witness-for, listed-made}
+use Rattle.sequent.proofs.Entries.{Root, action-root, witness-root, witness-for, listed-made}
 use Rattle.sequent.proofs.Entries.{EntryOf, of-written, of-primed, of-defined, of-moves, of-feasible, of-witnessed, of-natural, of-decreases, of-not-increased, of-unchanged}
 use Rattle.rules.proofs.Obeys.{Obeys}
 use Rattle.rules.proofs.Mentioned.{identifier-limit, root-identifiers, variable-identifier, target-identifier}
-use Rattle.reply.specs.Row.{row}
 use Rattle.reply.specs.Spelled.{spelled, constantRow, unaryNumber, binaryNumber, divisionNumber, connectiveNumber, spellTree, spell}
 use Rattle.reply.specs.Printed.{hasIdentifier, identifiersIn}
 use Rattle.reply.specs.Mentioned.{formulaIdentifiers}

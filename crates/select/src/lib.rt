@@ -21,7 +21,7 @@ ghost use lib.Dec.{ltb};
 ghost use Rattle.lists.specs.Choice.{pick};
 ghost use Rattle.table.specs.Rows.{rowsOf, count};
 ghost use Rattle.table.specs.Counts.{countsOf};
-ghost use Rattle.nodes.specs.Notes.{Noted, notedTree};
+ghost use Rattle.nodes.specs.Notes.{Noted};
 ghost use Rattle.select.specs.Selection.{rowOfEvent, parameterWitness, identifierAt, variableAt, actionRow, isAssigned, becomesSuch, selects, between, sectionSpan, selectedSpan};
 ghost use Rattle.select.specs.Each.{itemAt, divisions, weight, countAt};
 ghost use Rattle.select.specs.Sought.{Passed};

@@ -1,7 +1,7 @@
 -- 02, request 4, "the safe run must follow from that list alone": the obligations that the list leaves out are valid. A formula with no ÷ and no mod is well
 -- defined everywhere. An invariant is among the hypotheses of its INV, as written; where the event assigns no variable that it mentions, the moves say that these
 -- keep their values, so it says the same of the after values.
-use mathlib.Core.Path.{_≡_, refl, sym, ap, _∙_, subst}
+use mathlib.Core.Path.{_≡_, refl, sym, _∙_, subst}
 use mathlib.Core.Bool.{Bool, true, false, true≢false}
 use mathlib.Core.List.{List, _++_, map}
 use mathlib.Core.Logic.{_⊎_, ⊎-elim}
@@ -12,7 +12,7 @@ use Rattle.lists.specs.All.{All, In}
 use Rattle.lists.proofs.All.{all-left, all-right, all-at, all-in, all-imp, all-unmap, in-left, in-right, in-map}
 use Rattle.lists.proofs.Below.{keep-in}
 use Rattle.formula.specs.Values.{asTruth}
-use Rattle.formula.specs.Evaluate.{Env, evaluate, True}
+use Rattle.formula.specs.Evaluate.{Env, True}
 use Rattle.formula.specs.Formula.{plain, Holds}
 use Rattle.formula.specs.AfterValues.{atAfter}
 use Rattle.formula.specs.Identifiers.{identifiers}
@@ -24,7 +24,7 @@ use Rattle.machine.specs.Machine.{unassigned, Machine, unsharedVariables}
 use Rattle.machine.specs.Machine.{Role, abstractInitialisation, abstractOrdinary, concreteInitialisation, refining, convergent, anticipated}
 use Rattle.sequent.specs.Entry.{Entry, written, moves, variable, actionTree}
 use Rattle.sequent.specs.Sequent.{Sequent, Meets, Valid}
-use Rattle.sequent.specs.Required.{isNew, asWritten, baseOf, ownVariables, ownInvariants, keepsInvariants, Dropped, untouched}
+use Rattle.sequent.specs.Required.{isNew, asWritten, baseOf, ownVariables, ownInvariants, keepsInvariants, Dropped}
 use Rattle.sequent.specs.Required.{Obligation, wd-formula, wd-variant, wd-guard, wd-action, fis, wd-witness, wfis, grd, sim, sim-new, inv, inv-new, nat, var}
 use Rattle.sequent.specs.Required.{var-anticipated}
 use Rattle.sequent.specs.Listed.{needed, obligations, sequents}

@@ -1,13 +1,12 @@
 -- The list has exactly the required sequents, for every machine: it keeps those of the obligations that are needed, and an obligation is dropped exactly where it
 -- isn't, by its goal.
-use mathlib.Core.Path.{_≡_, refl, sym, subst, ap, _∙_}
+use mathlib.Core.Path.{_≡_, refl, subst, ap, _∙_}
 use mathlib.Core.Bool.{Bool, true, false, true≢false, _||_}
 use mathlib.Core.List.{List, [], _∷_}
 use mathlib.Core.Logic.{_↔_}
 use Prim.Native.Nat.{ℕ}
 use lib.Dec.{T}
 use Rattle.lists.specs.All.{All, all-nil, all-cons, In}
-use Rattle.lists.specs.Below.{keep}
 use Rattle.lists.specs.Different.{someOf}
 use Rattle.lists.proofs.Below.{keep-in, in-keep}
 use Rattle.formula.specs.Identifiers.{identifiers}

@@ -2,7 +2,6 @@
 use Prim.Native.Nat.{ℕ, zero, suc, _+_, _*_, _≤_}
 use mathlib.Core.Bool.{Bool}
 use mathlib.Core.List.{List}
-use Rattle.lists.specs.All.{All}
 use Rattle.lists.specs.Below.{oneIf}
 use Rattle.lists.specs.Different.{has}
 

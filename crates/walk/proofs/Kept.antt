@@ -7,23 +7,20 @@ use mathlib.Core.List.{List, [], _∷_}
 use native.Mathlib.Omega.{arith}
 use lib.Dec.{T, ltb, eqb}
 use lib.ListN.{length}
-use borrow.Author.Tests.{ltb-true, ltb-false, lt-ltb, le-ltb, eqb-true}
+use borrow.Author.Tests.{ltb-true, ltb-false, eqb-true}
 use Rattle.lists.specs.Choice.{pick}
 use Rattle.lists.specs.All.{All, all-nil, all-cons}
-use Rattle.lists.specs.Below.{oneIf, countBelow, someBelow, first, numbers, keep}
+use Rattle.lists.specs.Below.{oneIf, someBelow, first, numbers, keep}
 use Rattle.lists.specs.Different.{someOf}
 use Rattle.lists.proofs.All.{all-at, all-imp}
 use Rattle.lists.proofs.Below.{numbers-in, some-passes, some-fails}
 use Rattle.lists.proofs.Different.{some-same}
 use Rattle.lists.proofs.First.{Least, first-least}
 use Rattle.sets.specs.Set.{Identifier}
-use Rattle.formula.specs.Tree.{Tree}
 use Rattle.formula.specs.Identifiers.{identifiers, divides}
-use Rattle.formula.proofs.Truth.{true-test}
 use Rattle.table.specs.Rows.{Rows, tagged, count, named}
 use Rattle.table.proofs.Sections.{named-bounds}
-use Rattle.machine.specs.Machine.{Action, unassigned, becomesEqual, becomesSuchThat}
-use Rattle.machine.specs.Machine.{Role, abstractInitialisation, abstractOrdinary, concreteInitialisation, refining, convergent, anticipated}
+use Rattle.machine.specs.Machine.{unassigned, becomesEqual, becomesSuchThat}
 use Rattle.machine.specs.Described.{treeOf, sets, actionOf, machineOf}
 use Rattle.sequent.specs.Entry.{Entry, defined, primed, moves, decreases, notIncreased, unchanged}
 use Rattle.sequent.specs.Sequent.{Sequent, sequent, WD, INV, SIM, VAR}
@@ -38,7 +35,7 @@ use Rattle.nodes.proofs.Touched.{noted-tree, touches-some}
 use Rattle.select.specs.declared.Selection.{Selection}
 use Rattle.select.specs.declared.Selection.the-variants.{None, Tagged, OfEvent, Assigned}
 use Rattle.select.specs.declared.Each.the-variants.{One, Touched}
-use Rattle.select.specs.Selection.{rowOfEvent, variableAt, actionRow, isAssigned, selects}
+use Rattle.select.specs.Selection.{variableAt, actionRow, isAssigned, selects}
 use Rattle.select.specs.Each.{divisions, weight, countAt}
 use Rattle.select.proofs.Selected.{left-true}
 use Rattle.walk.specs.Events.{isAbstract, isInitial, isRefining, isNew, isConvergent, matchedBy, ownKind, ownInvariantTag}

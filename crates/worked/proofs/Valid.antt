@@ -3,7 +3,6 @@
 use Prim.Native.Nat.{ℕ}
 use mathlib.Core.Path.{_≡_, refl, sym, ap, _∙_, subst, subst⁻¹}
 use mathlib.Core.Bool.{false, not}
-use mathlib.Core.List.{List}
 use native.Mathlib.Omega.{arith}
 use lib.Dec.{T}
 use lib.IntN.{ℤ, pos, sucℤ, _+ℤ_, _-ℤ_, -ℤ-+ℤ-cancel, +ℤ-idl, +ℤ-one}
@@ -21,7 +20,7 @@ use Rattle.formula.proofs.Override.{override-same, override-other}
 use Rattle.machine.specs.Operator.{operatorNumbered}
 use Rattle.machine.specs.Described.{treeTo, treeOf, machineOf}
 use Rattle.sequent.specs.Entry.{Entry, written, primed, defined, moves, feasible, witnessed, natural, decreases, notIncreased, unchanged, formula}
-use Rattle.sequent.specs.Sequent.{Meets, Valid, sequent, WD}
+use Rattle.sequent.specs.Sequent.{Meets, Valid}
 use Rattle.sequent.specs.Listed.{sequents}
 use Rattle.worked.proofs.Decoded.{words}
 use Rattle.worked.proofs.Listed.{worked, listed, list1, list2, list3, list4, list5, list6}

@@ -1,6 +1,5 @@
 -- Each number of the set is that of the list.
-use mathlib.Core.Path.{_≡_, sym, _∙_}
-use Rattle.reply.specs.Row.{row}
+use mathlib.Core.Path.{_∙_}
 use borrow.Author.Needs.{needs}
 use Rattle.mentioned.proofs.mentioned_row.Statement.{statement}
 use Rattle.mentioned.proofs.mentioned_row.Tie as tie

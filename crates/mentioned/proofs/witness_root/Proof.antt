@@ -1,6 +1,5 @@
 -- Column c of the first row that witnesses, which stands among the witnesses.
 use mathlib.Core.Path.{sym, subst}
-use native.Mathlib.Omega.{arith}
 use Rattle.table.specs.Rows.{rowsOf}
 use Rattle.scan.specs.Span.{Spans}
 use Rattle.scan.specs.declared.Query.the-variants.{Witnesses}

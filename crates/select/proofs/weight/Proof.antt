@@ -1,5 +1,4 @@
 -- By cases on what there is of a row.
-use native.Mathlib.Omega.{arith}
 use borrow.Author.Needs.{needs}
 use Rattle.select.proofs.weight.Statement.{statement}
 use Rattle.select.proofs.weight.Tie as tie
