@@ -85,6 +85,10 @@ alone e rows = pick (eqb e 0) rows None
 abbrev pub ofEvent : ℕ → Selection → Selection
 ofEvent e rows = pick (eqb e 0) None rows
 
+-- WD of the formulas of a tag that belong to no event: "of axioms, invariants, variant"
+abbrev pub formulasGroup : ℕ → ℕ → Group
+formulasGroup e tag = definedGroup (alone e (Tagged tag)) A e
+
 module _ (t : Rows) where
   -- SIM: "each abstract variable", each shared one too; 02, request 2: "SIM is made for it also at convergent and anticipated events"
   abbrev pub simulatedRows : ℕ → Selection
@@ -96,10 +100,10 @@ module _ (t : Rows) where
 
   abbrev pub groupTable : ℕ → List Group
   groupTable e =
-      definedGroup (alone e (Tagged axiomTag)) A e
-      ∷ definedGroup (alone e (Tagged abstractInvariantTag)) A e
-      ∷ definedGroup (alone e (Tagged concreteInvariantTag)) A e
-      ∷ definedGroup (alone e (Tagged variantTag)) A e
+      formulasGroup e axiomTag
+      ∷ formulasGroup e abstractInvariantTag
+      ∷ formulasGroup e concreteInvariantTag
+      ∷ formulasGroup e variantTag
       ∷ definedGroup (ofEvent e (OfEvent guardTag e)) B e
       ∷ definedGroup (ofEvent e (Assigned (ownKind t e) e)) Action e
       ∷ wholeGroup FIS (ofEvent e (SuchThat (ownKind t e) e)) Identifier

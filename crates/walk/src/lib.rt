@@ -33,7 +33,7 @@ ghost use Rattle.select.specs.declared.Selection.the-variants.{Tagged, OfEvent,
 ghost use Rattle.select.specs.declared.Each.the-variants.{One, Defined};
 ghost use Rattle.select.specs.Sought.{Passed};
 ghost use Rattle.walk.specs.Events.{isAbstract, isInitial, isRefining, isMatched, isConvergent, isNew, keepsAll, matchedBy, ownKind, ownInvariantTag};
-ghost use Rattle.walk.specs.Groups.{groups, groupOf, when, alone, ofEvent, simulatedRows, invariantEach, groupAt, isWFIS, headerKind, headerItem};
+ghost use Rattle.walk.specs.Groups.{groups, groupOf, formulasGroup, when, alone, ofEvent, simulatedRows, invariantEach, groupAt, isWFIS, headerKind, headerItem};
 ghost use Rattle.walk.specs.Slots.{slotAt, soughtAt, nextGroup, slotCount, InWalk, position, SoughtSlot};
 
 // "machine: 1 abstract, 2 concrete"
@@ -233,6 +233,13 @@ impl Group {
         Group::new(kind::WD, rows, item, each)
     }
 
+    // WD of the rows of a tag that belong to no event.
+    fn formulas(event: u64, tag: u64) -> Self
+        ensures { λ r. ⌜ r ≡ formulasGroup event tag ⌝ }
+    {
+        Group::defined(alone(event, Selection::Tagged(tag)), Item::A, event)
+    }
+
     // A kind of which every sequent is listed.
     fn whole(kind: u64, rows: Selection, item: Item) -> Self
         ensures { λ r. ⌜ r ≡ groupOf kind rows item One ⌝ }
@@ -323,22 +330,10 @@ pub fn group_at(words: &[u64], table: Table, event: u64, group: u64) -> Group
     ensures { λ r. ⌜ r ≡ groupAt (rowsOf (now (words .entry))) event group ⌝ }
 {
     match group {
-        Group::AXIOM => Group::defined(alone(event, Selection::Tagged(tag::AXIOM)), Item::A, event),
-        Group::ABSTRACT_INVARIANT => Group::defined(
-            alone(event, Selection::Tagged(tag::ABSTRACT_INVARIANT)),
-            Item::A,
-            event,
-        ),
-        Group::CONCRETE_INVARIANT => Group::defined(
-            alone(event, Selection::Tagged(tag::CONCRETE_INVARIANT)),
-            Item::A,
-            event,
-        ),
-        Group::VARIANT => Group::defined(
-            alone(event, Selection::Tagged(tag::VARIANT)),
-            Item::A,
-            event,
-        ),
+        Group::AXIOM => Group::formulas(event, tag::AXIOM),
+        Group::ABSTRACT_INVARIANT => Group::formulas(event, tag::ABSTRACT_INVARIANT),
+        Group::CONCRETE_INVARIANT => Group::formulas(event, tag::CONCRETE_INVARIANT),
+        Group::VARIANT => Group::formulas(event, tag::VARIANT),
         Group::GUARD => Group::defined(rows_of(event, tag::GUARD), Item::B, event),
         Group::ACTION => Group::defined(assigned(words, table, event), Item::Action, event),
         Group::FIS => Group::whole(kind::FIS, such_that(words, table, event), Item::Identifier),

@@ -44,22 +44,18 @@ group-at-spec = tie.close (tie.spec
     (λ c κs. search needs)
     (λ c κs. search needs)
     (λ c κs. search needs)
-    (λ c κs. search needs)
-    (λ c κs. search needs)
-    (λ c κs. search needs)
-    (λ c κs. search needs)
+    (λ c. let a = c .before .before .before .args in
+    let g : a .group ≡ 0 = omega arith in at-number (rowsOf (a .words .now)) (a .event) 0 g (c .formulas .ensures))
+    (λ c. let a = c .before .before .before .args in
+    let g : a .group ≡ 1 = omega arith in at-number (rowsOf (a .words .now)) (a .event) 1 g (c .formulas2 .ensures))
+    (λ c. let a = c .before .before .before .args in
+    let g : a .group ≡ 2 = omega arith in at-number (rowsOf (a .words .now)) (a .event) 2 g (c .formulas3 .ensures))
+    (λ c. let a = c .before .before .before .args in
+    let g : a .group ≡ 3 = omega arith in at-number (rowsOf (a .words .now)) (a .event) 3 g (c .formulas4 .ensures))
     (λ c. let a = c .before .before .before .before .args in
-    let g : a .group ≡ 0 = omega arith in at-number (rowsOf (a .words .now)) (a .event) 0 g (c .defined .ensures ∙ ap (λ r. definedGroup r A (a .event)) (c .before .alone .ensures)))
+    let g : a .group ≡ 4 = omega arith in at-number (rowsOf (a .words .now)) (a .event) 4 g (c .defined .ensures ∙ ap (λ r. definedGroup r B (a .event)) (c .before .rows-of .ensures)))
     (λ c. let a = c .before .before .before .before .args in
-    let g : a .group ≡ 1 = omega arith in at-number (rowsOf (a .words .now)) (a .event) 1 g (c .defined2 .ensures ∙ ap (λ r. definedGroup r A (a .event)) (c .before .alone2 .ensures)))
-    (λ c. let a = c .before .before .before .before .args in
-    let g : a .group ≡ 2 = omega arith in at-number (rowsOf (a .words .now)) (a .event) 2 g (c .defined3 .ensures ∙ ap (λ r. definedGroup r A (a .event)) (c .before .alone3 .ensures)))
-    (λ c. let a = c .before .before .before .before .args in
-    let g : a .group ≡ 3 = omega arith in at-number (rowsOf (a .words .now)) (a .event) 3 g (c .defined4 .ensures ∙ ap (λ r. definedGroup r A (a .event)) (c .before .alone4 .ensures)))
-    (λ c. let a = c .before .before .before .before .args in
-    let g : a .group ≡ 4 = omega arith in at-number (rowsOf (a .words .now)) (a .event) 4 g (c .defined5 .ensures ∙ ap (λ r. definedGroup r B (a .event)) (c .before .rows-of .ensures)))
-    (λ c. let a = c .before .before .before .before .args in
-    let g : a .group ≡ 5 = omega arith in at-number (rowsOf (a .words .now)) (a .event) 5 g (c .defined6 .ensures ∙ ap (λ r. definedGroup r Action (a .event)) (c .before .assigned .ensures)))
+    let g : a .group ≡ 5 = omega arith in at-number (rowsOf (a .words .now)) (a .event) 5 g (c .defined2 .ensures ∙ ap (λ r. definedGroup r Action (a .event)) (c .before .assigned .ensures)))
     (λ c. let a = c .before .before .before .before .args in
     let g : a .group ≡ 6 = omega arith in at-number (rowsOf (a .words .now)) (a .event) 6 g (c .whole .ensures ∙ ap (λ r. wholeGroup FIS r Identifier) (c .before .such-that .ensures)))
     (λ c. let a = c .before .before .before .before .args in
