@@ -115,13 +115,6 @@ same-test x y = go (ℕ-discrete x y)
     go (yes e) = rw (eq-eqb x y e, eq-eqb y x (sym e))
     go (no f) = rw (ne-eqb x y f, ne-eqb y x (λ e. f (sym e)))
 
-pub lesser-within : (m k : ℕ) → pick (ltb m k) m k ≤ k
-lesser-within m k = go (ltb m k) refl
-  where
-    go : (b : Bool) → ltb m k ≡ b → pick b m k ≤ k
-    go true e = omega (arith, ltb-true m k e)
-    go false e = omega arith
-
 pub noted-limit : (a : Bool) (e : ℕ) → (a && leb e eventLimit) ≡ true → (a ≡ true) × (e ≤ eventLimit)
 noted-limit true e h = (refl, leb-true e eventLimit h)
 noted-limit false e h = absurd (true≢false (sym h))

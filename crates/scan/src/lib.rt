@@ -298,7 +298,7 @@ fn query_tag(query: Query) -> u64
 }
 
 // The lesser of two numbers.
-fn lesser(m: usize, n: usize) -> usize
+pub fn lesser(m: usize, n: usize) -> usize
     ensures { λ r. ⌜ r ≡ pick (ltb m n) m n ⌝ }
 {
     if m < n { m } else { n }

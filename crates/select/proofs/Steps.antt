@@ -6,6 +6,7 @@ use native.Mathlib.Omega.{arith}
 use lib.Dec.{ltb}
 use borrow.Author.Tests.{ltb-true, ltb-false}
 use Rattle.lists.specs.Choice.{pick}
+use Rattle.lists.proofs.Choice.{lesserOf, greaterOf, Lesser, Greater, lesser-of, greater-of}
 use Rattle.lists.proofs.Flat.{sum-next, sum-stays}
 use Rattle.scan.specs.declared.Span.{Span}
 use Rattle.scan.specs.Span.{Spans}
@@ -14,36 +15,6 @@ use Rattle.select.specs.Sought.{placeOf}
 
 abbrev pub sought : ℕ → ℕ → Sought
 sought row left = record { row = row; left = left }
-
-abbrev pub lesserOf : ℕ → ℕ → ℕ
-lesserOf m n = pick (ltb m n) m n
-
-abbrev pub greaterOf : ℕ → ℕ → ℕ
-greaterOf m n = pick (ltb m n) n m
-
--- the bounds of both
-pub record Lesser (m n r : ℕ) : Type 0 where
-  pub left : r ≤ m
-  pub right : r ≤ n
-  pub least : (k : ℕ) → k < m → k < n → k < r
-
-pub lesser-of : (m n : ℕ) → Lesser m n (lesserOf m n)
-lesser-of m n = go (ltb m n) refl
-  where
-    go : (b : Bool) → ltb m n ≡ b → Lesser m n (pick b m n)
-    go true p = record { left = omega arith; right = omega (arith, ltb-true m n p); least = λ k h g. h }
-    go false p = record { left = ltb-false m n p; right = omega arith; least = λ k h g. g }
-
-pub record Greater (m n r : ℕ) : Type 0 where
-  pub left : m ≤ r
-  pub below : (k : ℕ) → m ≤ k → k < r → k < n
-
-pub greater-of : (m n : ℕ) → Greater m n (greaterOf m n)
-greater-of m n = go (ltb m n) refl
-  where
-    go : (b : Bool) → ltb m n ≡ b → Greater m n (pick b n m)
-    go true p = record { left = omega (arith, ltb-true m n p); below = λ k h g. g }
-    go false p = record { left = omega arith; below = λ k h g. absurd (omega arith) }
 
 module _ (W : ℕ → ℕ) where
   -- a row is passed over

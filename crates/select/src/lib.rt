@@ -2,6 +2,7 @@
 use nodes::note_at;
 use nodes::touches;
 use scan::Span;
+use scan::lesser;
 use scan::span_at;
 use table::Table;
 use table::a_at;
@@ -276,12 +277,7 @@ fn count_at(
     0
 }
 
-fn lesser(m: usize, n: usize) -> usize
-    ensures { λ r. ⌜ r ≡ pick (ltb m n) m n ⌝ }
-{
-    if m < n { m } else { n }
-}
-
+// The greater of two numbers.
 fn greater(m: usize, n: usize) -> usize
     ensures { λ r. ⌜ r ≡ pick (ltb m n) n m ⌝ }
 {

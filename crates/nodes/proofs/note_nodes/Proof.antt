@@ -2,10 +2,11 @@
 use Prim.Native.Nat.{_+_, _-_, _≤_}
 use mathlib.Core.Path.{_≡_, sym, ap, _∙_}
 use native.Mathlib.Omega.{arith}
+use Rattle.lists.proofs.Choice.{lesser-of}
 use Rattle.table.specs.Rows.{rowsOf}
 use Rattle.nodes.specs.Notes.{nodeLimit}
 use Rattle.nodes.specs.Steps.{NotedTo}
-use Rattle.nodes.proofs.Stored.{lesser-within, nodes-counted, noted-all}
+use Rattle.nodes.proofs.Stored.{nodes-counted, noted-all}
 use borrow.Author.Needs.{needs}
 use Rattle.nodes.proofs.note_nodes.Statement.{statement}
 use Rattle.nodes.proofs.note_nodes.Tie as tie
@@ -23,7 +24,7 @@ note-nodes-spec = tie.close (tie.spec
     μ-loop
     (λ c κs. search needs)
     (λ c. let s = c .before .before .before in
-    (omega (arith, c .lesser .ensures, lesser-within (s .args .table .nodes) nodeLimit), omega arith, omega arith, s .pre .1))
+    (omega (arith, c .lesser .ensures, lesser-of (s .args .table .nodes) nodeLimit .right), omega arith, omega arith, s .pre .1))
     (λ c κs. let turn = c .before .before in
     let s = turn .before .before .before .before in
     (s .pre .0, turn .loop .inv .1, omega arith, turn .loop .inv .3))

@@ -8,7 +8,8 @@ use Rattle.select.specs.Selection.{selects}
 use Rattle.select.specs.Each.{countAt}
 use Rattle.select.specs.Sought.{placeOf}
 use Rattle.select.proofs.Selected.{selected-spans, count-none}
-use Rattle.select.proofs.Steps.{sought, lesserOf, lesser-of, place-next, place-held, place-start, place-end}
+use Rattle.lists.proofs.Choice.{lesserOf, lesser-of}
+use Rattle.select.proofs.Steps.{sought, place-next, place-held, place-start, place-end}
 use borrow.Author.Needs.{needs}
 use Rattle.select.proofs.seek_row.Statement.{statement}
 use Rattle.select.proofs.seek_row.Tie as tie
