@@ -4,13 +4,12 @@ use compare::against::Services;
 use compare::bench;
 use compare::by_sequent::hold;
 use compare::campaign::{self, Found, Summary};
-use compare::checks::{accept, Refusal};
+use compare::checks::Refusal;
 use compare::generate;
 use compare::operators::family;
 use compare::operators::wanted::{missing, wanted};
 use compare::plain::is_left_out;
 use compare::program::{self, Program};
-use compare::refute;
 use compare::rows::{bytes_of, layout, Row};
 use compare::services::{print, refusal_row, Answers};
 use compare::stack::report;
@@ -22,8 +21,7 @@ use std::io::{stdin, stdout, Read, Write};
 use std::path::Path;
 use std::process::ExitCode;
 
-const USAGE: &str =
-    "use: compare print | sequent K | entry K J | layout | refute LOW HIGH | table SEED
+const USAGE: &str = "use: compare print | sequent K | entry K J | layout | table SEED
      | statistics SEEDS [FIRST] | left-out SEEDS [FIRST]
      | against-library TABLES [FIRST] | operators
      | against-program PROGRAM TABLES [FIRST] | by-sequent PROGRAM [FILE..]
@@ -58,10 +56,6 @@ fn answer(words: &[&str]) -> Result<Vec<u8>, String> {
                 .read_to_string(&mut text)
                 .map_err(|error| error.to_string())?;
             Ok(bytes_of(&layout(&text)?))
-        }
-        ["refute", low, high] => {
-            let table = accept(&read_table()?).map_err(|refusal| format!("{refusal:?}"))?;
-            Ok(refute::report(&table, integer(low)?..=integer(high)?).into_bytes())
         }
         ["table", seed] => Ok(generate::table(number(seed)?)),
         ["bench-table", name] => bench::table(name),
@@ -201,10 +195,6 @@ fn program_of(path: &str) -> Program {
 fn answered(rows: Result<Vec<Row>, Refusal>) -> Result<Vec<u8>, String> {
     let rows = rows.unwrap_or_else(|refusal| vec![refusal_row(refusal)]);
     Ok(bytes_of(&rows))
-}
-
-fn integer(text: &str) -> Result<i128, String> {
-    text.parse().map_err(|_| USAGE.to_string())
 }
 
 fn number(text: &str) -> Result<u64, String> {

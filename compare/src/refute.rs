@@ -2,7 +2,7 @@
 
 use crate::evaluate::{evaluate, NoValue, Reading, Value, Values};
 use crate::formula::{Symbol, AFTER, EQUAL, IDENTIFIER};
-use crate::sequents::{sequents, spell_out, Sequent};
+use crate::sequents::{spell_out, Sequent};
 use crate::table::{Table, INTEGER};
 use std::collections::BTreeSet;
 use std::ops::RangeInclusive;
@@ -65,27 +65,6 @@ pub fn free_names(table: &Table, sequent: &Sequent) -> usize {
         name.1 && demands.iter().any(gives)
     };
     names.into_iter().filter(|&&name| !given(&name)).count()
-}
-
-/// A line for each sequent that some values of this range refute, and how many there are.
-pub fn report(table: &Table, integers: RangeInclusive<i128>) -> String {
-    let list = sequents(table);
-    let mut text = String::new();
-    let mut refuted = 0;
-    for (place, sequent) in list.iter().enumerate() {
-        if let Some(values) = counterexample(table, sequent, integers.clone()) {
-            refuted += 1;
-            let Sequent {
-                kind, event, item, ..
-            } = sequent;
-            text += &format!(
-                "{}: 80 {kind} {event} {item}:{}\n",
-                place + 1,
-                shown(&values)
-            );
-        }
-    }
-    text + &format!("{refuted} of {} refuted\n", list.len())
 }
 
 /// The values by identifier numbers, after values with a prime.
