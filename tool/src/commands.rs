@@ -56,7 +56,7 @@ pub fn answer(words: &[&str]) -> Done<Vec<u8>> {
         ["show", file, k] => show_chosen(&read(file)?, k),
         ["smt", file] => smt(&read(file)?, None),
         ["smt", file, k] => smt(&read(file)?, Some(k)),
-        ["discharge", file, options @ ..] => discharge(&read(file)?, plan(options)?),
+        ["discharge", file, options @ ..] => discharge(&read(file)?, options),
         ["refute", file] => refute(&read(file)?, -2..=4),
         ["refute", file, low, high] => refute(&read(file)?, range(low, high)?),
         [] => Err(cannot(USAGE.to_string())),
@@ -255,10 +255,10 @@ fn smt(source: &Source, k: Option<&str>) -> Done<Vec<u8>> {
     Ok(text.into())
 }
 
-fn discharge(source: &Source, plan: Plan) -> Done<Vec<u8>> {
+fn discharge(source: &Source, options: &[&str]) -> Done<Vec<u8>> {
     let (table, names) = (&source.table, &source.names);
     let spelled = spelled(source, sequents(source)?)?;
-    let outcomes = run(&plan, &spelled, table, names).map_err(cannot)?;
+    let outcomes = run(&plan(options)?, &spelled, table, names).map_err(cannot)?;
     let (found, count) = (outcomes.len() as u64, count(source)?);
     if found != count {
         return Err(cannot(miscounted(source, found, count)));

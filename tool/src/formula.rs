@@ -88,24 +88,21 @@ impl Formula {
 
     /// The identifier or after value that a leaf mentions.
     pub fn mention(&self) -> Option<Mention> {
-        let after = match self.operator {
-            IDENTIFIER => false,
-            AFTER => true,
-            _ => return None,
-        };
-        let identifier = self.number as usize;
-        Some(Mention { identifier, after })
+        self.naming(IDENTIFIER, AFTER)
     }
 
     /// The identifier or after value that "some value of" binds.
     pub fn bound(&self) -> Option<Mention> {
-        let after = match self.operator {
-            SOME_VALUE => false,
-            SOME_AFTER => true,
-            _ => return None,
-        };
-        let identifier = self.number as usize;
-        Some(Mention { identifier, after })
+        self.naming(SOME_VALUE, SOME_AFTER)
+    }
+
+    /// The identifier that one of these operators names: its present value, or its after value.
+    fn naming(&self, present: i64, after: i64) -> Option<Mention> {
+        let named = [present, after].contains(&self.operator);
+        named.then_some(Mention {
+            identifier: self.number as usize,
+            after: self.operator == after,
+        })
     }
 
     /// What the formula mentions and doesn't bind, each once, in order.

@@ -19,15 +19,10 @@ pub fn renumber(
         Part::Identifiers => {
             moved(list, identifiers)?;
             moved(list, identifier_names)?;
-            let follow = |number: &mut i64| *number = renumbered(list, *number);
-            for line in nodes
-                .iter_mut()
-                .filter(|line| Table::is_mention(line.row.a))
-            {
-                follow(&mut line.row.b);
-            }
-            for (line, _) in named.iter_mut().filter(|(line, _)| has_target(line.row)) {
-                follow(&mut line.row.b);
+            let rows = nodes.iter_mut().map(|line| &mut line.row);
+            let rows = rows.chain(named.iter_mut().map(|(line, _)| &mut line.row));
+            for row in rows.filter(|row| names_identifier(**row)) {
+                row.b = renumbered(list, row.b);
             }
         }
         Part::Nodes => {
@@ -60,6 +55,11 @@ fn part_of(row_tag: i64) -> Option<Part> {
 }
 
 /// Whether a row names an identifier in column b.
+fn names_identifier(row: Row) -> bool {
+    row.tag == tag::NODE && Table::is_mention(row.a) || has_target(row)
+}
+
+/// Whether a row has a target: an action's variable, or what a witness is for.
 fn has_target(row: Row) -> bool {
     matches!(
         row.tag,

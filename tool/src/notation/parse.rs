@@ -378,25 +378,15 @@ impl Parser {
     /// The event after its keyword.
     fn event(&mut self, class: i64) -> Read<Event> {
         let name = self.name("the event's name")?;
-        let refines = match self.take("refines") {
-            true => Some(self.name("the name of the event that it refines")?),
-            false => None,
-        };
-        if self.at_keyword("extends") {
-            return Err(Mistake::new(
-                self.at(),
-                "`extends` isn't known here: write `refines`, and the guards and actions out",
-            ));
-        }
         let initial = name.text.eq_ignore_ascii_case(INITIALISATION);
         let mut event = Event {
+            name,
             class: if initial {
                 class::INITIALISATION
             } else {
                 class
             },
-            name,
-            refines,
+            refines: self.refined_event()?,
             parameters: vec![],
             guards: vec![],
             witnesses: vec![],
@@ -419,6 +409,19 @@ impl Parser {
             "the event's next part (`any`, `where`, `with`, `then`, in this order) or its `end`",
         )?;
         Ok(event)
+    }
+
+    /// The name of the event that an event refines, if it says so.
+    fn refined_event(&mut self) -> Read<Option<Name>> {
+        if self.at_keyword("extends") {
+            let message =
+                "`extends` isn't known here: write `refines`, and the guards and actions out";
+            return Err(Mistake::new(self.at(), message));
+        }
+        match self.take("refines") {
+            true => self.name("the name of the event that it refines").map(Some),
+            false => Ok(None),
+        }
     }
 
     fn actions(&mut self) -> Read<Vec<Action>> {
