@@ -24,6 +24,9 @@ pub struct Plan {
     pub jobs: usize,
 }
 
+/// The most time for a list of hypotheses: it is asked for a warning alone.
+const WARNING_LIMIT: Duration = Duration::from_secs(2);
+
 /// What became of a sequent.
 #[derive(Clone, Debug)]
 pub enum Outcome {
@@ -55,7 +58,9 @@ impl Question {
 
     /// Whether the first so many hypotheses can be met.
     fn of_hypotheses(spelled: &Spelled, count: usize, smt: &Smt) -> Question {
-        let declared = smt.declarations(&smt.mentions(spelled));
+        let formulas = spelled.hypotheses.iter().take(count);
+        let mentions = formulas.flat_map(|formula| formula.free()).collect();
+        let declared = smt.declarations(&mentions);
         let hypotheses = smt.hypotheses(spelled, count);
         Question {
             script: format!("{PREAMBLE}{declared}{hypotheses}(check-sat)\n"),
@@ -94,7 +99,7 @@ fn outcome(plan: &Plan, answers: Vec<Answer>, spelled: &Spelled, table: &Table) 
             }
             Answer::Neither(line) if line.is_empty() => {
                 said.push(format!(
-                    "{name}: no answer within {} s",
+                    "{name}: no answer, with {} s to give one",
                     plan.limit.as_secs()
                 ));
             }
@@ -127,6 +132,11 @@ fn find_contradictions(
             asked.push((place, contradiction));
         }
     }
+    let plan = &Plan {
+        provers: plan.provers.clone(),
+        limit: plan.limit.min(WARNING_LIMIT),
+        jobs: plan.jobs,
+    };
     let answers = ask_all(plan, &questions, "lists of hypotheses")?;
     let mut parts = Vec::new();
     for (spelled, answers) in lists.into_iter().zip(answers) {

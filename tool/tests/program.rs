@@ -172,7 +172,7 @@ fn refused() {
     refused(&["show", file, "1"], "");
     refused(&["smt", file], "");
     refused(&["smt", file, "1"], "");
-    refused(&["discharge", file, "--prover", "true"], "");
+    refused(&["discharge", file], "");
     refused(&["refute", file], "");
     let table = run(&["table", file]);
     assert_eq!(table, run(&["table", "models/refused.txt"]));
@@ -391,4 +391,15 @@ fn what_cannot_be_written() {
         assert!(ran.message.starts_with("cannot write: "), "{ran:?}");
         assert_eq!(ran.status, Some(2));
     }
+}
+
+/// A reader that has gone, as `head` has when it has seen enough, is told by the status alone.
+#[test]
+fn what_nobody_reads() {
+    let mut command = program(&["print", "models/free_list.eb"]);
+    command.stdout(Stdio::piped()).stderr(Stdio::piped());
+    let mut child = command.spawn().expect("it runs");
+    drop(child.stdout.take());
+    let ran = Ran::of(child.wait_with_output().expect("it ends"));
+    assert_eq!((ran.message.as_str(), ran.status), ("", Some(2)));
 }
