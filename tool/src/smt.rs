@@ -21,55 +21,11 @@ pub const PREAMBLE: &str = "\
 ";
 
 /// Names that SMT-LIB or a prover has for itself, or the preamble defines.
-const TAKEN: [&str; 47] = [
-    "true",
-    "false",
-    "not",
-    "and",
-    "or",
-    "xor",
-    "ite",
-    "distinct",
-    "div",
-    "mod",
-    "abs",
-    "let",
-    "forall",
-    "exists",
-    "match",
-    "par",
-    "as",
-    "_",
-    "BINARY",
-    "DECIMAL",
-    "HEXADECIMAL",
-    "NUMERAL",
-    "STRING",
-    "assert",
-    "echo",
-    "exit",
-    "pop",
-    "push",
-    "reset",
-    "quotient",
-    "remainder",
-    "rem",
-    "implies",
-    "iff",
-    "if",
-    "store",
-    "select",
-    "min",
-    "max",
-    "is_int",
-    "to_int",
-    "to_real",
-    "divisible",
-    "lambda",
-    "const",
-    "include",
-    "simplify",
-];
+const TAKEN: &str = "\
+true false not and or xor ite distinct div mod abs let forall exists match par as _ BINARY \
+DECIMAL HEXADECIMAL NUMERAL STRING assert echo exit pop push reset quotient remainder rem \
+implies iff if store select min max is_int to_int to_real divisible lambda const include \
+simplify";
 
 /// Writes SMT-LIB with a model's names.
 pub struct Smt<'a> {
@@ -137,7 +93,7 @@ impl Smt<'_> {
             .chars()
             .all(|c| c.is_ascii_alphanumeric() || c == '_' || c == '.');
         match plain {
-            _ if TAKEN.contains(&name.as_str()) => format!("|{name} (the model's)|"),
+            _ if TAKEN.split(' ').any(|taken| taken == name) => format!("|{name} (the model's)|"),
             true => name,
             false => format!("|{name}|"),
         }
