@@ -18,10 +18,10 @@ use std::time::Duration;
 pub const USAGE: &str = "\
 use: sifthorma COMMAND FILE ..
   check FILE                 whether the model is accepted, and how many sequents it has; or why it is refused
-  table FILE                 the table: rows of 38 bytes
+  table FILE                 the table, accepted or not: rows of 38 bytes
   print FILE                 all sequents as rows, as the program `obligations` prints them
   text FILE                  the model in the notation; names are invented for a table
-  list FILE [--event NAME] [--kind KIND]
+  list FILE [--event NAME].. [--kind KIND]..
                              the sequents by Rodin's labels
   show FILE K                sequent K, a number or a label, as mathematics
   smt FILE [K]               SMT-LIB 2.6: one check-sat a sequent, unsat where it is valid
@@ -179,30 +179,29 @@ fn pairs<'a>(options: &[&'a str]) -> Done<Vec<(&'a str, &'a str)>> {
 
 fn list(source: &Source, options: &[&str]) -> Done<Vec<u8>> {
     let (table, names) = (&source.table, &source.names);
-    let mut sequents = sequents(source)?;
+    let (mut events, mut kinds) = (Vec::new(), Vec::new());
     for (option, wanted) in pairs(options)? {
         match option {
             "--event" if !names.events.iter().any(|name| name == wanted) => {
-                return Err(cannot(format!(
-                    "{}: no event is named `{wanted}`",
-                    source.file
-                )));
+                let file = &source.file;
+                return Err(cannot(format!("{file}: no event is named `{wanted}`")));
             }
-            "--event" => {
-                sequents.retain(|one| one.event != 0 && names.event(one.event) == wanted);
-            }
+            "--event" => events.push(wanted.to_string()),
             "--kind" if !KINDS.contains(&wanted) && !RODIN_KINDS.contains(&wanted) => {
                 let kinds = [&KINDS[..], &RODIN_KINDS].concat().join(", ");
-                return Err(cannot(format!(
-                    "no kind is named `{wanted}`; the kinds are {kinds}"
-                )));
+                let message = format!("no kind is named `{wanted}`; the kinds are {kinds}");
+                return Err(cannot(message));
             }
-            "--kind" => {
-                sequents.retain(|one| [one.kind_word(), one.rodin_kind(table)].contains(&wanted));
-            }
+            "--kind" => kinds.push(wanted),
             _ => return Err(cannot(format!("`{option}` is no option of list\n{USAGE}"))),
         }
     }
+    let mut sequents = sequents(source)?;
+    sequents.retain(|one| {
+        events.is_empty() || one.event != 0 && events.contains(&names.event(one.event))
+    });
+    let is_wanted = |kind: &str| kinds.is_empty() || kinds.contains(&kind);
+    sequents.retain(|one| is_wanted(one.kind_word()) || is_wanted(one.rodin_kind(table)));
     let lines = sequents.iter().map(|one| one.line(table, names) + "\n");
     Ok(lines.collect::<String>().into())
 }
@@ -210,7 +209,9 @@ fn list(source: &Source, options: &[&str]) -> Done<Vec<u8>> {
 /// The sequents with this number or label.
 fn chosen(source: &Source, k: &str) -> Done<Vec<Spelled>> {
     let mut sequents = sequents(source)?;
-    if let Ok(k) = k.parse() {
+    if k.bytes().all(|byte| byte.is_ascii_digit()) {
+        // a number too long to be one is none of the list's
+        let k = k.parse().unwrap_or(u64::MAX);
         let sequent = Answers::new(&source.bytes).sequent(k);
         let sequent = sequent.map_err(|refusal| refused(source, refusal))?;
         return spelled(source, vec![sequent]);
@@ -234,7 +235,7 @@ fn show_chosen(source: &Source, k: &str) -> Done<Vec<u8>> {
     Ok(shown.collect::<String>().into())
 }
 
-/// One sequent as a script of its own; several between push and pop.
+/// One script for each sequent, with a reset between two.
 fn smt(source: &Source, k: Option<&str>) -> Done<Vec<u8>> {
     let smt = Smt {
         table: &source.table,
@@ -244,15 +245,12 @@ fn smt(source: &Source, k: Option<&str>) -> Done<Vec<u8>> {
         Some(k) => chosen(source, k)?,
         None => spelled(source, sequents(source)?)?,
     };
-    let mut text = PREAMBLE.to_string();
-    for one in &chosen {
-        let question = smt.question(one);
-        text += &match chosen.len() {
-            1 => question,
-            _ => format!("(push 1)\n{question}(pop 1)\n"),
-        };
-    }
-    Ok(text.into())
+    // begun anew for each sequent: between push and pop provers answer less
+    let scripts = chosen
+        .iter()
+        .map(|one| PREAMBLE.to_string() + &smt.question(one));
+    let scripts: Vec<String> = scripts.collect();
+    Ok(scripts.join("(reset)\n").into())
 }
 
 fn discharge(source: &Source, options: &[&str]) -> Done<Vec<u8>> {

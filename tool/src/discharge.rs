@@ -99,7 +99,7 @@ fn outcome(plan: &Plan, answers: Vec<Answer>, spelled: &Spelled, table: &Table) 
             }
             Answer::Neither(line) if line.is_empty() => {
                 said.push(format!(
-                    "{name}: no answer, with {} s to give one",
+                    "{name}: no answer within {} s",
                     plan.limit.as_secs()
                 ));
             }
@@ -220,7 +220,7 @@ fn show_progress(done: &AtomicUsize, count: usize, what: &str) {
         }
         if last.elapsed() >= pause {
             let (before, after) = if terminal { ("\r", "") } else { ("", "\n") };
-            say(&format!("{before}{so_far} of {count} {what}{after}"));
+            say(&format!("{before}{so_far} of {count} {what} asked{after}"));
             last = Instant::now();
         }
         std::thread::sleep(Duration::from_millis(5));

@@ -213,6 +213,7 @@ pub fn of_sight(source: &Source, place: usize) -> String {
     let mentions = formula.as_ref().map_or(vec![], Formula::free);
     let shown: Vec<String> = mentions
         .into_iter()
+        .filter(|&mention| !is_in_sight(table, place, mention))
         .map(|mention| described_mention(source, mention))
         .collect();
     format!(
@@ -220,6 +221,38 @@ pub fn of_sight(source: &Source, place: usize) -> String {
         shown.join(", "),
         in_sight(table, place)
     )
+}
+
+/// Whether the formula whose root a row names may mention this.
+fn is_in_sight(table: &Table, place: usize, mention: Mention) -> bool {
+    let row = table.rows[place];
+    let of_event = (tag::GUARD..=tag::WITNESS).contains(&row.tag);
+    let event = table.event(row.a).filter(|_| of_event);
+    let initial = event.is_some_and(|event| event.b == class::INITIALISATION);
+    let identifier = table.identifier(mention.identifier as i64);
+    let (kind, owner) = identifier.map_or((0, 0), |row| (row.a, row.c));
+    let own = mention.identifier as i64 == row.b;
+    let machine = match row.tag {
+        tag::ABSTRACT_INVARIANT => 1,
+        tag::WITNESS | tag::VARIANT => 2,
+        _ => event.map_or(0, |event| event.a),
+    };
+    let variable = Table::has_variable(machine, kind);
+    let parameter = |number| {
+        let identifier = table.identifier(number);
+        identifier.is_some_and(|row| Table::is_parameter(row.a))
+    };
+    match (row.tag, mention.after) {
+        (_, false) if kind == kind::CONSTANT => true,
+        (tag::AXIOM, _) => false,
+        (tag::BECOMES_SUCH, true) => own,
+        (tag::WITNESS, true) => !parameter(row.b) && (variable || own),
+        (_, true) => false,
+        (tag::WITNESS, _) if parameter(row.b) && own => true,
+        _ if Table::is_parameter(kind) => event.is_some() && owner == row.a,
+        (tag::CONCRETE_INVARIANT, _) => true,
+        _ => variable && !initial,
+    }
 }
 
 fn in_sight(table: &Table, place: usize) -> &'static str {

@@ -43,18 +43,15 @@ fn of_root(root: i64, table: &Table, names: &Names) -> Origin {
     Origin { part, label }
 }
 
-/// What an event does to a variable: its action, or nothing.
+/// What an event does to a variable: the label of its action, or where it does nothing the variable's name.
 fn of_action(entry: Entry, table: &Table, names: &Names) -> Origin {
-    let event = names.event(entry.first);
-    match table.action(entry.first, entry.second) {
-        Some(place) => Origin {
-            part: format!("actions of {event}"),
-            label: names.label(place).to_string(),
-        },
-        None => Origin {
-            part: format!("not set by {event}"),
-            label: names.own_name(entry.second as usize),
-        },
+    let label = match table.action(entry.first, entry.second) {
+        Some(place) => names.label(place).to_string(),
+        None => names.own_name(entry.second as usize),
+    };
+    Origin {
+        part: format!("actions of {}", names.event(entry.first)),
+        label,
     }
 }
 

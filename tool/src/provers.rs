@@ -2,7 +2,7 @@
 
 use std::io::{Read, Write};
 use std::process::{Child, ChildStdout, Command, Stdio};
-use std::sync::mpsc::{sync_channel, SyncSender};
+use std::sync::mpsc::{sync_channel, RecvTimeoutError, SyncSender};
 use std::time::{Duration, Instant};
 
 /// A prover: its name, and the command that reads SMT-LIB from standard input.
@@ -62,7 +62,8 @@ impl Prover {
             .spawn()
     }
 
-    /// What the prover prints for a script; what it has printed by then if it takes longer than `limit`.
+    /// What the prover prints for a script; what it has printed by then if it takes longer than `limit`. One that ends
+    /// without a word has that said for it.
     pub fn ask(&self, script: &str, limit: Duration) -> std::io::Result<String> {
         let end = Instant::now() + limit;
         let mut child = self.start()?;
@@ -77,6 +78,10 @@ impl Prover {
             let left = end.saturating_duration_since(Instant::now());
             match pieces.recv_timeout(left) {
                 Ok(piece) => printed.extend(piece),
+                Err(RecvTimeoutError::Disconnected) if printed.is_empty() => {
+                    printed.extend(b"it ended without an answer");
+                    break;
+                }
                 Err(_) => break,
             }
         }

@@ -62,6 +62,9 @@ fn said(source: &Source, refusal: Refusal) -> String {
     };
     let what = described(source, place);
     let wrong = match refusal.number {
+        2 if row.tag == tag::NODE && row.a == operator::LITERAL => {
+            "a number lies between −2147483648 and 2147483647".to_string()
+        }
         2 => not_a_row(source, place),
         3 => faults::of_tag(table, place),
         4 => format!("one more than a table takes: {}", limit(row.tag)),

@@ -485,6 +485,9 @@ const IN_NAMES: &str = "
     machine m1
     machine
         30:9: expected the machine's name, found the keyword `refines`
+    event INITIALISATION            // 38
+    convergent event INITIALISATION
+        38:20: INITIALISATION is neither convergent nor anticipated
 ";
 
 #[test]
@@ -498,10 +501,10 @@ fn mistakes_in_labels_and_names() {
 const IN_WITNESSES: &str = "
     @y y = 0
     @z y = 0
-        53:7: `z` isn't declared
+        53:7: `z` isn't declared; a witness has the label of its parameter, or of its variable with a prime
     @y y = 0
     @z' y = 0
-        53:7: `z` isn't declared
+        53:7: `z` isn't declared; a witness has the label of its parameter, or of its variable with a prime
     @y y = 0
     @y y = 0 @x x = 1
         53:16: `x` is a parameter of this event too: it is kept, and needs no witness

@@ -108,7 +108,7 @@ fn no_answer() {
     let (said, prover) = said_of_down("nothing.sh", "exit 3");
     assert_eq!(
         said,
-        format!("open ({prover}: no answer, with 3 s to give one)\n")
+        format!("open ({prover}: it ended without an answer)\n")
     );
     let started = Instant::now();
     let (said, prover) = said_of_down("endless.sh", "exec yes");
@@ -125,18 +125,12 @@ fn late_provers_are_stopped() {
     let number = Path::new(env!("CARGO_TARGET_TMPDIR")).join("late.pid");
     let late = format!("echo $$ >{}; exec sleep 60", number.display());
     let (said, prover) = said_of_down("late.sh", &late);
-    assert_eq!(
-        said,
-        format!("open ({prover}: no answer, with 3 s to give one)\n")
-    );
+    assert_eq!(said, format!("open ({prover}: no answer within 3 s)\n"));
     let number = std::fs::read_to_string(number).expect("it was started");
     let process = PathBuf::from(format!("/proc/{}", number.trim()));
     assert!(Path::new("/proc/self").exists() && !process.exists());
     let (said, prover) = said_of_down("outlived.sh", "sleep 20");
-    assert_eq!(
-        said,
-        format!("open ({prover}: no answer, with 3 s to give one)\n")
-    );
+    assert_eq!(said, format!("open ({prover}: no answer within 3 s)\n"));
     assert!(started.elapsed() < Duration::from_secs(15));
 }
 

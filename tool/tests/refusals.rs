@@ -69,11 +69,11 @@ fn column() {
     let cases = "
 @axm1 2 ≤ base
 @axm1 2147483648 ≤ base // here
-`2147483648` in axiom @axm1: `20 1 2147483648 0` isn't in the row form
+`2147483648` in axiom @axm1: a number lies between −2147483648 and 2147483647
 
 @axm1 2 ≤ base
 @axm1 −2147483649 ≤ base // here
-`20 1 -2147483649 0` isn't in the row form
+`-2147483649` in axiom @axm1: a number lies between
 ";
     refuses_each(2, "counter.eb", cases);
     let cases = "
@@ -443,11 +443,11 @@ fn sight() {
     let cases = "
 @axm2 0 ≤ limit
 @axm2 0 ≤ limit + done // here
-axiom @axm2: it mentions limit (constant), done (abstract variable); it may mention constants
+axiom @axm2: it mentions done (abstract variable); it may mention constants
 
 @inv2 done ≤ limit
 @inv2 done ≤ tens // here
-it mentions done (abstract variable), tens (concrete variable); .. the abstract machine's variables
+it mentions tens (concrete variable); .. the abstract machine's variables
 
 @inv2 0 ≤ tens
 @inv2 0 ≤ tens' // here
@@ -455,11 +455,11 @@ invariant @inv2 of wheels: it mentions tens' (concrete variable); .. without a p
 
 @grd1 base ≤ ones
 @grd1 base ≤ done // here
-guard @grd1 of event carry: it mentions base (constant), done (abstract variable); .. its machine's variables
+guard @grd1 of event carry: it mentions done (abstract variable); .. its machine's variables
 
 @grd1 base ≤ ones
 @grd1 y ≤ ones // here
-it mentions ones (concrete variable), y (concrete parameter of turn); .. the event's parameters
+it mentions y (concrete parameter of turn); .. the event's parameters
 
 variant ones
 variant done // here
@@ -477,23 +477,23 @@ it mentions tens (concrete variable); .. before an INITIALISATION no variable ha
 
 @act2 ones ≔ 0
 @act2 ones :∣ ones' = ones // here
-it mentions ones (concrete variable), ones' (concrete variable); .. the after value that it sets
+it mentions ones (concrete variable); .. the after value that it sets
 
 @act1 ones :∣ 0 ≤ ones'
 @act1 ones :∣ 0 ≤ tens' // here\\n
-action @act1 of event turn_back: it mentions tens' (concrete variable), ones (concrete variable), ones' (concrete variable);
+action @act1 of event turn_back: it mentions tens' (concrete variable);
 
 @x x = y
 @x x = ones' // here
-witness @x of event turn: it mentions x (abstract parameter of count), ones' (concrete variable); .. without a prime
+witness @x of event turn: it mentions ones' (concrete variable); .. without a prime
 
 @x x = y
 @x x = y + done // here
-it mentions done (abstract variable), x (abstract parameter of count), y (concrete parameter of turn); .. its own parameter
+it mentions done (abstract variable); .. its own parameter
 
 @done' done' = 0
 @done' done' = done // here
-witness @done' of event INITIALISATION: it mentions done (abstract variable), done' .. the refinement's after values and its own
+witness @done' of event INITIALISATION: it mentions done (abstract variable); .. the refinement's after values and its own
 ";
     refuses_each(10, "counter.eb", cases);
 }

@@ -258,7 +258,12 @@ impl Layout {
             event: scope.refined,
             refined: scope.event,
         };
-        let number = self.find(name, label.at, abstract_scope)?;
+        let number = self.find(name, label.at, abstract_scope);
+        let number = number.map_err(|mistake| Mistake {
+            message: mistake.message
+                + "; a witness has the label of its parameter, or of its variable with a prime",
+            ..mistake
+        })?;
         let own = self.known.parameter(name, scope.event);
         let said = match (self.identifiers[number as usize - 1].row.a, variable) {
             (kind::ABSTRACT_PARAMETER, None) if own.is_some() => {

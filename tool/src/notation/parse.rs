@@ -370,6 +370,12 @@ impl Parser {
             }
             self.need("event", "`event` after its status")?;
             let event = self.event(class.map_or(class::ORDINARY, |place| place as i64 + 1))?;
+            if event.class == class::INITIALISATION && class.is_some_and(|place| place > 0) {
+                return Err(Mistake::new(
+                    event.name.at,
+                    "INITIALISATION is neither convergent nor anticipated",
+                ));
+            }
             once(&mut names, &event.name)?;
             events.push(event);
         }

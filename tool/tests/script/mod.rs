@@ -93,8 +93,8 @@ impl Term {
 #[derive(Default)]
 pub struct Reading {
     pub functions: Functions,
-    /// The declared names, from one push to the next.
-    declared: Vec<BTreeSet<String>>,
+    /// The declared names, since the last reset.
+    declared: BTreeSet<String>,
     /// How often the script asks.
     pub questions: usize,
 }
@@ -103,7 +103,6 @@ impl Reading {
     /// Reads a script: whatever a term mentions is declared before, and nothing is declared that is known already.
     pub fn of(script: &str) -> Reading {
         let mut reading = Reading::default();
-        reading.declared.push(BTreeSet::new());
         for command in commands(script) {
             let parts = command.list();
             match (parts[0].word(), &parts[1..]) {
@@ -115,25 +114,24 @@ impl Reading {
                 }
                 ("assert", [term]) => reading.check(term, &[]),
                 ("check-sat", []) => reading.questions += 1,
-                ("push", [_]) => reading.declared.push(BTreeSet::new()),
-                ("pop", [_]) => drop(reading.declared.pop()),
+                ("reset", []) => {
+                    reading.declared.clear();
+                    reading.functions.clear();
+                }
                 _ => panic!("{command:?}"),
             }
         }
-        assert_eq!(reading.declared.len(), 1, "a push without its pop");
         reading
     }
 
     fn is_known(&self, name: &str) -> bool {
-        let declared = self.declared.iter().any(|names| names.contains(name));
-        declared || self.functions.contains_key(name)
+        self.declared.contains(name) || self.functions.contains_key(name)
     }
 
     fn declare(&mut self, name: &str) {
         let taken = TAKEN.split_whitespace().any(|word| word == name);
         assert!(!taken && !self.is_known(name), "`{name}` is known already");
-        let last = self.declared.last_mut().expect("a push");
-        last.insert(name.to_string());
+        self.declared.insert(name.to_string());
     }
 
     fn define(&mut self, name: &Term, formal: &Term, body: &Term) {
