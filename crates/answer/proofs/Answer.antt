@@ -233,7 +233,7 @@ module _ {type : ℕ → ValueType} (ρ : Env type) where
       let h = answer-reads t (p .left) (p .isLeft) in
       let k = answer-reads u (p .right) (p .isRight) in
       let r : readTree ρ (division o t u) ≡ some (divisionValue o (p .left) (p .right)) =
-          ap₂ (λ a b. andThen a (λ v. andThen b (readDivision o v))) (h .0) (k .0) ∙ some-division o (p .left) (p .right) (p .isDefined) in
+      ap₂ (λ a b. andThen a (λ v. andThen b (readDivision o v))) (h .0) (k .0) ∙ some-division o (p .left) (p .right) (p .isDefined) in
       (r ∙ ap {B = Option AnyValue} some (p .is), leaves-division o t u (own-value (division o t u) _ r (p .inside)) (h .1) (k .1))
   answer-reads (connective o t u) v e =
       let p = then-value (answer ρ t) (λ w. rightOf o w (answer ρ u)) v e in
@@ -242,13 +242,15 @@ module _ {type : ℕ → ValueType} (ρ : Env type) where
       let l : readTree ρ (connective o t u) ≡ readConnective o a (readTree ρ u) = ap (λ x. andThen x (λ v. readConnective o v (readTree ρ u))) (h .0) in
       right-value o a (answer ρ u) v (p .2)
       (λ d b f q. let k = answer-reads u b f in
-          let r : readTree ρ (connective o t u) ≡ some (joined o a b) =
-              l ∙ ap (readConnective o a) (k .0) ∙ ap (λ x. pick x (some (joined o a b)) (some (decided o a))) d in
-          (r ∙ ap {B = Option AnyValue} some q, leaves-connective o t u (own-value (connective o t u) (joined o a b) r tt) (h .1) (λ w s x. k .1)))
+      let r : readTree ρ (connective o t u) ≡ some (joined o a b) =
+      l ∙ ap (readConnective o a) (k .0) ∙ ap (λ x. pick x (some (joined o a b)) (some (decided o a))) d in
+      (r ∙ ap {B = Option AnyValue} some q, leaves-connective o t u (own-value (connective o t u) (joined o a b) r tt) (h .1) (λ w s x. k .1)))
       (λ d q.
-          let r : readTree ρ (connective o t u) ≡ some (decided o a) = l ∙ ap (λ x. pick x (Option·map (joined o a) (readTree ρ u)) (some (decided o a))) d in
-          (r ∙ ap {B = Option AnyValue} some q, leaves-connective o t u (own-value (connective o t u) (decided o a) r tt) (h .1)
-          (λ w s x. absurd (unread o a w t d (sym (h .0) ∙ s) x))))
+      let r : readTree ρ (connective o t u) ≡ some (decided o a) = l ∙ ap (λ x. pick x (Option·map (joined o a) (readTree ρ u)) (some (decided o a))) d in (
+        r ∙ ap {B = Option AnyValue} some q,
+        leaves-connective o t u (own-value (connective o t u) (decided o a) r tt) (h .1)
+            (λ w s x. absurd (unread o a w t d (sym (h .0) ∙ s) x)),
+      ))
     where
       -- the right side isn't read
       unread : (o : Connective) (a w : AnyValue) (t : Tree) → readsRight o (asTruth a) ≡ false → some a ≡ some w → T (readsRight o (asTruth w)) → ⊥
@@ -286,5 +288,5 @@ module _ {type : ℕ → ValueType} (ρ : Env type) where
       ap (λ x. valueThen x (λ w. rightOf o w (answer ρ u))) k
       ∙ right-some o a (readTree ρ u) v (p .2)
       (λ d b f q. let j = reads-answer u b f (λ u z m. h u z (met-second (p .1) (true-test (readsRight o (asTruth a)) d) m)) in
-          ap (rightOf o a) j ∙ ap (λ x. pick x (value (joined o a b)) (value (decided o a))) d ∙ ap value q)
+      ap (rightOf o a) j ∙ ap (λ x. pick x (value (joined o a b)) (value (decided o a))) d ∙ ap value q)
       (λ d q. ap (λ x. pick x (valueThen (answer ρ u) (λ w. value (joined o a w))) (value (decided o a))) d ∙ ap value q)

@@ -1,0 +1,2 @@
+-- none
+use mathlib.Core.Path.{_≡_}

@@ -1,0 +1,5 @@
+pub mod Rows
+pub mod Lines
+pub mod Faults
+pub mod Replay
+pub mod Recorded
