@@ -1,1 +1,4 @@
 pub mod Faults
+pub mod Sight
+pub mod Judged
+pub mod Step
