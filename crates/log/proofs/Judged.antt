@@ -52,9 +52,10 @@ module _ (t : Rows) where
     pub predicates-judged : All (λ f. f ≡ noFault) (map (untrue ρ (machine .tree)) rs) → All (λ r. ReadsTrue machine σ r) rs × All (λ r. NoneLeaves σ (tree r)) rs
     unfolding untrue
     predicates-judged a =
-        let b = all-unmap (untrue ρ (machine .tree)) rs a in
-        (all-in rs (λ r i. formula-judged ρ σ h (tree r) (all-at seen i) (truth true) (all-at b i) .0),
-        all-in rs (λ r i. formula-judged ρ σ h (tree r) (all-at seen i) (truth true) (all-at b i) .1))
+        let b = all-unmap (untrue ρ (machine .tree)) rs a in (
+          all-in rs (λ r i. formula-judged ρ σ h (tree r) (all-at seen i) (truth true) (all-at b i) .0),
+          all-in rs (λ r i. formula-judged ρ σ h (tree r) (all-at seen i) (truth true) (all-at b i) .1),
+        )
 
     pub judged-predicates : All (λ r. ReadsTrue machine σ r) rs → All (λ r. NoneLeaves σ (tree r)) rs → All (λ f. f ≡ noFault) (map (untrue ρ (machine .tree)) rs)
     unfolding untrue

@@ -2,3 +2,5 @@ pub mod Faults
 pub mod Sight
 pub mod Judged
 pub mod Step
+pub mod Words
+pub mod Values

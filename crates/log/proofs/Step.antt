@@ -95,12 +95,12 @@ module _ (t : Rows) where
         (λ i. by-constant (kindOf t x) _ _ _ _ _ _ (eqb→eq (kindOf t x) 1 i) _ (held .constants x (p .0) (eqb→eq (kindOf t x) 1 i)))
         (λ i. or-cases (ownParameter t e x) (presentVariable t e x) i
         (λ i. let j : kindOf t x ≡ 5 = parameter-owner t ok e x (p .0) i .0 ∙ ap (λ m. 3 + m) concrete in
-            let o = and-split (hasKind t 4 x || hasKind t 5 x) (eqb (ownerOf t x) e) i in
-            by-parameter (kindOf t x) _ _ _ _ _ _ j _ (held .parameters x (p .0) j (eqb→eq (ownerOf t x) e (o .1))))
+        let o = and-split (hasKind t 4 x || hasKind t 5 x) (eqb (ownerOf t x) e) i in
+        by-parameter (kindOf t x) _ _ _ _ _ _ j _ (held .parameters x (p .0) j (eqb→eq (ownerOf t x) e (o .1))))
         (λ i. let j = and-split (hasVariableKind t (1 + machineNumber t e) x) (not (eqb (classOf t e) 0)) i in
-            let v : T (isStateVariable t x) = subst (λ m. T (isVariableOf (1 + m) (kindOf t x))) concrete (j .0) in
-            let w = held .variables (j .1) x (p .0) v in
-            by-variable (kindOf t x) _ _ _ _ _ _ v _ w w))
+        let v : T (isStateVariable t x) = subst (λ m. T (isVariableOf (1 + m) (kindOf t x))) concrete (j .0) in
+        let w = held .variables (j .1) x (p .0) v in
+        by-variable (kindOf t x) _ _ _ _ _ _ v _ w w))
 
     agree-before : Agree (sees t e) never before (reads (blank machine))
     agree-before = record { present = agree-present (blank machine); after = λ x z. absurd z }
@@ -187,9 +187,10 @@ module _ (t : Rows) where
       axioms = λ i. predicates-judged t before (constantsAlone t c) agree-constants (machine .axioms) seen-axioms (h .axiomsNone i);
       guards = predicates-judged t before (reads (blank machine)) agree-before (machine .guards e) seen-guards (h .guardsNone);
       actions =
-          let faults = all-unmap (λ x. notAllowed both (machine .tree) x (machine .action e x)) (machine .concreteVariables) (h .actionsNone) in
-          (all-in (machine .concreteVariables) (λ x i. action-judged t both (reads k) agree-both x (variable-in x i) (machine .action e x) (seen-action x i) (all-at faults i) .0),
-          all-in (machine .concreteVariables) (λ x i. action-judged t both (reads k) agree-both x (variable-in x i) (machine .action e x) (seen-action x i) (all-at faults i) .1));
+          let faults = all-unmap (λ x. notAllowed both (machine .tree) x (machine .action e x)) (machine .concreteVariables) (h .actionsNone) in (
+            all-in (machine .concreteVariables) (λ x i. action-judged t both (reads k) agree-both x (variable-in x i) (machine .action e x) (seen-action x i) (all-at faults i) .0),
+            all-in (machine .concreteVariables) (λ x i. action-judged t both (reads k) agree-both x (variable-in x i) (machine .action e x) (seen-action x i) (all-at faults i) .1),
+          );
     }
 
     judged-parts : Parts → NoFaults

@@ -2,7 +2,9 @@
 use mathlib.Core.Path.{_≡_}
 use mathlib.Core.List.{List, [], _∷_, _++_, map, flatMap}
 use Prim.Native.Nat.{ℕ, suc, _-_, _^_}
+use lib.Dec.{ltb}
 use lib.IntN.{ℤ, pos, negsuc}
+use Rattle.lists.specs.Choice.{pick}
 use Rattle.lists.specs.All.{All, In}
 use Rattle.lists.specs.Below.{oneIf}
 use Rattle.row.specs.Row.{greatest, width, rowBytes, Writable}
@@ -17,11 +19,12 @@ use Rattle.sequent.specs.Required.{ownVariables}
 use Rattle.run.specs.Run.{byKind, State, blank, world, view, AllReadTrue, Step, Taken, Follows}
 use Rattle.log.specs.Rows.{stepTag, valueTag, logged}
 
--- the word of a number, a negative one in two's complement, and of a logged value: "booleans 0 or 1"
+-- the word of a number, a negative one in two's complement; a number outside 64 bits has none, for which 2 ^ 64 stands
 abbrev pub wordOf : ℤ → ℕ
-wordOf (pos n) = n
-wordOf (negsuc n) = 2 ^ 64 - suc n
+wordOf (pos n) = pick (ltb n (2 ^ 63)) n (2 ^ 64)
+wordOf (negsuc n) = pick (ltb n (2 ^ 63)) (2 ^ 64 - suc n) (2 ^ 64)
 
+-- "booleans 0 or 1"
 abbrev pub loggedWord : (type : ValueType) → Value type → ℕ
 loggedWord integer z = wordOf z
 loggedWord boolean b = oneIf b

@@ -32,10 +32,15 @@ pub data Found : Type 0 where
   found : Values → List Line → Found
   bad : ℕ → Found
 
+-- a value that is given, and an after value
+abbrev pub storeBy : Bool → ℕ → ℤ → Values → Values
+storeBy true x z vs = record { present = set (vs .present) x z; after = vs .after }
+storeBy false x z vs = record { present = vs .present; after = set (vs .after) x z }
+
 module _ (t : Rows) where
   -- a logged value: of a constant or a parameter it is read at present, of a variable it is its after value
   abbrev pub store : ℕ → ℕ → ℤ → Values → Values
-  store e x z vs = pick (isGiven t e x) (record { present = set (vs .present) x z; after = vs .after }) (record { present = vs .present; after = set (vs .after) x z })
+  store e x z vs = storeBy (isGiven t e x) x z vs
 
   -- "A step's rows come first": the rows 91 of the event e for the identifiers xs, the next of which is row i
   unfoldable pub readValues : ℕ → List ℕ → ℕ → List Line → Values → Found

@@ -15,6 +15,10 @@ stepTag = 90
 abbrev pub valueTag : ℕ
 valueTag = 91
 
+-- "booleans 0 or 1"
+abbrev pub isLogged : ℕ → ℕ → Bool
+isLogged type w = not (eqb type booleanType) || leb w 1
+
 module _ (t : Rows) where
   -- "all concrete and shared variables"
   abbrev pub isStateVariable : ℕ → Bool
@@ -35,13 +39,9 @@ module _ (t : Rows) where
   abbrev pub isStepRow : Bool → Row → Bool
   isStepRow first r =
       eqb (r .tag) stepTag
-      && (named t eventTag (r .a) && eqb (machineNumber t (r .a)) concreteMachine && Bool·beq (isInitial (r .a)) first)
-      && (eqb (r .b) 0 && eqb (r .c) 0)
-
-  -- "booleans 0 or 1"
-  abbrev pub isLogged : ℕ → ℕ → Bool
-  isLogged type w = not (eqb type booleanType) || leb w 1
+      && ((named t eventTag (r .a) && (eqb (machineNumber t (r .a)) concreteMachine && Bool·beq (isInitial (r .a)) first))
+      && (eqb (r .b) 0 && eqb (r .c) 0))
 
   -- row 91 of the identifier x
   abbrev pub isValueRow : ℕ → Row → Bool
-  isValueRow x r = eqb (r .tag) valueTag && eqb (r .a) x && isLogged (typeOf t x) (r .b) && eqb (r .c) 0
+  isValueRow x r = eqb (r .tag) valueTag && (eqb (r .a) x && (isLogged (typeOf t x) (r .b) && eqb (r .c) 0))
