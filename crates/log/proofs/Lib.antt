@@ -4,3 +4,4 @@ pub mod Judged
 pub mod Step
 pub mod Words
 pub mod Values
+pub mod Lines
