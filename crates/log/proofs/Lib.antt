@@ -5,3 +5,4 @@ pub mod Step
 pub mod Words
 pub mod Values
 pub mod Lines
+pub mod Steps
