@@ -6,3 +6,4 @@ pub mod Words
 pub mod Values
 pub mod Lines
 pub mod Steps
+pub mod Exact

@@ -197,7 +197,7 @@ module _ (t : Rows) where
     pub ready-next : (e : ℕ) (ws : Values) (c s q k : State machine) → Sized ws → Held t e (ws .present) (ws .after) c s q k → Ready (moved t ws) c k
     unfolding stored
     ready-next e ws c s q k size held =
-        let m = move-moved t (machine .concreteVariables) ws size variables-small in
+        let m = move-moved (machine .concreteVariables) ws size variables-small in
         record {
           size = m .size;
           constants = λ x n i. ap (storedValue (machine .type x)) (m .others x (λ j. unlike x i (variable-of t x j))) ∙ held .constants x n i;

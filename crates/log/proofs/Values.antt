@@ -44,7 +44,7 @@ bad-never : {i : ℕ} {vs : Values} {ls : List Line} → bad i ≡ found vs ls �
 bad-never e = true≢false (ap (λ (f : Found). elim f [ found vs ls ↦ false | bad i ↦ true ]) e)
 
 -- a row by its four numbers
-row-parts : (r : Row) {k x b c : ℕ} → r .tag ≡ k → r .a ≡ x → r .b ≡ b → r .c ≡ c → r ≡ record { tag = k; a = x; b = b; c = c }
+pub row-parts : (r : Row) {k x b c : ℕ} → r .tag ≡ k → r .a ≡ x → r .b ≡ b → r .c ≡ c → r ≡ record { tag = k; a = x; b = b; c = c }
 row-parts r {k} {x} {b} f g h j =
     ap (λ n. record { tag = n; a = r .a; b = r .b; c = r .c }) f ∙ ap (λ n. record { tag = k; a = n; b = r .b; c = r .c }) g
     ∙ ap (λ n. record { tag = k; a = x; b = n; c = r .c }) h ∙ ap (λ n. record { tag = k; a = x; b = b; c = n }) j
@@ -236,16 +236,16 @@ pub record Moved (xs : List ℕ) (vs ws : Values) : Type 0 where
   pub moved : (y : ℕ) → In y xs → getD (ws .present) y (pos 0) ≡ getD (vs .after) y (pos 0)
   pub others : (y : ℕ) → (In y xs → ⊥) → getD (ws .present) y (pos 0) ≡ getD (vs .present) y (pos 0)
 
-pub move-moved : (t : Rows) (xs : List ℕ) (vs : Values) → Sized vs → All (λ x. x < 65) xs → Moved xs vs (move t xs vs)
+pub move-moved : (xs : List ℕ) (vs : Values) → Sized vs → All (λ x. x < 65) xs → Moved xs vs (move xs vs)
 unfolding move
-move-moved t [] vs s l = record { size = s; moved = λ y j. absurd (in-nil j); others = λ y j. refl }
-move-moved t (x ∷ xs) vs s l =
+move-moved [] vs s l = record { size = s; moved = λ y j. absurd (in-nil j); others = λ y j. refl }
+move-moved (x ∷ xs) vs s l =
     let z : ℤ = getD (vs .after) x (pos 0) in
     let us : Values = record { present = set (vs .present) x z; after = vs .after } in
-    let r = move-moved t xs us (record { present = length-set (vs .present) x z ∙ s .present; after = s .after }) (all-tail l) in
+    let r = move-moved xs us (record { present = length-set (vs .present) x z ∙ s .present; after = s .after }) (all-tail l) in
     record {
       size = r .size;
-      moved = λ y j. own (move t xs us) y (in-dec y xs) (in-cons j) (r .moved y) (r .others y);
+      moved = λ y j. own (move xs us) y (in-dec y xs) (in-cons j) (r .moved y) (r .others y);
       others = λ y out. r .others y (λ j. out (there j)) ∙ getD-set-other (vs .present) x y z (pos 0) (λ q. out (here q));
     }
   where

@@ -32,10 +32,19 @@ pub data Found : Type 0 where
   found : Values → List Line → Found
   bad : ℕ → Found
 
+-- no value is known before the first row; places 0 to 64
+abbrev pub noValues : Values
+noValues = record { present = replicate 65 (pos 0); after = replicate 65 (pos 0) }
+
 -- a value that is given, and an after value
 abbrev pub storeBy : Bool → ℕ → ℤ → Values → Values
 storeBy true x z vs = record { present = set (vs .present) x z; after = vs .after }
 storeBy false x z vs = record { present = vs .present; after = set (vs .after) x z }
+
+-- "each from the values the last one left": the variables' after values are their present ones then
+unfoldable pub move : List ℕ → Values → Values
+move [] vs = vs
+move (x ∷ xs) vs = move xs (record { present = set (vs .present) x (getD (vs .after) x (pos 0)); after = vs .after })
 
 module _ (t : Rows) where
   -- a logged value: of a constant or a parameter it is read at present, of a variable it is its after value
@@ -48,11 +57,6 @@ module _ (t : Rows) where
   readValues e (x ∷ xs) i [] vs = bad 0
   readValues e (x ∷ xs) i (Malformed ∷ ls) vs = bad i
   readValues e (x ∷ xs) i (Whole r ∷ ls) vs = pick (isValueRow t x r) (readValues e xs (i + 1) ls (store e x (wholeNumber (r .b)) vs)) (bad i)
-
-  -- "each from the values the last one left": the variables' after values are their present ones then
-  unfoldable pub move : List ℕ → Values → Values
-  move [] vs = vs
-  move (x ∷ xs) vs = move xs (record { present = set (vs .present) x (getD (vs .after) x (pos 0)); after = vs .after })
 
   abbrev pub moved : Values → Values
   moved vs = move (machineOf t .concreteVariables) vs
@@ -75,10 +79,6 @@ module _ (t : Rows) where
       pick (isStepRow t (eqb n 0) r)
       (judged i e (readValues e (logged t e) (i + 1) ls vs) (λ rest ws. replayFrom most (n + 1) (i + 1 + length (logged t e)) rest ws))
       (Refused logFault i)
-
-  -- no value is known before the first row; places 0 to 64
-  abbrev pub noValues : Values
-  noValues = record { present = replicate 65 (pos 0); after = replicate 65 (pos 0) }
 
   unfoldable pub replayLog : List ℕ → Replay
   replayLog run = replayFrom (suc (length (lines run))) 0 1 (lines run) noValues
