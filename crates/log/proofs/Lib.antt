@@ -6,4 +6,5 @@ pub mod Words
 pub mod Values
 pub mod Lines
 pub mod Steps
+pub mod Runs
 pub mod Exact

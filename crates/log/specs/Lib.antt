@@ -3,3 +3,4 @@ pub mod Lines
 pub mod Faults
 pub mod Replay
 pub mod Recorded
+pub mod Replayed
