@@ -4,3 +4,4 @@ pub mod Faults
 pub mod Replay
 pub mod Recorded
 pub mod Replayed
+pub mod Refusal
