@@ -1,0 +1,196 @@
+-- A node's answer is a leaf's, or comes from its operands', which have smaller numbers; a predicate is handed on. The measure is three times the node's number and
+-- two more for an expression, one more for a predicate.
+use Prim.Native.Nat.{ℕ, _+_, _*_, _<_}
+use mathlib.Core.Path.{sym, _∙_}
+use native.Mathlib.Omega.{arith}
+use borrow.Author.Needs.{needs}
+use borrow.Fn.Kinds.{In}
+use borrow.Fn.PlainCycle.{Measures, is, falls, and}
+use Rattle.table.specs.Rows.{rowsOf}
+use Rattle.machine.specs.Described.{machineOf}
+use Rattle.answer.specs.Stored.{storedEnv}
+use Rattle.evaluate.proofs.Nodes.{operand-below, leaf-is, both-read, left-read}
+use Rattle.evaluate.proofs.evaluate_expression.Reads as evaluate-expression
+use Rattle.evaluate.proofs.evaluate_expression.Kinds as evaluate-expression-kinds
+use Rattle.evaluate.proofs.+evaluate_expression+evaluate_node+evaluate_predicate.Lts-evaluate_expression as evaluate-expression-lts
+use Rattle.evaluate.proofs.evaluate_node.Reads as evaluate-node
+use Rattle.evaluate.proofs.evaluate_node.Kinds as evaluate-node-kinds
+use Rattle.evaluate.proofs.+evaluate_expression+evaluate_node+evaluate_predicate.Lts-evaluate_node as evaluate-node-lts
+use Rattle.evaluate.proofs.evaluate_predicate.Reads as evaluate-predicate
+use Rattle.evaluate.proofs.evaluate_predicate.Kinds as evaluate-predicate-kinds
+use Rattle.evaluate.proofs.+evaluate_expression+evaluate_node+evaluate_predicate.Lts-evaluate_predicate as evaluate-predicate-lts
+use Rattle.evaluate.proofs.combine.Reads as combine-reads
+use Rattle.evaluate.proofs.is_leaf.Reads as is-leaf-reads
+use Rattle.evaluate.proofs.leaf.Reads as leaf-reads
+use Rattle.evaluate.proofs.operator_at.Reads as operator-at-reads
+use Rattle.evaluate.proofs.reads_right.Reads as reads-right-reads
+use Rattle.operators.proofs.find_operator.Reads as find-operator-reads
+use Rattle.table.proofs.node_field.Reads as node-field-reads
+use Rattle.table.proofs.operand.Reads as operand-reads
+use Rattle.evaluate.proofs.+evaluate_expression+evaluate_node+evaluate_predicate.{
+  statement,
+}
+use Rattle.evaluate.proofs.+evaluate_expression+evaluate_node+evaluate_predicate.Tie.{
+  close,
+}
+
+abbrev μ-evaluate-expression : Measures 3 evaluate-expression-kinds.ps ℕ
+μ-evaluate-expression κs a = 3 * a .1 .1 .1 .1 .0 + 2
+
+abbrev μ-evaluate-node : Measures 3 evaluate-node-kinds.ps ℕ
+μ-evaluate-node κs a = 3 * a .1 .1 .1 .1 .0
+
+abbrev μ-evaluate-predicate : Measures 3 evaluate-predicate-kinds.ps ℕ
+μ-evaluate-predicate κs a = 3 * a .1 .1 .1 .1 .0 + 1
+
+abbrev evaluate-expression-at : ℕ → In 3 evaluate-expression-kinds.ps
+evaluate-expression-at t =
+    and
+    3
+    evaluate-expression-kinds.ps
+    (is 3 evaluate-expression-kinds.ps μ-evaluate-expression t)
+    evaluate-expression.Pre
+
+abbrev evaluate-expression-below : ℕ → In 3 evaluate-expression-kinds.ps
+evaluate-expression-below t =
+    and
+    3
+    evaluate-expression-kinds.ps
+    (falls 3 evaluate-expression-kinds.ps _<_ μ-evaluate-expression t)
+    evaluate-expression.Pre
+
+abbrev evaluate-node-at : ℕ → In 3 evaluate-node-kinds.ps
+evaluate-node-at t =
+    and 3 evaluate-node-kinds.ps (is 3 evaluate-node-kinds.ps μ-evaluate-node t) evaluate-node.Pre
+
+abbrev evaluate-node-below : ℕ → In 3 evaluate-node-kinds.ps
+evaluate-node-below t =
+    and
+    3
+    evaluate-node-kinds.ps
+    (falls 3 evaluate-node-kinds.ps _<_ μ-evaluate-node t)
+    evaluate-node.Pre
+
+abbrev evaluate-predicate-at : ℕ → In 3 evaluate-predicate-kinds.ps
+evaluate-predicate-at t =
+    and
+    3
+    evaluate-predicate-kinds.ps
+    (is 3 evaluate-predicate-kinds.ps μ-evaluate-predicate t)
+    evaluate-predicate.Pre
+
+abbrev evaluate-predicate-below : ℕ → In 3 evaluate-predicate-kinds.ps
+evaluate-predicate-below t =
+    and
+    3
+    evaluate-predicate-kinds.ps
+    (falls 3 evaluate-predicate-kinds.ps _<_ μ-evaluate-predicate t)
+    evaluate-predicate.Pre
+
+pub +evaluate-expression+evaluate-node+evaluate-predicate-spec : {M : Type 1} → statement M
++evaluate-expression+evaluate-node+evaluate-predicate-spec =
+    close
+    μ-evaluate-expression
+    μ-evaluate-node
+    μ-evaluate-predicate
+    (λ t. evaluate-expression-lts.spec (
+      operator-at-reads.Asked,
+      operator-at-reads.Learnt,
+      find-operator-reads.Asked,
+      find-operator-reads.Learnt,
+      evaluate-predicate-below t,
+      evaluate-predicate.Post,
+      evaluate-node-below t,
+      evaluate-node.Post,
+    )
+    (evaluate-expression-at t)
+    evaluate-expression.Post
+    (λ c κs. search needs)
+    (λ c κs. search needs)
+    (λ c κs. let s = c .before .before .before .before .before in
+    (omega (arith, s .pre .0), s .pre .1))
+    (λ c. c .evaluate-predicate .ensures)
+    (λ c κs. let o = c .before .before .before in
+    let s = o .before .before in
+    (omega (arith, s .pre .0), (s .pre .1, o .operator-at .ensures)))
+    (λ c. c .evaluate-node .ensures))
+    (λ t. evaluate-node-lts.spec (
+      node-field-reads.Asked,
+      node-field-reads.Learnt,
+      is-leaf-reads.Asked,
+      is-leaf-reads.Learnt,
+      leaf-reads.Asked,
+      leaf-reads.Learnt,
+      operand-reads.Asked,
+      operand-reads.Learnt,
+      evaluate-expression-below t,
+      evaluate-expression.Post,
+      reads-right-reads.Asked,
+      reads-right-reads.Learnt,
+      combine-reads.Asked,
+      combine-reads.Learnt,
+    )
+    (evaluate-node-at t)
+    evaluate-node.Post
+    (λ c κs. (c .before .pre .1 .0, omega arith))
+    (λ c κs. search needs)
+    (λ c κs. c .before .before .before .before .pre .1 .0)
+    (λ c. let t = c .before in
+    let f = t .before .before in
+    let s = f .before .before in
+    let a = s .args in
+    let rows = rowsOf (a .words .now) in
+    c .leaf .ensures
+    ∙ leaf-is rows (a .n) (a .operator) (f .node-field .result) (s .pre .1 .1) (f .node-field .ensures) (storedEnv (machineOf rows .type) (a .present .now) (a .after .now)) (sym (t .before .is-leaf .ensures) ∙ t .if1 .taken))
+    (λ c κs. search needs)
+    (λ c κs. let t = c .before in
+    let f = t .before .before in
+    let s = f .before .before in
+    let a = s .args in
+    let b = f .node-field .result in
+    let below = operand-below (rowsOf (a .words .now)) (a .n) (a .operator) b (s .pre .1 .1) (f .node-field .ensures) (c .operand .result) b (c .operand .ensures) (sym (t .before .is-leaf .ensures) ∙ t .if1 .left) in
+    (omega (arith, below, s .pre .0), s .pre .1 .0))
+    (λ c κs. search needs)
+    (λ c κs. (c .before .before .before .before .before .before .before .before .pre .1 .0, omega arith))
+    (λ c κs. search needs)
+    (λ c κs. let t = c .before .before .before .before .before .before in
+    let f = t .before .before in
+    let s = f .before .before in
+    let a = s .args in
+    let b = f .node-field .result in
+    let below = operand-below (rowsOf (a .words .now)) (a .n) (a .operator) b (s .pre .1 .1) (f .node-field .ensures) (c .operand2 .result) (c .before .node-field2 .result) (c .operand2 .ensures) (sym (t .before .is-leaf .ensures) ∙ t .if1 .left) in
+    (omega (arith, below, s .pre .0), s .pre .1 .0))
+    (λ c κs. search needs)
+    (λ c. let r = c .before in
+    let y = r .before in
+    let l = y .before .before .before .before in
+    let x = l .before in
+    let t = x .before in
+    let f = t .before .before in
+    let s = f .before .before in
+    let a = s .args in
+    let rows = rowsOf (a .words .now) in
+    c .combine .ensures
+    ∙ both-read rows (a .n) (a .operator) (f .node-field .result) (s .pre .1 .1) (f .node-field .ensures) (storedEnv (machineOf rows .type) (a .present .now) (a .after .now)) (sym (t .before .is-leaf .ensures) ∙ t .if1 .left)
+    (x .operand .result) (x .operand .ensures) (l .evaluate-expression .result) (l .evaluate-expression .ensures)
+    (y .before .node-field2 .result) (y .operand2 .result) (y .before .node-field2 .ensures) (y .operand2 .ensures) (r .evaluate-expression2 .result) (r .evaluate-expression2 .ensures))
+    (λ c κs. search needs)
+    (λ c. let q = c .before .before in
+    let l = q .before in
+    let x = l .before in
+    let t = x .before in
+    let f = t .before .before in
+    let s = f .before .before in
+    let a = s .args in
+    let rows = rowsOf (a .words .now) in
+    c .combine2 .ensures
+    ∙ left-read rows (a .n) (a .operator) (f .node-field .result) (s .pre .1 .1) (f .node-field .ensures) (storedEnv (machineOf rows .type) (a .present .now) (a .after .now)) (sym (t .before .is-leaf .ensures) ∙ t .if1 .left)
+    (x .operand .result) (x .operand .ensures) (l .evaluate-expression .result) (l .evaluate-expression .ensures) (sym (q .reads-right .ensures) ∙ c .before .if2 .left)))
+    λ t. evaluate-predicate-lts.spec
+    (operator-at-reads.Asked, operator-at-reads.Learnt, evaluate-node-below t, evaluate-node.Post)
+    (evaluate-predicate-at t)
+    evaluate-predicate.Post
+    (λ c κs. search needs)
+    (λ c κs. let s = c .before .before in
+    (omega (arith, s .pre .0), (s .pre .1, c .operator-at .ensures)))
+    (λ c. c .evaluate-node .ensures)

@@ -1,0 +1,18 @@
+-- From the operands' numbers.
+use borrow.Author.Needs.{needs}
+use mathlib.Core.Path.{ap₂, _∙_}
+use Rattle.formula.specs.Values.{atMostℤ}
+use Rattle.signed.proofs.Numbers.{seen-is}
+use Rattle.operands.proofs.Operands.{at-most-operands}
+use Rattle.operands.proofs.at_most_answer.Statement.{statement}
+use Rattle.operands.proofs.at_most_answer.Tie as tie
+
+pub at-most-answer-spec : {M : Type 1} → statement M
+at-most-answer-spec =
+    tie.close
+    (tie.spec
+    (λ c κs. search needs)
+    (λ c κs. search needs)
+    (λ c κs. search needs)
+    (λ c κs. search needs)
+    (λ c. let r = c .before .before in let l = r .before in let a = l .before .args in c .both-operands .ensures ∙ at-most-operands (a .left) (a .right) (c .before .at-most .ensures ∙ ap₂ atMostℤ (seen-is (l .as-number .result) (l .as-number .ok) (l .as-number .ensures)) (seen-is (r .as-number2 .result) (r .as-number2 .ok) (r .as-number2 .ensures)))))

@@ -1,0 +1,14 @@
+-- From the operands' values.
+use borrow.Author.Needs.{needs}
+use mathlib.Core.Path.{_∙_}
+use Rattle.operands.proofs.Operands.{equal-operands}
+use Rattle.operands.proofs.equal_answer.Statement.{statement}
+use Rattle.operands.proofs.equal_answer.Tie as tie
+
+pub equal-answer-spec : {M : Type 1} → statement M
+equal-answer-spec =
+    tie.close
+    (tie.spec
+    (λ c κs. search needs)
+    (λ c κs. search needs)
+    (λ c. let a = c .before .before .args in c .both-operands .ensures ∙ equal-operands (a .left) (a .right) (c .before .equal-values .ensures)))

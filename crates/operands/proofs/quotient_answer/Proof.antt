@@ -1,0 +1,19 @@
+-- From the operands' numbers, and whether the division is defined on them.
+use borrow.Author.Needs.{needs}
+use mathlib.Core.Path.{ap₂, _∙_}
+use Rattle.formula.specs.Values.{quotientℤ}
+use Rattle.signed.proofs.Numbers.{numberFound, seen-is}
+use Rattle.operands.proofs.Operands.{quotient-is}
+use Rattle.operands.proofs.quotient_answer.Statement.{statement}
+use Rattle.operands.proofs.quotient_answer.Tie as tie
+
+pub quotient-answer-spec : {M : Type 1} → statement M
+quotient-answer-spec =
+    tie.close
+    (tie.spec
+    (λ c κs. search needs)
+    (λ c κs. search needs)
+    (λ c κs. search needs)
+    (λ c κs. search needs)
+    (λ c κs. search needs)
+    (λ c. let r = c .before .before in let l = r .before in let a = l .before .before .args in c .both-operands .ensures ∙ quotient-is (a .left) (a .right) (l .before .quotient-defined .ensures) (c .before .divide .ensures ∙ ap₂ (λ m n. numberFound (quotientℤ m n)) (seen-is (l .as-number .result) (l .as-number .ok) (l .as-number .ensures)) (seen-is (r .as-number2 .result) (r .as-number2 .ok) (r .as-number2 .ensures)))))

@@ -1,0 +1,19 @@
+-- From the operands' numbers, and whether the division is defined on them.
+use borrow.Author.Needs.{needs}
+use mathlib.Core.Path.{ap₂, _∙_}
+use Rattle.formula.specs.Values.{remainderℤ}
+use Rattle.signed.proofs.Numbers.{numberFound, seen-is}
+use Rattle.operands.proofs.Operands.{remainder-is}
+use Rattle.operands.proofs.remainder_answer.Statement.{statement}
+use Rattle.operands.proofs.remainder_answer.Tie as tie
+
+pub remainder-answer-spec : {M : Type 1} → statement M
+remainder-answer-spec =
+    tie.close
+    (tie.spec
+    (λ c κs. search needs)
+    (λ c κs. search needs)
+    (λ c κs. search needs)
+    (λ c κs. search needs)
+    (λ c κs. search needs)
+    (λ c. let r = c .before .before in let l = r .before in let a = l .before .before .args in c .both-operands .ensures ∙ remainder-is (a .left) (a .right) (l .before .remainder-defined .ensures) (c .before .modulo .ensures ∙ ap₂ (λ m n. numberFound (remainderℤ m n)) (seen-is (l .as-number .result) (l .as-number .ok) (l .as-number .ensures)) (seen-is (r .as-number2 .result) (r .as-number2 .ok) (r .as-number2 .ensures)))))

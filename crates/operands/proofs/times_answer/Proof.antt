@@ -1,0 +1,18 @@
+-- From the operands' numbers.
+use borrow.Author.Needs.{needs}
+use mathlib.Core.Path.{ap₂, _∙_}
+use lib.IntN.{_*ℤ_}
+use Rattle.signed.proofs.Numbers.{numberFound, seen-is}
+use Rattle.operands.proofs.Operands.{times-is}
+use Rattle.operands.proofs.times_answer.Statement.{statement}
+use Rattle.operands.proofs.times_answer.Tie as tie
+
+pub times-answer-spec : {M : Type 1} → statement M
+times-answer-spec =
+    tie.close
+    (tie.spec
+    (λ c κs. search needs)
+    (λ c κs. search needs)
+    (λ c κs. search needs)
+    (λ c κs. search needs)
+    (λ c. let r = c .before .before in let l = r .before in let a = l .before .args in c .both-operands .ensures ∙ times-is (a .left) (a .right) (c .before .multiply .ensures ∙ ap₂ (λ m n. numberFound (m *ℤ n)) (seen-is (l .as-number .result) (l .as-number .ok) (l .as-number .ensures)) (seen-is (r .as-number2 .result) (r .as-number2 .ok) (r .as-number2 .ensures)))))
