@@ -1,7 +1,7 @@
 -- A node's answer by its operator: a leaf's, or what those of its operands give, which have smaller numbers; where the right one is not read, whatever stands for it.
 use Prim.Native.Nat.{ℕ, zero, suc, _≤_, _<_}
 use mathlib.Core.Path.{_≡_, refl, sym, ap, ap₂, _∙_}
-use mathlib.Core.Bool.{Bool, true, false, true≢false}
+use mathlib.Core.Bool.{true, false, true≢false}
 use native.Mathlib.Omega.{arith}
 use borrow.Author.Tests.{ne-eqb}
 use Rattle.lists.specs.Choice.{pick}
@@ -14,7 +14,7 @@ use Rattle.formula.specs.Evaluate.{Env, readsRight}
 use Rattle.machine.specs.Operator.{Operator, literalOf, identifierOf, afterOf, constantOf, unaryOf, binaryOf, divisionOf, connectiveOf, unknown, operatorNumbered}
 use Rattle.machine.specs.Described.{node, treeTo, treeOf}
 use Rattle.machine.proofs.Described.{operand-falls, tree-step}
-use Rattle.answer.specs.Answer.{Answer, answer, rightOf as rightAnswer, unaryAnswer, binaryAnswer, connectiveAnswer}
+use Rattle.answer.specs.Answer.{Answer, answer, rightOf as rightAnswer, binaryAnswer, connectiveAnswer}
 use Rattle.signed.specs.Found.{foundOf, answerOf}
 use Rattle.signed.proofs.Answers.{answer-found}
 use Rattle.signed.specs.declared.Found.{Found}
@@ -50,10 +50,10 @@ right-unread (connectiveOf o) Undefined e r s = refl
 right-unread unknown l e r s = refl
 
 module _ {type : ℕ → ValueType} (ρ : Env type) where
-  abbrev by : Operator → ℕ → Answer → Answer → Answer
-  by o b l r = pick (isLeaf o) (leafAnswer ρ o b) (combined o l r)
+  abbrev byOperator : Operator → ℕ → Answer → Answer → Answer
+  byOperator o b l r = pick (isLeaf o) (leafAnswer ρ o b) (combined o l r)
 
-  node-by : (o : Operator) (b : ℕ) (l r : Tree) → answer ρ (node o b l r) ≡ by o b (answer ρ l) (answer ρ r)
+  node-by : (o : Operator) (b : ℕ) (l r : Tree) → answer ρ (node o b l r) ≡ byOperator o b (answer ρ l) (answer ρ r)
   unfolding answer
   node-by literalOf b l r = refl
   node-by identifierOf b l r = refl
@@ -67,7 +67,7 @@ module _ {type : ℕ → ValueType} (ρ : Env type) where
 
   module _ (t : Rows) where
     abbrev nodeAnswer : ℕ → ℕ → Answer
-    nodeAnswer n operator = by (operatorNumbered operator) (leftOf t n) (answer ρ (treeOf t (operandNode n (leftOf t n)))) (answer ρ (treeOf t (operandNode n (rightOf t n))))
+    nodeAnswer n operator = byOperator (operatorNumbered operator) (leftOf t n) (answer ρ (treeOf t (operandNode n (leftOf t n)))) (answer ρ (treeOf t (operandNode n (rightOf t n))))
 
     answer-none : answer ρ (treeOf t 0) ≡ nodeAnswer 0 bottomNumber
     unfolding treeOf treeTo operatorNumbered
@@ -94,10 +94,10 @@ module _ (t : Rows) (n operator b : ℕ) (so : operator ≡ operatorAt t n) (sb 
   operand-below x k e f = omega (arith, operand-falls n k (node-first f))
 
   module _ {type : ℕ → ValueType} (ρ : Env type) where
-    node-read : answer ρ (treeOf t n) ≡ by ρ (operatorNumbered operator) b (answer ρ (treeOf t (operandNode n b))) (answer ρ (treeOf t (operandNode n (rightOf t n))))
+    node-read : answer ρ (treeOf t n) ≡ byOperator ρ (operatorNumbered operator) b (answer ρ (treeOf t (operandNode n b))) (answer ρ (treeOf t (operandNode n (rightOf t n))))
     node-read =
         answer-node ρ t n
-        ∙ sym (ap₂ (λ k x. by ρ (operatorNumbered k) x (answer ρ (treeOf t (operandNode n x))) (answer ρ (treeOf t (operandNode n (rightOf t n))))) so sb)
+        ∙ sym (ap₂ (λ k x. byOperator ρ (operatorNumbered k) x (answer ρ (treeOf t (operandNode n x))) (answer ρ (treeOf t (operandNode n (rightOf t n))))) so sb)
 
     pub leaf-is : isLeaf (operatorNumbered operator) ≡ true → foundOf (leafAnswer ρ (operatorNumbered operator) b) ≡ foundOf (answer ρ (treeOf t n))
     leaf-is e = sym (ap foundOf (node-read ∙ chosen (isLeaf (operatorNumbered operator)) _ _ e))
@@ -107,7 +107,8 @@ module _ (t : Rows) (n operator b : ℕ) (so : operator ≡ operatorAt t n) (sb 
       left-is = ap answerOf sl ∙ answer-found (answer ρ (treeOf t x)) ∙ ap (λ x. answer ρ (treeOf t x)) sx
 
       -- from any answer that gives what the right operand's does
-      node-combined : (r : Answer) → combined (operatorNumbered operator) (answerOf l) r ≡ combined (operatorNumbered operator) (answerOf l) (answer ρ (treeOf t (operandNode n (rightOf t n))))
+      node-combined : (r : Answer)
+          → combined (operatorNumbered operator) (answerOf l) r ≡ combined (operatorNumbered operator) (answerOf l) (answer ρ (treeOf t (operandNode n (rightOf t n))))
           → foundOf (combined (operatorNumbered operator) (answerOf l) r) ≡ foundOf (answer ρ (treeOf t n))
       node-combined r f =
           let o = operatorNumbered operator in

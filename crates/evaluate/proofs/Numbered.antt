@@ -49,11 +49,11 @@ numbered-behind P ks other h n behind =
     alone false b e t = absurd (rw e at t)
 
 -- the numbers of the operators that take operands
-abbrev pub takers : List ℕ
-takers = 6 ∷ 10 ∷ 11 ∷ 12 ∷ 13 ∷ 14 ∷ 15 ∷ 20 ∷ 21 ∷ 22 ∷ 32 ∷ 33 ∷ 34 ∷ 35 ∷ 36 ∷ []
+abbrev pub withOperands : List ℕ
+withOperands = 6 ∷ 10 ∷ 11 ∷ 12 ∷ 13 ∷ 14 ∷ 15 ∷ 20 ∷ 21 ∷ 22 ∷ 32 ∷ 33 ∷ 34 ∷ 35 ∷ 36 ∷ []
 
-pub leaf-behind : (n : ℕ) → Behind n takers Unit → isLeaf (operatorNumbered n) ≡ true
-leaf-behind n h = numbered-behind isLeaf takers tt tt n h
+pub leaf-behind : (n : ℕ) → Behind n withOperands Unit → isLeaf (operatorNumbered n) ≡ true
+leaf-behind n h = numbered-behind isLeaf withOperands tt tt n h
 
 combined-leaf : (o : Operator) (l r : Answer) → isLeaf o ≡ true → Truth false ≡ foundOf (combined o l r)
 combined-leaf literalOf l r e = refl
@@ -77,8 +77,8 @@ reads-leaf (divisionOf o) l e = absurd (true≢false (sym e))
 reads-leaf (connectiveOf o) l e = absurd (true≢false (sym e))
 reads-leaf unknown l e = refl
 
-pub combined-behind : (n : ℕ) (l r : Answer) → Behind n takers Unit → Truth false ≡ foundOf (combined (operatorNumbered n) l r)
+pub combined-behind : (n : ℕ) (l r : Answer) → Behind n withOperands Unit → Truth false ≡ foundOf (combined (operatorNumbered n) l r)
 combined-behind n l r h = combined-leaf (operatorNumbered n) l r (leaf-behind n h)
 
-pub reads-behind : (n : ℕ) (l : Found) → Behind n takers Unit → false ≡ readsRightOf (operatorNumbered n) l
+pub reads-behind : (n : ℕ) (l : Found) → Behind n withOperands Unit → false ≡ readsRightOf (operatorNumbered n) l
 reads-behind n l h = reads-leaf (operatorNumbered n) l (leaf-behind n h)

@@ -113,7 +113,7 @@ fn reads_right(operator: u64, left: Found) -> bool
 }
 
 // The value of an identifier of a type, as it is stored.
-fn stored_value(sort: u64, value: i64) -> Found
+pub fn stored_value(sort: u64, value: i64) -> Found
     ensures { λ r. ⌜ r ≡ foundOf (within (wrap (typeNumbered sort) (storedValue (typeNumbered sort) value))) ⌝ }
 {
     if sort == sort::BOOLEAN {
@@ -123,7 +123,7 @@ fn stored_value(sort: u64, value: i64) -> Found
 }
 
 // The value in a place of a list; 0 past its end.
-fn value_at(values: &[i64], x: u64) -> i64
+pub fn value_at(values: &[i64], x: u64) -> i64
     ensures { λ r. ⌜ r ≡ getD (now (values .entry)) x (pos 0) ⌝ }
 {
     let i = x as usize;

@@ -1,10 +1,10 @@
 -- How the code combines answers is how the definition has it, by cases of the operands' answers.
-use mathlib.Core.Path.{_≡_, refl, sym, ap, _∙_}
+use mathlib.Core.Path.{_≡_, refl, sym, ap, ap₂, _∙_}
 use mathlib.Core.Bool.{Bool, true, false, not, _&&_, true≢false, Bool·beq}
-use lib.IntN.{pos, negℤ, _+ℤ_, _-ℤ_, _*ℤ_}
+use lib.IntN.{negℤ, _+ℤ_, _-ℤ_, _*ℤ_}
 use Rattle.lists.specs.Choice.{pick}
 use Rattle.formula.specs.Values.{AnyValue, number, truth, asNumber, asTruth, equalℤ, equalValue, lessℤ, atMostℤ, quotientℤ, remainderℤ}
-use Rattle.formula.specs.Tree.{Unary, bool, negation, logicalNot, plus, minus, times, equal, less, atMost, iff, Division, quotient, remainder, and, or, implies}
+use Rattle.formula.specs.Tree.{Unary, bool, negation, logicalNot, plus, minus, times, equal, less, atMost, iff, quotient, remainder, and, or, implies}
 use Rattle.formula.specs.Evaluate.{unaryValue, binaryValue, divisionDefined, divisionValue}
 use Rattle.answer.specs.Answer.{Answer, value, outside, undefined, within, valueThen, operands, always, unaryAnswer, binaryAnswer, divisionAnswer, connectiveAnswer}
 use Rattle.signed.specs.Found.{foundOf, answerOf}
@@ -35,7 +35,8 @@ module _ (defined : AnyValue → AnyValue → Bool) (f : AnyValue → AnyValue �
   found-pick false a = refl
 
   -- from whether the operator is defined and what it gives, worked out beforehand
-  both-operands : (l r : Found) → bothOperands (defined (valueOf l) (valueOf r)) l r (foundOf (within (f (valueOf l) (valueOf r)))) ≡ foundOf (operands defined f (answerOf l) (answerOf r))
+  both-operands : (l r : Found)
+      → bothOperands (defined (valueOf l) (valueOf r)) l r (foundOf (within (f (valueOf l) (valueOf r)))) ≡ foundOf (operands defined f (answerOf l) (answerOf r))
   unfolding operands
   both-operands (Number a) (Number b) = found-pick (defined (number a) (number b)) _
   both-operands (Number a) (Truth b) = found-pick (defined (number a) (truth b)) _
@@ -67,12 +68,16 @@ module _ (l r : Found) {k : Found} where
   pub quotient-is : {d : Bool} → d ≡ divisionDefined quotient (valueOf l) (valueOf r) → k ≡ foundOf (within (number (quotientℤ (asNumber (valueOf l)) (asNumber (valueOf r)))))
       → bothOperands d l r k ≡ foundOf (divisionAnswer quotient (answerOf l) (answerOf r))
   unfolding divisionAnswer
-  quotient-is h e = ap (λ d. bothOperands d l r k) h ∙ ap (bothOperands (divisionDefined quotient (valueOf l) (valueOf r)) l r) e ∙ both-operands (divisionDefined quotient) (divisionValue quotient) l r
+  quotient-is h e =
+      ap₂ (λ d k. bothOperands d l r k) h e
+      ∙ both-operands (divisionDefined quotient) (divisionValue quotient) l r
 
   pub remainder-is : {d : Bool} → d ≡ divisionDefined remainder (valueOf l) (valueOf r) → k ≡ foundOf (within (number (remainderℤ (asNumber (valueOf l)) (asNumber (valueOf r)))))
       → bothOperands d l r k ≡ foundOf (divisionAnswer remainder (answerOf l) (answerOf r))
   unfolding divisionAnswer
-  remainder-is h e = ap (λ d. bothOperands d l r k) h ∙ ap (bothOperands (divisionDefined remainder (valueOf l) (valueOf r)) l r) e ∙ both-operands (divisionDefined remainder) (divisionValue remainder) l r
+  remainder-is h e =
+      ap₂ (λ d k. bothOperands d l r k) h e
+      ∙ both-operands (divisionDefined remainder) (divisionValue remainder) l r
 
 module _ (l r : Found) {b : Bool} where
   pub equal-operands : b ≡ equalValue (valueOf l) (valueOf r) → bothOperands true l r (Truth b) ≡ foundOf (binaryAnswer equal (answerOf l) (answerOf r))

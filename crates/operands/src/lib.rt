@@ -5,9 +5,9 @@ use signed::at_most;
 use signed::divide;
 use signed::equal;
 use signed::less;
-use signed::modulo;
 use signed::multiply;
 use signed::negate;
+use signed::remainder;
 use signed::subtract;
 ghost use mathlib.Core.Path.{_≡_};
 ghost use Rattle.formula.specs.Values.{asNumber, asTruth, equalValue};
@@ -106,6 +106,7 @@ fn quotient_defined(left: Found, right: Found) -> bool
     !equal_values(right, Found::Number(0))
 }
 
+// The same of mod.
 fn remainder_defined(left: Found, right: Found) -> bool
     ensures { λ r. ⌜ r ≡ divisionDefined remainder (valueOf left) (valueOf right) ⌝ }
 {
@@ -113,7 +114,7 @@ fn remainder_defined(left: Found, right: Found) -> bool
 }
 
 // 01, Rows: "20 = (both integer or both boolean)".
-fn equal_values(left: Found, right: Found) -> bool
+pub fn equal_values(left: Found, right: Found) -> bool
     ensures { λ r. ⌜ r ≡ equalValue (valueOf left) (valueOf right) ⌝ }
 {
     let same_type = is_truth(left) == is_truth(right);
@@ -176,7 +177,7 @@ pub fn remainder_answer(left: Found, right: Found) -> Found
         defined,
         left,
         right,
-        modulo(as_number(left), as_number(right)),
+        remainder(as_number(left), as_number(right)),
     )
 }
 

@@ -289,8 +289,8 @@ module _ (a b : ℤ) (f : SFits w64 a) (g : SFits w64 b) (m n : ℕ) (d : m ≡ 
   pub divide-is : {k : ℕ} → k ≡ m / n → signedℤ (differ a b) k ≡ quotientℤ a b
   divide-is h = simp (h, apart-is, left, right) (quotient-parts a b)
 
-  pub modulo-is : {k : ℕ} → k ≡ m % n → signedℤ (ltZ (seen a) (pos 0)) k ≡ remainderℤ a b
-  modulo-is h = simp (h, sign-is a f, left, right) (remainder-parts a b)
+  pub remainder-is : {k : ℕ} → k ≡ m % n → signedℤ (ltZ (seen a) (pos 0)) k ≡ remainderℤ a b
+  remainder-is h = simp (h, sign-is a f, left, right) (remainder-parts a b)
 
 pub negate-is : (a : ℤ) → SFits w64 a → (m : ℕ) → m ≡ natAbs (seen a) → signedℤ (leZ (pos 0) (seen a)) m ≡ negℤ a
 negate-is a f m d = let l : m ≡ natAbs a = d ∙ ap natAbs (toZ-ofZ w64 a f) in simp (not-sign-is a f, l) (opposite-parts a)

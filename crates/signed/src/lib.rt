@@ -140,7 +140,7 @@ pub fn divide(a: i64, b: i64) -> Found
 }
 
 // 01, Rows: "a mod b is a − b × (a ÷ b)". The least number by −1 is 0.
-pub fn modulo(a: i64, b: i64) -> Found
+pub fn remainder(a: i64, b: i64) -> Found
     ensures { λ r. ⌜ r ≡ foundOf (within (number (remainderℤ a b))) ⌝ }
 {
     of_parts(a < 0, magnitude_remainder(magnitude(a), magnitude(b)))

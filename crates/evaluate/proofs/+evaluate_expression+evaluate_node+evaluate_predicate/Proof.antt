@@ -140,15 +140,18 @@ pub +evaluate-expression+evaluate-node+evaluate-predicate-spec : {M : Type 1} �
     let s = f .before .before in
     let a = s .args in
     let rows = rowsOf (a .words .now) in
+    let ρ = storedEnv (machineOf rows .type) (a .present .now) (a .after .now) in
     c .leaf .ensures
-    ∙ leaf-is rows (a .n) (a .operator) (f .node-field .result) (s .pre .1 .1) (f .node-field .ensures) (storedEnv (machineOf rows .type) (a .present .now) (a .after .now)) (sym (t .before .is-leaf .ensures) ∙ t .if1 .taken))
+    ∙ leaf-is rows (a .n) (a .operator) (f .node-field .result) (s .pre .1 .1) (f .node-field .ensures) ρ (sym (t .before .is-leaf .ensures) ∙ t .if1 .taken))
     (λ c κs. search needs)
     (λ c κs. let t = c .before in
     let f = t .before .before in
     let s = f .before .before in
     let a = s .args in
     let b = f .node-field .result in
-    let below = operand-below (rowsOf (a .words .now)) (a .n) (a .operator) b (s .pre .1 .1) (f .node-field .ensures) (c .operand .result) b (c .operand .ensures) (sym (t .before .is-leaf .ensures) ∙ t .if1 .left) in
+    let below =
+    operand-below (rowsOf (a .words .now)) (a .n) (a .operator) b (s .pre .1 .1) (f .node-field .ensures)
+    (c .operand .result) b (c .operand .ensures) (sym (t .before .is-leaf .ensures) ∙ t .if1 .left) in
     (omega (arith, below, s .pre .0), s .pre .1 .0))
     (λ c κs. search needs)
     (λ c κs. (c .before .before .before .before .before .before .before .before .pre .1 .0, omega arith))
@@ -158,7 +161,9 @@ pub +evaluate-expression+evaluate-node+evaluate-predicate-spec : {M : Type 1} �
     let s = f .before .before in
     let a = s .args in
     let b = f .node-field .result in
-    let below = operand-below (rowsOf (a .words .now)) (a .n) (a .operator) b (s .pre .1 .1) (f .node-field .ensures) (c .operand2 .result) (c .before .node-field2 .result) (c .operand2 .ensures) (sym (t .before .is-leaf .ensures) ∙ t .if1 .left) in
+    let below =
+    operand-below (rowsOf (a .words .now)) (a .n) (a .operator) b (s .pre .1 .1) (f .node-field .ensures)
+    (c .operand2 .result) (c .before .node-field2 .result) (c .operand2 .ensures) (sym (t .before .is-leaf .ensures) ∙ t .if1 .left) in
     (omega (arith, below, s .pre .0), s .pre .1 .0))
     (λ c κs. search needs)
     (λ c. let r = c .before in
@@ -170,8 +175,9 @@ pub +evaluate-expression+evaluate-node+evaluate-predicate-spec : {M : Type 1} �
     let s = f .before .before in
     let a = s .args in
     let rows = rowsOf (a .words .now) in
+    let ρ = storedEnv (machineOf rows .type) (a .present .now) (a .after .now) in
     c .combine .ensures
-    ∙ both-read rows (a .n) (a .operator) (f .node-field .result) (s .pre .1 .1) (f .node-field .ensures) (storedEnv (machineOf rows .type) (a .present .now) (a .after .now)) (sym (t .before .is-leaf .ensures) ∙ t .if1 .left)
+    ∙ both-read rows (a .n) (a .operator) (f .node-field .result) (s .pre .1 .1) (f .node-field .ensures) ρ (sym (t .before .is-leaf .ensures) ∙ t .if1 .left)
     (x .operand .result) (x .operand .ensures) (l .evaluate-expression .result) (l .evaluate-expression .ensures)
     (y .before .node-field2 .result) (y .operand2 .result) (y .before .node-field2 .ensures) (y .operand2 .ensures) (r .evaluate-expression2 .result) (r .evaluate-expression2 .ensures))
     (λ c κs. search needs)
@@ -183,8 +189,9 @@ pub +evaluate-expression+evaluate-node+evaluate-predicate-spec : {M : Type 1} �
     let s = f .before .before in
     let a = s .args in
     let rows = rowsOf (a .words .now) in
+    let ρ = storedEnv (machineOf rows .type) (a .present .now) (a .after .now) in
     c .combine2 .ensures
-    ∙ left-read rows (a .n) (a .operator) (f .node-field .result) (s .pre .1 .1) (f .node-field .ensures) (storedEnv (machineOf rows .type) (a .present .now) (a .after .now)) (sym (t .before .is-leaf .ensures) ∙ t .if1 .left)
+    ∙ left-read rows (a .n) (a .operator) (f .node-field .result) (s .pre .1 .1) (f .node-field .ensures) ρ (sym (t .before .is-leaf .ensures) ∙ t .if1 .left)
     (x .operand .result) (x .operand .ensures) (l .evaluate-expression .result) (l .evaluate-expression .ensures) (sym (q .reads-right .ensures) ∙ c .before .if2 .left)))
     λ t. evaluate-predicate-lts.spec
     (operator-at-reads.Asked, operator-at-reads.Learnt, evaluate-node-below t, evaluate-node.Post)

@@ -29,8 +29,11 @@ reads-right-spec =
     (λ c. numbered-at (λ o. readsRightOf o (c .before .args .left)) 21 (c .match .keys9) refl)
     (λ c. numbered-at (λ o. readsRightOf o (c .before .args .left)) 22 (c .match .keys10) refl)
     (λ c. numbered-at (λ o. readsRightOf o (c .before .args .left)) 32 (c .match .keys11) refl)
-    (λ c. let a = c .before .before .before .args in numbered-at (λ o. readsRightOf o (a .left)) 33 (c .before .before .match .keys12) (ap₂ (λ p q. p && q) (c .before .is-value .ensures) (c .as-truth .ensures)))
-    (λ c. let a = c .before .before .before .args in numbered-at (λ o. readsRightOf o (a .left)) 34 (c .before .before .match .keys13) (ap₂ (λ p q. p && q) (c .before .is-value2 .ensures) (ap not (c .as-truth2 .ensures))))
-    (λ c. let a = c .before .before .before .args in numbered-at (λ o. readsRightOf o (a .left)) 35 (c .before .before .match .keys14) (ap₂ (λ p q. p && q) (c .before .is-value3 .ensures) (c .as-truth3 .ensures)))
+    (λ c. let a = c .before .before .before .args in
+    numbered-at (λ o. readsRightOf o (a .left)) 33 (c .before .before .match .keys12) (ap₂ (λ p q. p && q) (c .before .is-value .ensures) (c .as-truth .ensures)))
+    (λ c. let a = c .before .before .before .args in
+    numbered-at (λ o. readsRightOf o (a .left)) 34 (c .before .before .match .keys13) (ap₂ (λ p q. p && q) (c .before .is-value2 .ensures) (ap not (c .as-truth2 .ensures))))
+    (λ c. let a = c .before .before .before .args in
+    numbered-at (λ o. readsRightOf o (a .left)) 35 (c .before .before .match .keys14) (ap₂ (λ p q. p && q) (c .before .is-value3 .ensures) (c .as-truth3 .ensures)))
     (λ c. numbered-at (λ o. readsRightOf o (c .before .before .args .left)) 36 (c .before .match .keys15) (c .is-value4 .ensures))
     (λ c. reads-behind (c .before .args .operator) (c .before .args .left) (c .match .rest)))

@@ -11,6 +11,8 @@ and-answer-spec =
     (tie.spec
     (λ c κs. search needs)
     (λ c κs. search needs)
-    (λ c. let t = c .before .before in c .bool-answer .ensures ∙ and-true (t .before .args .left) (t .before .args .right) (sym (t .as-truth .ensures) ∙ c .before .if1 .taken))
+    (λ c. let t = c .before .before in
+    c .bool-answer .ensures ∙ and-true (t .before .args .left) (t .before .args .right) (sym (t .as-truth .ensures) ∙ c .before .if1 .taken))
     (λ c κs. search needs)
-    (λ c. let t = c .before .before in c .fault-or .ensures ∙ and-false (t .before .args .left) (t .before .args .right) (sym (t .as-truth .ensures) ∙ c .before .if1 .left)))
+    (λ c. let t = c .before .before in
+    c .fault-or .ensures ∙ and-false (t .before .args .left) (t .before .args .right) (sym (t .as-truth .ensures) ∙ c .before .if1 .left)))

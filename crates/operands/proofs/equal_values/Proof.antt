@@ -29,5 +29,6 @@ equal-values-spec =
     let a = x .before .args in
     ap₂ (λ s t. s && t)
     (ap₂ (λ s t. s && t) (ap₂ Bool·beq (x .is-truth .ensures) (y .is-truth2 .ensures)) (ap₂ Bool·beq (p .as-truth .ensures) (q .as-truth2 .ensures)))
-    (c .equal .ensures ∙ ap₂ equalℤ (seen-is (m .as-number .result) (m .as-number .ok) (m .as-number .ensures)) (seen-is (n .as-number2 .result) (n .as-number2 .ok) (n .as-number2 .ensures)))
+    (c .equal .ensures
+    ∙ ap₂ equalℤ (seen-is (m .as-number .result) (m .as-number .ok) (m .as-number .ensures)) (seen-is (n .as-number2 .result) (n .as-number2 .ok) (n .as-number2 .ensures)))
     ∙ equal-parts (valueOf (a .left)) (valueOf (a .right))))

@@ -16,4 +16,11 @@ iff-answer-spec =
     (λ c κs. search needs)
     (λ c κs. search needs)
     (λ c κs. search needs)
-    (λ c. let r = c .before .before in let l = r .before in let a = l .before .args in c .fault-or2 .ensures ∙ ap (faultOr (a .left)) (c .before .fault-or .ensures ∙ ap₂ (λ p q. faultOr (a .right) (Truth (Bool·beq p q))) (l .as-truth .ensures) (r .as-truth2 .ensures)) ∙ iff-is (a .left) (a .right)))
+    (λ c. let r = c .before .before in
+    let l = r .before in
+    let a = l .before .args in
+    c .fault-or2 .ensures
+    ∙ ap (faultOr (a .left))
+    (c .before .fault-or .ensures
+    ∙ ap₂ (λ p q. faultOr (a .right) (Truth (Bool·beq p q))) (l .as-truth .ensures) (r .as-truth2 .ensures))
+    ∙ iff-is (a .left) (a .right)))

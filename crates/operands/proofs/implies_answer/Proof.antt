@@ -11,6 +11,8 @@ implies-answer-spec =
     (tie.spec
     (λ c κs. search needs)
     (λ c κs. search needs)
-    (λ c. let t = c .before .before in c .bool-answer .ensures ∙ implies-true (t .before .args .left) (t .before .args .right) (sym (t .as-truth .ensures) ∙ c .before .if1 .taken))
+    (λ c. let t = c .before .before in
+    c .bool-answer .ensures ∙ implies-true (t .before .args .left) (t .before .args .right) (sym (t .as-truth .ensures) ∙ c .before .if1 .taken))
     (λ c κs. search needs)
-    (λ c. let t = c .before .before in c .fault-or .ensures ∙ implies-false (t .before .args .left) (t .before .args .right) (sym (t .as-truth .ensures) ∙ c .before .if1 .left)))
+    (λ c. let t = c .before .before in
+    c .fault-or .ensures ∙ implies-false (t .before .args .left) (t .before .args .right) (sym (t .as-truth .ensures) ∙ c .before .if1 .left)))

@@ -14,4 +14,7 @@ negation-answer-spec =
     (λ c κs. search needs)
     (λ c κs. search needs)
     (λ c κs. search needs)
-    (λ c. let n = c .before .before in c .fault-or .ensures ∙ negation-is (n .before .args .operand) (c .before .negate .ensures ∙ ap (λ m. numberFound (negℤ m)) (seen-is (n .as-number .result) (n .as-number .ok) (n .as-number .ensures)))))
+    (λ c. let n = c .before .before in
+    let m = seen-is (n .as-number .result) (n .as-number .ok) (n .as-number .ensures) in
+    c .fault-or .ensures
+    ∙ negation-is (n .before .args .operand) (c .before .negate .ensures ∙ ap (λ m. numberFound (negℤ m)) m)))

@@ -14,4 +14,7 @@ or-answer-spec =
     (λ c. let t = c .before in or-true (t .before .args .left) (t .before .args .right) (sym (t .as-truth .ensures) ∙ c .if1 .taken))
     (λ c κs. search needs)
     (λ c κs. search needs)
-    (λ c. let t = c .before .before .before in let a = t .before .args in c .fault-or .ensures ∙ ap (faultOr (a .left)) (c .before .bool-answer .ensures) ∙ or-false (a .left) (a .right) (sym (t .as-truth .ensures) ∙ c .before .before .if1 .left)))
+    (λ c. let t = c .before .before .before in
+    let a = t .before .args in
+    c .fault-or .ensures
+    ∙ ap (faultOr (a .left)) (c .before .bool-answer .ensures) ∙ or-false (a .left) (a .right) (sym (t .as-truth .ensures) ∙ c .before .before .if1 .left)))

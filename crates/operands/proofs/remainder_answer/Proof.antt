@@ -16,4 +16,10 @@ remainder-answer-spec =
     (λ c κs. search needs)
     (λ c κs. search needs)
     (λ c κs. search needs)
-    (λ c. let r = c .before .before in let l = r .before in let a = l .before .before .args in c .both-operands .ensures ∙ remainder-is (a .left) (a .right) (l .before .remainder-defined .ensures) (c .before .modulo .ensures ∙ ap₂ (λ m n. numberFound (remainderℤ m n)) (seen-is (l .as-number .result) (l .as-number .ok) (l .as-number .ensures)) (seen-is (r .as-number2 .result) (r .as-number2 .ok) (r .as-number2 .ensures)))))
+    (λ c. let r = c .before .before in
+    let l = r .before in
+    let a = l .before .before .args in
+    let m = seen-is (l .as-number .result) (l .as-number .ok) (l .as-number .ensures) in
+    let n = seen-is (r .as-number2 .result) (r .as-number2 .ok) (r .as-number2 .ensures) in
+    c .both-operands .ensures
+    ∙ remainder-is (a .left) (a .right) (l .before .remainder-defined .ensures) (c .before .remainder .ensures ∙ ap₂ (λ m n. numberFound (remainderℤ m n)) m n)))

@@ -12,6 +12,8 @@ right-or-spec =
     tie.close
     (tie.spec
     (λ c κs. search needs)
-    (λ c. let a = c .before .before .args in c .fault-or .ensures ∙ sym (ap (λ d. faultOr (a .right) (pick d (a .next) Undefined)) (c .before .if1 .taken)))
+    (λ c. let a = c .before .before .args in
+    c .fault-or .ensures ∙ sym (ap (λ d. faultOr (a .right) (pick d (a .next) Undefined)) (c .before .if1 .taken)))
     (λ c κs. search needs)
-    (λ c. let a = c .before .before .args in c .fault-or2 .ensures ∙ sym (ap (λ d. faultOr (a .right) (pick d (a .next) Undefined)) (c .before .if1 .left))))
+    (λ c. let a = c .before .before .args in
+    c .fault-or2 .ensures ∙ sym (ap (λ d. faultOr (a .right) (pick d (a .next) Undefined)) (c .before .if1 .left))))

@@ -12,4 +12,6 @@ add-spec =
     (λ c κs. search needs)
     (λ c κs. search needs)
     (λ c κs. search needs)
-    (λ c. let s = c .before .before .before in c .sum .ensures ∙ ap numberFound (add-is (s .args .a) (s .args .b) (s .fits .a) (s .fits .b) _ _ (c .before .before .magnitude .ensures) (c .before .magnitude2 .ensures))))
+    (λ c. let s = c .before .before .before in
+    c .sum .ensures
+    ∙ ap numberFound (add-is (s .args .a) (s .args .b) (s .fits .a) (s .fits .b) _ _ (c .before .before .magnitude .ensures) (c .before .magnitude2 .ensures))))

@@ -13,4 +13,8 @@ divide-spec =
     (λ c κs. search needs)
     (λ c κs. search needs)
     (λ c κs. search needs)
-    (λ c. let s = c .before .before .before .before in c .of-parts .ensures ∙ ap numberFound (divide-is (s .args .a) (s .args .b) (s .fits .a) (s .fits .b) _ _ (c .before .before .before .magnitude .ensures) (c .before .before .magnitude2 .ensures) (c .before .magnitude-quotient .ensures))))
+    (λ c. let s = c .before .before .before .before in
+    c .of-parts .ensures
+    ∙ ap numberFound
+    (divide-is (s .args .a) (s .args .b) (s .fits .a) (s .fits .b) _ _
+    (c .before .before .before .magnitude .ensures) (c .before .before .magnitude2 .ensures) (c .before .magnitude-quotient .ensures))))

@@ -15,7 +15,16 @@ multiply-spec =
     (λ c κs. search needs)
     (λ c κs. search needs)
     (λ c κs. search needs)
-    (λ c. let m = c .before .before .before .magnitude .result in let n = c .before .before .magnitude2 .result in record { fits = omega (arith, leb-true (m * n) 9223372036854775808 (sym (c .before .product-fits .ensures) ∙ c .if1 .taken)) })
+    (λ c. let m = c .before .before .before .magnitude .result in
+    let n = c .before .before .magnitude2 .result in
+    record { fits = omega (arith, leb-true (m * n) 9223372036854775808 (sym (c .before .product-fits .ensures) ∙ c .if1 .taken)) })
     (λ c κs. search needs)
-    (λ c. let k = c .before .before .before in let s = k .before .before in c .of-parts .ensures ∙ ap numberFound (multiply-is (s .args .a) (s .args .b) (s .fits .a) (s .fits .b) _ _ (k .before .magnitude .ensures) (k .magnitude2 .ensures)))
-    (λ c. let k = c .before .before in let s = k .before .before in sym (multiply-outside (s .args .a) (s .args .b) (s .fits .a) (s .fits .b) _ _ (k .before .magnitude .ensures) (k .magnitude2 .ensures) (sym (c .before .product-fits .ensures) ∙ c .if1 .left))))
+    (λ c. let k = c .before .before .before in
+    let s = k .before .before in
+    c .of-parts .ensures
+    ∙ ap numberFound (multiply-is (s .args .a) (s .args .b) (s .fits .a) (s .fits .b) _ _ (k .before .magnitude .ensures) (k .magnitude2 .ensures)))
+    (λ c. let k = c .before .before in
+    let s = k .before .before in
+    sym
+    (multiply-outside (s .args .a) (s .args .b) (s .fits .a) (s .fits .b) _ _ (k .before .magnitude .ensures) (k .magnitude2 .ensures)
+    (sym (c .before .product-fits .ensures) ∙ c .if1 .left))))
