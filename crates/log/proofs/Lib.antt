@@ -8,3 +8,4 @@ pub mod Lines
 pub mod Steps
 pub mod Runs
 pub mod Exact
+pub mod FirstFault
