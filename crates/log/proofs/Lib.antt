@@ -9,3 +9,4 @@ pub mod Steps
 pub mod Runs
 pub mod Exact
 pub mod FirstFault
+pub mod BadRows

@@ -107,16 +107,16 @@ unfolding lines
 lines-formed bytes = to-formed (length bytes) bytes
 
 -- ---- whole rows
-nothing-more : {l : Line} {ls : List Line} → _≡_ {A = List Line} [] (l ∷ ls) → ⊥
+pub nothing-more : {l : Line} {ls : List Line} → _≡_ {A = List Line} [] (l ∷ ls) → ⊥
 nothing-more {ls = ls} e = let z : 0 ≡ suc (length ls) = ap length e in omega (arith, z)
 
-head-is : {l m : Line} {ls ms : List Line} → l ∷ ls ≡ m ∷ ms → l ≡ m
+pub head-is : {l m : Line} {ls ms : List Line} → l ∷ ls ≡ m ∷ ms → l ≡ m
 head-is {l} e = ap (λ xs. getD xs 0 l) e
 
-tail-is : {l m : Line} {ls ms : List Line} → l ∷ ls ≡ m ∷ ms → ls ≡ ms
+pub tail-is : {l m : Line} {ls ms : List Line} → l ∷ ls ≡ m ∷ ms → ls ≡ ms
 tail-is e = ap (drop 1) e
 
-whole-never : {r : Row} → Malformed ≡ Whole r → ⊥
+pub whole-never : {r : Row} → Malformed ≡ Whole r → ⊥
 whole-never e = true≢false (ap (λ (l : Line). elim l [ Whole r ↦ false | Malformed ↦ true ]) e)
 
 -- a run without rows is empty
