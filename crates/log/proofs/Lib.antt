@@ -10,3 +10,4 @@ pub mod Runs
 pub mod Exact
 pub mod FirstFault
 pub mod BadRows
+pub mod Refusals
