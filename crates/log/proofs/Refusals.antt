@@ -31,7 +31,7 @@ use Rattle.log.specs.Lines.{lines}
 use Rattle.log.specs.Faults.{noFault, logFault, stepFault}
 use Rattle.log.specs.Replay.{Values, Found, found, bad, readValues, moved, judged, replayFrom, noValues, replayLog}
 use Rattle.log.specs.Recorded.{valueRow, loggedValue}
-use Rattle.log.specs.Refusal.{Begins, beginning, Begun, SameConstants, stateBefore}
+use Rattle.log.specs.Refusal.{Begins, StepFault, beginning, Begun, SameConstants, stateBefore}
 use Rattle.log.specs.Refusal.{Refusal, empty, bad-step, bad-value, ends-inside, step-fault, after-step}
 use Rattle.log.proofs.Step.{Held, Allowed, fault-allowed, allowed-fault}
 use Rattle.log.proofs.FirstFault.{number-fault, fault-number}
@@ -284,3 +284,90 @@ module _ (t : Rows) where
     refused-marked zero first n i bytes vs c s number row is-first enough at r = absurd (omega (arith, enough))
     refused-marked (suc most) first n i bytes vs c s number row is-first enough at r =
         lines-marked most (refused-marked most) first n i bytes vs c s number row is-first enough at (lines bytes) refl r
+
+    -- ---- the other way round: what a refusal marks is the reply
+    module _ (most : ℕ) (first : Bool) (c s : State machine) (n i : ℕ) (bytes : List ℕ) (vs : Values) (is-first : eqb n 0 ≡ first) (at : At first vs c s) where
+      bad-step-refused : BadBytes t (isStepRow t first) bytes → replayFrom t (suc most) n i (lines bytes) vs ≡ Refused logFault i
+      bad-step-refused b =
+          bad-row-refused most n i vs (lines bytes) (subst (λ f. Bad (isStepRow t f) (lines bytes)) (sym is-first) (bad-bytes t (isStepRow t first) bytes b))
+
+      module _ (e : ℕ) {xs : List ℕ} {v : State machine} {more : List ℕ} (begun : Begun t first e xs v more bytes) where
+        abbrev valueLines : List Line
+        valueLines = map (λ x. Whole (valueRow t x (v x))) xs ++ lines more
+
+        row-passes : T (isStepRow t (eqb n 0) (stepRow e))
+        row-passes = subst (λ f. T (isStepRow t f (stepRow e))) (sym is-first) (begun .good)
+
+        stop-refused : (y : ℕ) (ys : List ℕ) (j : ℕ) → logged t e ≡ xs ++ (y ∷ ys) → Stops t e y (lines more) (i + 1 + length xs) j
+            → replayFrom t (suc most) n i (lines bytes) vs ≡ Refused logFault j
+        stop-refused y ys j are stops =
+            let reads = begun-reads (y ∷ ys) (i + 1) vs are (at-size first vs c s at) begun in
+            let stopped : Stopped t e (logged t e) (i + 1) valueLines vs j =
+            record { before = xs; identifier = y; later = ys; values = reads .values; rest = lines more; are = are; reads = reads .reads; stops = stops } in
+            ap (λ ls. replayFrom t (suc most) n i ls vs) (begun-lines begun)
+            ∙ step-judged most n i vs (stepRow e) valueLines row-passes (bad j) (stops-read t e (logged t e) (i + 1) valueLines vs j stopped)
+
+      module _ (e : ℕ) (d q k : State machine) {more : List ℕ} (same : SameConstants t first c d) (begun : Begun t first e (logged t e) (loggedValue t d q k) more bytes) where
+        abbrev stepLines : List Line
+        stepLines = valueLines e begun
+
+        begun-row : StepRow t first (stepRow e)
+        begun-row = step-row t first (stepRow e) (begun .good)
+
+        step-read : Reads t e (logged t e) (i + 1) stepLines vs (lines more) (loggedValue t d q k)
+        step-read = begun-reads [] (i + 1) vs (sym (append-nil (logged t e))) (at-size first vs c s at) begun
+
+        begun-held : Held t e (step-read .values .present) (step-read .values .after) d (stateBefore t first s) q k
+        begun-held = held-at first e (i + 1) stepLines (lines more) vs (step-read .values) c s d q k at same (begun-row .initial) (step-read .are) (step-read .reads)
+
+        step-fault-refused : (m : ℕ) → StepFault t (machine .role e) e d (stateBefore t first s) q k m → replayFrom t (suc most) n i (lines bytes) vs ≡ Refused m i
+        step-fault-refused m f =
+            let ws : Values = step-read .values in
+            let p = fault-number t ok e (begun-row .isEvent) (begun-row .concrete) (ws .present) (ws .after) d (stateBefore t first s) q k begun-held m f in
+            ap (λ ls. replayFrom t (suc most) n i ls vs) (begun-lines begun)
+            ∙ fault-refused most n i vs (stepRow e) stepLines (row-passes e begun) ws (lines more) (step-read .reads) m (p .0) (p .1)
+
+        after-step-replays : Allowed t (machine .role e) e d (stateBefore t first s) q k
+            → replayFrom t (suc most) n i (lines bytes) vs ≡ replayFrom t most (n + 1) (i + 1 + length (logged t e)) (lines more) (moved t (step-read .values))
+        after-step-replays allowed =
+            let ws : Values = step-read .values in
+            ap (λ ls. replayFrom t (suc most) n i ls vs) (begun-lines begun)
+            ∙ step-goes-on most n i vs (stepRow e) stepLines (row-passes e begun) ws (lines more) (step-read .reads)
+            (allowed-fault t ok e (begun-row .isEvent) (begun-row .concrete) (ws .present) (ws .after) d (stateBefore t first s) q k begun-held allowed)
+
+        after-step-ready : Ready t (moved t (step-read .values)) d k
+        after-step-ready =
+            let ws : Values = step-read .values in
+            let size = read-size t e (logged t e) (i + 1) stepLines vs ws (lines more) (at-size first vs c s at) (step-read .reads) in
+            ready-next t ok e ws d (stateBefore t first s) q k size begun-held
+
+    marked-refused : {first : Bool} {c s : State machine} {i : ℕ} {bytes : List ℕ} {number row : ℕ} (most n : ℕ) (vs : Values) → Refusal t first c s i bytes number row
+        → eqb n 0 ≡ first → length (lines bytes) < most → At first vs c s → replayFrom t most n i (lines bytes) vs ≡ Refused number row
+    unfolding replayFrom
+    marked-refused zero n vs r is-first enough at = absurd (omega (arith, enough))
+    marked-refused (suc most) n vs (empty {i = i}) is-first enough at =
+        ap (λ ls. replayFrom t (suc most) n i ls vs) (lines-none [] refl) ∙ ap (λ b. pick b (Refused logFault 0) (Steps (n - 1))) is-first
+    marked-refused (suc most) n vs (bad-step {first = first} {c = c} {s = s} {i = i} {bytes = bytes} some b) is-first enough at = bad-step-refused most first c s n i bytes vs is-first at (some, b)
+    marked-refused (suc most) n vs (bad-value {first = first} {c = c} {s = s} {i = i} {bytes = bytes} e xs ys y v more begun are some b) is-first enough at =
+        stop-refused most first c s n i bytes vs is-first at e begun y ys (i + 1 + length xs) are (inr (bad-bytes t (isValueRow t y) more (some, b), refl))
+    marked-refused (suc most) n vs (ends-inside {first = first} {c = c} {s = s} {i = i} {bytes = bytes} e xs ys y v begun are) is-first enough at =
+        stop-refused most first c s n i bytes vs is-first at e begun y ys 0 are (inl (lines-none [] refl, refl))
+    marked-refused (suc most) n vs (step-fault {first = first} {c = c} {s = s} {i = i} {bytes = bytes} {n = m} e d q k more same begun f) is-first enough at =
+        step-fault-refused most first c s n i bytes vs is-first at e d q k same begun m f
+    marked-refused (suc most) n vs (after-step {first = first} {c = c} {s = s} {i = i} {bytes = bytes} e d q k more same begun axioms step inside r) is-first enough at =
+        let few : length (lines more) < most = (let l = begun-length begun in omega (arith, l, enough)) in
+        after-step-replays most first c s n i bytes vs is-first at e d q k same begun (record { axioms = axioms; step = step; inside = inside })
+        ∙ marked-refused most (n + 1) (moved t (step-read most first c s n i bytes vs is-first at e d q k same begun .values)) r (ne-eqb (n + 1) 0 (λ z. omega (arith, z))) few
+        (after-step-ready most first c s n i bytes vs is-first at e d q k same begun)
+
+  -- ---- the whole log
+  -- what a log is refused for
+  abbrev pub RefusalOf : List ℕ → ℕ → ℕ → Type 0
+  RefusalOf run number row = Refusal t true (blank machine) (blank machine) 1 run number row
+
+  pub refusal-exact : Obeys t → (run : List ℕ) (number row : ℕ) → (replayLog t run ≡ Refused number row) ↔ RefusalOf run number row
+  unfolding replayLog
+  refusal-exact ok run number row = (
+    refused-marked ok (suc (length (lines run))) true 0 1 run noValues (blank machine) (blank machine) number row refl (omega arith) (no-values t),
+    λ r. marked-refused ok (suc (length (lines run))) 0 noValues r refl (omega arith) (no-values t),
+  )
