@@ -41,10 +41,10 @@ use Rattle.log.proofs.Steps.{Ready, LoggedAre, stored-logged, held-firs
 use Rattle.log.proofs.BadRows.{Starts, Bad, BadBytes, bad-malformed, bad-whole, whole-bad, bad-bytes, bytes-bad, Stops, Stopped, read-stops, stops-read}
 use Rattle.log.proofs.Runs.{steps-never, map-same, map-map, map-length, StepRow, step-row, no-values}
 
-refused-number : {m n i j : ℕ} → Refused m i ≡ Refused n j → m ≡ n
+pub refused-number : {m n i j : ℕ} → Refused m i ≡ Refused n j → m ≡ n
 refused-number {m} e = ap (λ (r : Replay). elim r [ Steps n ↦ m | Refused number row ↦ number ]) e
 
-refused-row : {m n i j : ℕ} → Refused m i ≡ Refused n j → i ≡ j
+pub refused-row : {m n i j : ℕ} → Refused m i ≡ Refused n j → i ≡ j
 refused-row {i = i} e = ap (λ (r : Replay). elim r [ Steps n ↦ i | Refused number row ↦ row ]) e
 
 module _ (t : Rows) where
