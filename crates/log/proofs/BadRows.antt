@@ -1,17 +1,17 @@
 -- Reading the rows 91 of a step stops exactly at the first identifier whose row is missing or bad: at the end of the log, or at a row that is torn, in no row form or
 -- unexpected. By induction on the identifiers; and what a bad row is, of rows as of bytes.
-use Prim.Native.Nat.{ℕ, suc, _+_}
-use mathlib.Core.Path.{_≡_, refl, sym, ap, ap₂, _∙_, subst}
-use mathlib.Core.Bool.{Bool, true, false, true≢false}
-use mathlib.Core.List.{List, [], _∷_, _++_, map, flatMap, append-nil}
+use Prim.Native.Nat.{ℕ, _+_}
+use mathlib.Core.Path.{_≡_, refl, sym, ap, _∙_, subst}
+use mathlib.Core.Bool.{Bool, true, false}
+use mathlib.Core.List.{List, [], _∷_, _++_, flatMap, append-nil}
 use mathlib.Core.Logic.{_⊎_, inl, inr}
 use native.Mathlib.Omega.{arith}
-use lib.Dec.{T, not-T}
+use lib.Dec.{T}
 use lib.ListN.{length}
 use Rattle.lists.specs.Choice.{pick}
-use Rattle.lists.specs.All.{All, all-nil, all-cons}
+use Rattle.lists.specs.All.{all-nil, all-cons}
 use Rattle.lists.proofs.All.{all-head}
-use Rattle.row.specs.Row.{greatest, width, rowBytes, Writable}
+use Rattle.row.specs.Row.{width, rowBytes}
 use Rattle.row.specs.declared.Row.{Row}
 use Rattle.row.specs.declared.Line.{Line}
 use Rattle.row.specs.declared.Line.the-variants.{Whole, Malformed}
@@ -22,8 +22,8 @@ use Rattle.log.specs.Rows.{isValueRow}
 use Rattle.log.specs.Lines.{lines}
 use Rattle.log.specs.Replay.{Values, Found, found, bad, store, readValues}
 use Rattle.log.specs.Refusal.{Begins}
-use Rattle.log.proofs.Values.{bad-never, First, read-first}
-use Rattle.log.proofs.Lines.{nothing-more, head-is, whole-never, lines-none, lines-nothing, Opens, lines-open, open-lines}
+use Rattle.log.proofs.Values.{bad-never, read-first}
+use Rattle.log.proofs.Lines.{nothing-more, head-is, whole-never, lines-none, lines-nothing, lines-open, open-lines}
 
 -- ---- a row that is bad
 

@@ -8,10 +8,10 @@ use mathlib.Core.Logic.{_⊎_, inl, inr}
 use native.Mathlib.Omega.{arith}
 use lib.Dec.{T, eqb}
 use lib.IntN.{ℤ}
-use borrow.Author.Tests.{eqb-true, eqb-false, eq-eqb, ne-eqb}
+use borrow.Author.Tests.{eqb-true, eq-eqb, ne-eqb}
 use Rattle.lists.specs.Choice.{pick}
 use Rattle.lists.specs.All.{All, all-nil, all-cons, In, here, there}
-use Rattle.lists.proofs.All.{all-in, all-at, all-unmap}
+use Rattle.lists.proofs.All.{all-at}
 use Rattle.formula.specs.Values.{AnyValue, truth, wrap, equalValue}
 use Rattle.formula.specs.Tree.{Tree}
 use Rattle.formula.specs.Evaluate.{Env}
@@ -20,24 +20,22 @@ use Rattle.formula.proofs.Truth.{test-true, true-test}
 use Rattle.formula.proofs.Values.{wrap-injective, equal-value-eq, eq-equal-value}
 use Rattle.formula.proofs.Mentions.{Agree}
 use Rattle.answer.specs.Answer.{Answer, value, outside, undefined, answer}
-use Rattle.answer.specs.Met.{NoneLeaves}
 use Rattle.answer.specs.Stored.{storedEnv}
 use Rattle.answer.proofs.Mentions.{answer-agree}
 use Rattle.table.specs.Rows.{Rows, named, machineNumber, classOf, refinedBy}
 use Rattle.machine.specs.Machine.{Action, unassigned, becomesEqual, becomesSuchThat, Machine}
 use Rattle.machine.specs.Machine.{Role, abstractInitialisation, abstractOrdinary, concreteInitialisation, refining, convergent, anticipated}
-use Rattle.machine.specs.Described.{roleNumbered, machineOf}
+use Rattle.machine.specs.Described.{machineOf}
 use Rattle.machine.proofs.Roles.{RoleSays}
 use Rattle.sequent.specs.Required.{ownVariables}
 use Rattle.rules.proofs.Obeys.{Obeys}
 use Rattle.rules.proofs.Events.{event-says}
-use Rattle.run.specs.Run.{State, blank, world, view, ReadsTrue, AllReadTrue, Allows}
+use Rattle.run.specs.Run.{State, blank, world, view}
 use Rattle.log.specs.Rows.{isInitial}
-use Rattle.log.specs.Faults.{noFault, outsideFault, undefinedFault, logFault, differs, faultOf, firstFault, untrue, notAllowed, stepFault}
-use Rattle.log.specs.Recorded.{ActionInside, AllInside, constantsAlone}
+use Rattle.log.specs.Faults.{noFault, logFault, differs, faultOf, firstFault, untrue, notAllowed, stepFault}
+use Rattle.log.specs.Recorded.{constantsAlone}
 use Rattle.log.specs.Refusal.{First, fault-here, fault-later, FormulaFault, outside-term, undefined-term, other-value, ActionFault, FirstUntrue, AxiomsMet}
 use Rattle.log.specs.Refusal.{StepFault, axiom-fault, guard-fault, action-fault}
-use Rattle.log.proofs.Faults.{differs-none, none-differs}
 use Rattle.log.proofs.Sight.{never, sees, aConstant, ActionSeen}
 use Rattle.log.proofs.Judged.{agree-less, agree-own, formula-judged, judged-formula, predicates-judged, judged-predicates, action-judged, judged-action}
 use Rattle.log.proofs.Step.{Held, aVariable, variable-in, agree-before, agree-both, agree-constants, seen-action, seen-axioms, seen-guards}

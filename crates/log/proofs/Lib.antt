@@ -10,4 +10,5 @@ pub mod BadRows
 pub mod Steps
 pub mod Runs
 pub mod Refusals
+pub mod Marks
 pub mod Exact

@@ -1,25 +1,24 @@
 -- 02, request 5: a log is refused with a number and a row exactly where its refusal marks them. Both ways one step at a time: a step's rows are read and it has no fault, or
 -- its rows stop, or it has a fault; by induction on how many steps there are at most.
-use Prim.Native.Nat.{ℕ, zero, suc, _+_, _-_, _≤_, _<_}
-use mathlib.Core.Path.{_≡_, refl, sym, ap, ap₂, _∙_, subst}
-use mathlib.Core.Bool.{Bool, true, false, true≢false, not}
-use mathlib.Core.List.{List, [], _∷_, _++_, map, flatMap, append-nil}
-use mathlib.Core.Logic.{_⊎_, inl, inr, _↔_}
+use Prim.Native.Nat.{ℕ, zero, suc, _+_, _-_, _<_}
+use mathlib.Core.Path.{_≡_, refl, sym, ap, _∙_, subst}
+use mathlib.Core.Bool.{Bool, true, false, not}
+use mathlib.Core.List.{List, [], _∷_, _++_, map, append-nil}
+use mathlib.Core.Logic.{inl, inr, _↔_}
 use native.Mathlib.Omega.{arith}
-use lib.Dec.{T, eqb, eqb→eq}
+use lib.Dec.{T, eqb}
 use lib.ListN.{length, length-append}
 use borrow.Author.Tests.{eqb-true, eqb-false, eq-eqb, ne-eqb}
 use Rattle.lists.specs.Choice.{pick}
 use Rattle.lists.specs.All.{All, In}
 use Rattle.lists.proofs.All.{all-tail, all-left, all-unmap}
 use Rattle.lists.proofs.Distinct.{Distinct, pairwise-left}
-use Rattle.row.specs.Row.{greatest, width, rowBytes, Writable}
 use Rattle.row.specs.declared.Row.{Row}
 use Rattle.row.specs.declared.Line.{Line}
 use Rattle.row.specs.declared.Line.the-variants.{Whole, Malformed}
 use Rattle.formula.proofs.Truth.{test-true, true-test}
 use Rattle.answer.specs.Stored.{stored}
-use Rattle.table.specs.Rows.{Rows, named, machineNumber}
+use Rattle.table.specs.Rows.{Rows}
 use Rattle.machine.specs.Machine.{Machine}
 use Rattle.machine.specs.Described.{machineOf}
 use Rattle.rules.proofs.Obeys.{Obeys}
@@ -31,14 +30,14 @@ use Rattle.log.specs.Lines.{lines}
 use Rattle.log.specs.Faults.{noFault, logFault, stepFault}
 use Rattle.log.specs.Replay.{Values, Found, found, bad, readValues, moved, judged, replayFrom, noValues, replayLog}
 use Rattle.log.specs.Recorded.{valueRow, loggedValue}
-use Rattle.log.specs.Refusal.{Begins, StepFault, beginning, Begun, SameConstants, stateBefore}
+use Rattle.log.specs.Refusal.{StepFault, beginning, Begun, SameConstants, stateBefore}
 use Rattle.log.specs.Refusal.{Refusal, empty, bad-step, bad-value, ends-inside, step-fault, after-step}
 use Rattle.log.proofs.Step.{Held, Allowed, fault-allowed, allowed-fault}
 use Rattle.log.proofs.FirstFault.{number-fault, fault-number}
 use Rattle.log.proofs.Values.{LineFormed, Sized, valueAt, read-size, read-rows, Reads, rows-read}
-use Rattle.log.proofs.Lines.{lines-none, lines-nothing, lines-formed, Opens, lines-open, open-lines}
+use Rattle.log.proofs.Lines.{lines-none, lines-nothing, lines-formed, lines-open, open-lines}
 use Rattle.log.proofs.Steps.{Ready, LoggedAre, stored-logged, held-first, held-later, ready-next, logged-distinct, logged-small}
-use Rattle.log.proofs.BadRows.{Starts, Bad, BadBytes, bad-malformed, bad-whole, whole-bad, bad-bytes, bytes-bad, Stops, Stopped, read-stops, stops-read}
+use Rattle.log.proofs.BadRows.{Bad, BadBytes, bad-malformed, bad-whole, whole-bad, bad-bytes, bytes-bad, Stops, Stopped, read-stops, stops-read}
 use Rattle.log.proofs.Runs.{steps-never, map-same, map-map, map-length, StepRow, step-row, no-values}
 
 pub refused-number : {m n i j : ℕ} → Refused m i ≡ Refused n j → m ≡ n
@@ -93,7 +92,7 @@ module _ (t : Rows) where
       ap lines (b .bytesAre) ∙ open-lines (beginning t e xs v) more (b .inForm)
       ∙ ap (λ ls. Whole (stepRow e) ∷ (ls ++ lines more)) (map-map Whole (λ x. valueRow t x (v x)) xs)
 
-  begun-length : {first : Bool} {e : ℕ} {xs : List ℕ} {v : State machine} {more bytes : List ℕ} → Begun t first e xs v more bytes
+  pub begun-length : {first : Bool} {e : ℕ} {xs : List ℕ} {v : State machine} {more bytes : List ℕ} → Begun t first e xs v more bytes
       → length (lines bytes) ≡ suc (length xs + length (lines more))
   begun-length {xs = xs} {v = v} {more = more} b =
       ap length (begun-lines b) ∙ ap suc (length-append (map (λ x. Whole (valueRow t x (v x))) xs) (lines more) ∙ ap (λ n. n + length (lines more)) (map-length _ xs))
@@ -274,8 +273,9 @@ module _ (t : Rows) where
         where
           by-row : (b : Bool) → isStepRow t (eqb n 0) w ≡ b → Refusal t first c s i bytes number row
           by-row true g =
-              let row = step-row t (eqb n 0) w (true-test _ g) .isRow in
-              step-marked (w .a) ls (h ∙ ap (λ w. Whole w ∷ ls) row) (subst (λ w. T (isStepRow t (eqb n 0) w)) row (true-test _ g)) (ap (λ w. replayFrom t (suc most) n i (Whole w ∷ ls) vs) (sym row) ∙ r)
+              let is = step-row t (eqb n 0) w (true-test _ g) .isRow in
+              step-marked (w .a) ls (h ∙ ap (λ w. Whole w ∷ ls) is) (subst (λ w. T (isStepRow t (eqb n 0) w)) is (true-test _ g))
+              (ap (λ w. replayFrom t (suc most) n i (Whole w ∷ ls) vs) (sym is) ∙ r)
           by-row false g =
               let b = bad-whole (isStepRow t (eqb n 0)) w ls g in
               marked (sym (bad-row-refused most n i vs (Whole w ∷ ls) b) ∙ r) (bad-row-marked (subst (Bad (isStepRow t (eqb n 0))) (sym h) b))

@@ -53,7 +53,7 @@ pub map-map : {A B C : Type 0} (f : B → C) (g : A → B) (xs : List A) → map
 map-map f g [] = refl
 map-map f g (x ∷ xs) = ap (λ ys. f (g x) ∷ ys) (map-map f g xs)
 
-pub map-join : {A B : Type 0} (f : A → B) (xs ys : List A) → map f (xs ++ ys) ≡ map f xs ++ map f ys
+map-join : {A B : Type 0} (f : A → B) (xs ys : List A) → map f (xs ++ ys) ≡ map f xs ++ map f ys
 map-join f [] ys = refl
 map-join f (x ∷ xs) ys = ap (λ zs. f x ∷ zs) (map-join f xs ys)
 
@@ -112,7 +112,7 @@ module _ (t : Rows) where
         initial = beq-is (isInitial t e) first (k .1);
       }
 
-  pub row-step : (first : Bool) (e : ℕ) → T (named t 40 e) → machineNumber t e ≡ 2 → isInitial t e ≡ first → isStepRow t first (stepRow e) ≡ true
+  row-step : (first : Bool) (e : ℕ) → T (named t 40 e) → machineNumber t e ≡ 2 → isInitial t e ≡ first → isStepRow t first (stepRow e) ≡ true
   row-step first e n m i =
       test-true _ (and-join (named t 40 e && (eqb (machineNumber t e) 2 && Bool·beq (isInitial t e) first)) true
       (and-join (named t 40 e) (eqb (machineNumber t e) 2 && Bool·beq (isInitial t e) first) n
