@@ -92,12 +92,13 @@ module _ (t : Rows) where
       ap lines (b .bytesAre) ∙ open-lines (beginning t e xs v) more (b .inForm)
       ∙ ap (λ ls. Whole (stepRow e) ∷ (ls ++ lines more)) (map-map Whole (λ x. valueRow t x (v x)) xs)
 
+  -- how many rows these are
   pub begun-length : {first : Bool} {e : ℕ} {xs : List ℕ} {v : State machine} {more bytes : List ℕ} → Begun t first e xs v more bytes
       → length (lines bytes) ≡ suc (length xs + length (lines more))
   begun-length {xs = xs} {v = v} {more = more} b =
       ap length (begun-lines b) ∙ ap suc (length-append (map (λ x. Whole (valueRow t x (v x))) xs) (lines more) ∙ ap (λ n. n + length (lines more)) (map-length _ xs))
 
-  -- ---- the values at hand where a step begins
+  -- ---- the values at hand where a step begins: those of the constants and of the state before it, at the initialisation any
   abbrev At : Bool → Values → State machine → State machine → Type 0
   At true vs c s = Sized vs
   At false vs c s = Ready t vs c s
@@ -125,6 +126,7 @@ module _ (t : Rows) where
   values-logged false e ws c i = stored-logged t e ws (constantsOf false ws c) (parametersOf false ws) (λ j. absurd (subst T i j)) (λ j. refl)
 
   module _ (ok : Obeys t) where
+    -- the stored values of a step that was read are those that its rows log
     held-at : (first : Bool) (e i : ℕ) (ls rest : List Line) (vs ws : Values) (c s d q k : State machine) → At first vs c s → SameConstants t first c d → isInitial t e ≡ first
         → LoggedAre t e ws d q k → readValues t e (logged t e) i ls vs ≡ found ws rest → Held t e (ws .present) (ws .after) d (stateBefore t first s) q k
     held-at true e i ls rest vs ws c s d q k at same initial are reads = held-first t ok e ws d q k are initial (blank machine)
