@@ -32,6 +32,14 @@ use Rattle.log.proofs.Sight.{never, ActionSeen}
 pub all-both : {A : Type 0} {P Q : A → Type 0} (xs : List A) → All P xs → All Q xs → All (λ x. P x × Q x) xs
 all-both xs p q = all-in xs (λ x i. (all-at p i, all-at q i))
 
+-- fewer after values count: none, or that of one variable
+module _ {type : ℕ → ValueType} {P Q : ℕ → Bool} {ρ σ : Env type} (h : Agree P Q ρ σ) where
+  pub agree-less : Agree P never ρ σ
+  agree-less = record { present = h .present; after = λ y z. absurd z }
+
+  pub agree-own : (x : ℕ) → T (Q x) → Agree P (eqb x) ρ σ
+  agree-own x v = record { present = h .present; after = λ y z. subst (λ y. ρ .after y ≡ σ .after y) (eqb→eq x y z) (h .after x v) }
+
 module _ {type : ℕ → ValueType} {P Q : ℕ → Bool} (ρ σ : Env type) (h : Agree P Q ρ σ) (u : Tree) (s : T (mentions P Q u)) (v : AnyValue) where
   -- one formula, which has to have the value v
   pub formula-judged : faultOf v (answer ρ u) ≡ noFault → (readTree σ u ≡ some v) × NoneLeaves σ u
@@ -66,25 +74,19 @@ module _ (t : Rows) where
     abbrev same : ρ .after x ≡ σ .after x
     same = h .after x variable
 
-    less : Agree P never ρ σ
-    less = record { present = h .present; after = λ y z. absurd z }
-
-    own : Agree P (eqb x) ρ σ
-    own = record { present = h .present; after = λ y z. subst (λ y. ρ .after y ≡ σ .after y) (eqb→eq x y z) same }
-
     pub action-judged : (a : Action) → ActionSeen (machine .tree) P x a → notAllowed ρ (machine .tree) x a ≡ noFault → Allows machine σ x a × ActionInside t σ a
     unfolding notAllowed untrue
     action-judged unassigned s e =
         (sym same ∙ wrap-injective (machine .type x) (ρ .after x) (ρ .present x) (differs-none _ _ e) ∙ h .present x s, tt)
     action-judged (becomesEqual r) s e =
-        let p = formula-judged ρ σ less (tree r) s (wrap (machine .type x) (ρ .after x)) e in
+        let p = formula-judged ρ σ (agree-less h) (tree r) s (wrap (machine .type x) (ρ .after x)) e in
         (p .0 ∙ ap (λ w. some (wrap (machine .type x) w)) same, p .1)
-    action-judged (becomesSuchThat r) s e = formula-judged ρ σ own (tree r) s (truth true) e
+    action-judged (becomesSuchThat r) s e = formula-judged ρ σ (agree-own h x variable) (tree r) s (truth true) e
 
     pub judged-action : (a : Action) → ActionSeen (machine .tree) P x a → Allows machine σ x a → ActionInside t σ a → notAllowed ρ (machine .tree) x a ≡ noFault
     unfolding notAllowed untrue
     judged-action unassigned s e i =
         none-differs (wrap (machine .type x) (ρ .after x)) (wrap (machine .type x) (ρ .present x)) (ap (wrap (machine .type x)) (same ∙ e ∙ sym (h .present x s)))
     judged-action (becomesEqual r) s e i =
-        judged-formula ρ σ less (tree r) s (wrap (machine .type x) (ρ .after x)) (e ∙ ap (λ w. some (wrap (machine .type x) w)) (sym same)) i
-    judged-action (becomesSuchThat r) s e i = judged-formula ρ σ own (tree r) s (truth true) e i
+        judged-formula ρ σ (agree-less h) (tree r) s (wrap (machine .type x) (ρ .after x)) (e ∙ ap (λ w. some (wrap (machine .type x) w)) (sym same)) i
+    judged-action (becomesSuchThat r) s e i = judged-formula ρ σ (agree-own h x variable) (tree r) s (truth true) e i

@@ -2,9 +2,13 @@ pub mod Faults
 pub mod Sight
 pub mod Judged
 pub mod Step
+pub mod FirstFault
 pub mod Words
 pub mod Values
 pub mod Lines
+pub mod BadRows
 pub mod Steps
 pub mod Runs
+pub mod Refusals
+pub mod Marks
 pub mod Exact

@@ -1,8 +1,9 @@
--- The rows of a run's bytes: one row after the other, and a run all of whose rows are in the row form is exactly their written forms.
+-- The rows of a run's bytes: one row after the other, and rows in the row form that a run begins with, or consists of, are exactly their
+-- written forms.
 use Prim.Native.Nat.{ℕ, zero, suc, _+_, _-_, _≤_, _<_, _^_}
 use mathlib.Core.Path.{_≡_, refl, sym, ap, ap₂, _∙_, subst}
 use mathlib.Core.Bool.{Bool, true, false, true≢false}
-use mathlib.Core.List.{List, [], _∷_, _++_, map, flatMap}
+use mathlib.Core.List.{List, [], _∷_, _++_, map, flatMap, append-assoc, append-nil}
 use native.Mathlib.Omega.{arith}
 use borrow.Author.Tests.{eqb-true, eqb-false, ltb-true, ltb-false, eq-eqb, ne-eqb, lt-ltb, le-ltb}
 use lib.Dec.{T, ltb, eqb}
@@ -106,43 +107,70 @@ unfolding lines
 lines-formed bytes = to-formed (length bytes) bytes
 
 -- ---- whole rows
-nothing-more : {l : Line} {ls : List Line} → _≡_ {A = List Line} [] (l ∷ ls) → ⊥
+pub nothing-more : {l : Line} {ls : List Line} → _≡_ {A = List Line} [] (l ∷ ls) → ⊥
 nothing-more {ls = ls} e = let z : 0 ≡ suc (length ls) = ap length e in omega (arith, z)
 
-head-is : {l m : Line} {ls ms : List Line} → l ∷ ls ≡ m ∷ ms → l ≡ m
+pub head-is : {l m : Line} {ls ms : List Line} → l ∷ ls ≡ m ∷ ms → l ≡ m
 head-is {l} e = ap (λ xs. getD xs 0 l) e
 
-tail-is : {l m : Line} {ls ms : List Line} → l ∷ ls ≡ m ∷ ms → ls ≡ ms
+pub tail-is : {l m : Line} {ls ms : List Line} → l ∷ ls ≡ m ∷ ms → ls ≡ ms
 tail-is e = ap (drop 1) e
 
-whole-never : {r : Row} → Malformed ≡ Whole r → ⊥
+pub whole-never : {r : Row} → Malformed ≡ Whole r → ⊥
 whole-never e = true≢false (ap (λ (l : Line). elim l [ Whole r ↦ false | Malformed ↦ true ]) e)
+
+-- a run without rows is empty
+pub lines-nothing : (bytes : List ℕ) → lines bytes ≡ [] → bytes ≡ []
+lines-nothing bytes e =
+    by-length bytes (λ h. drop-of-length-le bytes {i = 0} (omega arith))
+    (λ h l. absurd (nothing-more (sym e ∙ lines-torn bytes h l))) (λ l. absurd (nothing-more (sym e ∙ lines-whole bytes l)))
+
+-- the bytes are the written forms of rows, and then others
+pub record Opens (rs : List Row) (rest : List Line) (bytes : List ℕ) : Type 0 where
+  pub more : List ℕ
+  pub bytesAre : bytes ≡ flatMap (rowBytes width) rs ++ more
+  pub linesAre : lines more ≡ rest
+  pub inForm : All (Writable greatest width) rs
+
+-- whole rows that a run begins with are their written forms
+pub lines-open : (rs : List Row) (rest : List Line) (bytes : List ℕ) → lines bytes ≡ map Whole rs ++ rest → Opens rs rest bytes
+unfolding flatMap
+lines-open [] rest bytes e = record { more = bytes; bytesAre = refl; linesAre = e; inForm = all-nil }
+lines-open (r ∷ rs) rest bytes e =
+    by-length bytes (λ h. absurd (nothing-more (sym (lines-none bytes h) ∙ e)))
+    (λ h l. absurd (whole-never (head-is (sym (lines-torn bytes h l) ∙ e))))
+    (λ l. let q = sym (lines-whole bytes l) ∙ e in
+    let f = row-form greatest width small (take (rowLength width) bytes) r (row-taken bytes l) (head-is q) in
+    let k = lines-open rs rest (drop (rowLength width) bytes) (tail-is q) in
+    record {
+      more = k .more;
+      bytesAre = sym (take-append-drop (rowLength width) bytes) ∙ ap₂ _++_ (f .1) (k .bytesAre) ∙ sym (append-assoc (rowBytes width r) (flatMap (rowBytes width) rs) (k .more));
+      linesAre = k .linesAre;
+      inForm = all-cons (f .0) (k .inForm);
+    })
+
+-- and the written forms of rows that a run begins with are these rows
+pub open-lines : (rs : List Row) (more : List ℕ) → All (Writable greatest width) rs → lines (flatMap (rowBytes width) rs ++ more) ≡ map Whole rs ++ lines more
+unfolding flatMap
+open-lines [] more w = refl
+open-lines (r ∷ rs) more w =
+    let rest : List ℕ = flatMap (rowBytes width) rs ++ more in
+    let n = row-length width r in
+    let l : rowLength width ≤ length (rowBytes width r ++ rest) = (let e = length-append (rowBytes width r) rest in omega (arith, e, n)) in
+    ap lines (append-assoc (rowBytes width r) (flatMap (rowBytes width) rs) more)
+    ∙ lines-whole (rowBytes width r ++ rest) l
+    ∙ ap₂ _∷_ (ap (lineAt greatest width) (take-at (rowBytes width r) rest (rowLength width) n) ∙ written-row-reads greatest width small r (all-head w))
+    (ap lines (drop-at (rowBytes width r) rest (rowLength width) n) ∙ open-lines rs more (all-tail w))
 
 abbrev Written : List ℕ → List Row → Type 0
 Written bytes rs = (bytes ≡ flatMap (rowBytes width) rs) × All (Writable greatest width) rs
 
 -- a run of whole rows is their written forms
 pub lines-written : (rs : List Row) (bytes : List ℕ) → lines bytes ≡ map Whole rs → Written bytes rs
-unfolding flatMap
-lines-written [] bytes e =
-    by-length bytes (λ h. (drop-of-length-le bytes {i = 0} (omega arith), all-nil))
-    (λ h l. absurd (nothing-more (sym (sym (lines-torn bytes h l) ∙ e)))) (λ l. absurd (nothing-more (sym (sym (lines-whole bytes l) ∙ e))))
-lines-written (r ∷ rs) bytes e =
-    by-length bytes (λ h. absurd (nothing-more (sym (lines-none bytes h) ∙ e)))
-    (λ h l. absurd (whole-never (head-is (sym (lines-torn bytes h l) ∙ e))))
-    (λ l. let q = sym (lines-whole bytes l) ∙ e in
-    let f = row-form greatest width small (take (rowLength width) bytes) r (row-taken bytes l) (head-is q) in
-    let k = lines-written rs (drop (rowLength width) bytes) (tail-is q) in
-    (sym (take-append-drop (rowLength width) bytes) ∙ ap₂ _++_ (f .1) (k .0), all-cons (f .0) (k .1)))
+lines-written rs bytes e =
+    let o = lines-open rs [] bytes (e ∙ sym (append-nil (map Whole rs))) in
+    (o .bytesAre ∙ ap (λ more. flatMap (rowBytes width) rs ++ more) (lines-nothing (o .more) (o .linesAre)) ∙ append-nil (flatMap (rowBytes width) rs), o .inForm)
 
--- and the written forms of rows are these rows
 pub written-lines : (rs : List Row) → All (Writable greatest width) rs → lines (flatMap (rowBytes width) rs) ≡ map Whole rs
-unfolding flatMap
-written-lines [] w = lines-none [] refl
-written-lines (r ∷ rs) w =
-    let rest : List ℕ = flatMap (rowBytes width) rs in
-    let n = row-length width r in
-    let l : rowLength width ≤ length (rowBytes width r ++ rest) = (let e = length-append (rowBytes width r) rest in omega (arith, e, n)) in
-    lines-whole (rowBytes width r ++ rest) l
-    ∙ ap₂ _∷_ (ap (lineAt greatest width) (take-at (rowBytes width r) rest (rowLength width) n) ∙ written-row-reads greatest width small r (all-head w))
-    (ap lines (drop-at (rowBytes width r) rest (rowLength width) n) ∙ written-lines rs (all-tail w))
+written-lines rs w =
+    ap lines (sym (append-nil (flatMap (rowBytes width) rs))) ∙ open-lines rs [] w ∙ ap (λ ls. map Whole rs ++ ls) (lines-none [] refl) ∙ append-nil (map Whole rs)

@@ -45,11 +45,11 @@ steps-never e = true≢false (ap (λ (r : Replay). elim r [ Steps n ↦ false | 
 steps-are : {m n : ℕ} → Steps m ≡ Steps n → m ≡ n
 steps-are {m} e = ap (λ (r : Replay). elim r [ Steps n ↦ n | Refused number row ↦ m ]) e
 
-map-same : {A B : Type 0} (f g : A → B) (xs : List A) → ((x : A) → In x xs → f x ≡ g x) → map f xs ≡ map g xs
+pub map-same : {A B : Type 0} (f g : A → B) (xs : List A) → ((x : A) → In x xs → f x ≡ g x) → map f xs ≡ map g xs
 map-same f g [] h = refl
 map-same f g (x ∷ xs) h = ap₂ _∷_ (h x (here refl)) (map-same f g xs (λ y i. h y (there i)))
 
-map-map : {A B C : Type 0} (f : B → C) (g : A → B) (xs : List A) → map f (map g xs) ≡ map (λ x. f (g x)) xs
+pub map-map : {A B C : Type 0} (f : B → C) (g : A → B) (xs : List A) → map f (map g xs) ≡ map (λ x. f (g x)) xs
 map-map f g [] = refl
 map-map f g (x ∷ xs) = ap (λ ys. f (g x) ∷ ys) (map-map f g xs)
 
@@ -57,7 +57,7 @@ map-join : {A B : Type 0} (f : A → B) (xs ys : List A) → map f (xs ++ ys) �
 map-join f [] ys = refl
 map-join f (x ∷ xs) ys = ap (λ zs. f x ∷ zs) (map-join f xs ys)
 
-map-length : {A B : Type 0} (f : A → B) (xs : List A) → length (map f xs) ≡ length xs
+pub map-length : {A B : Type 0} (f : A → B) (xs : List A) → length (map f xs) ≡ length xs
 map-length f [] = refl
 map-length f (x ∷ xs) = ap suc (map-length f xs)
 
@@ -90,13 +90,13 @@ module _ (t : Rows) where
   stepRow e = record { tag = 90; a = e; b = 0; c = 0 }
 
   -- ---- a step's row 90
-  record StepRow (first : Bool) (r : Row) : Type 0 where
-    isRow : r ≡ stepRow (r .a)
-    isEvent : T (named t 40 (r .a))
-    concrete : machineNumber t (r .a) ≡ 2
-    initial : isInitial t (r .a) ≡ first
+  pub record StepRow (first : Bool) (r : Row) : Type 0 where
+    pub isRow : r ≡ stepRow (r .a)
+    pub isEvent : T (named t 40 (r .a))
+    pub concrete : machineNumber t (r .a) ≡ 2
+    pub initial : isInitial t (r .a) ≡ first
 
-  step-row : (first : Bool) (r : Row) → T (isStepRow t first r) → StepRow first r
+  pub step-row : (first : Bool) (r : Row) → T (isStepRow t first r) → StepRow first r
   step-row first r h =
       let e = r .a in
       let event : Bool = named t 40 e && (eqb (machineNumber t e) 2 && Bool·beq (isInitial t e) first) in
@@ -330,7 +330,7 @@ module _ (t : Rows) where
       (record { axioms = λ i. absurd (subst T (role .1) i); step = f .2; inside = g .0 }) (next ∙ ap Steps (omega (arith, more)))
 
   -- ---- the whole log
-  no-values : Sized noValues
+  pub no-values : Sized noValues
   no-values = record { present = length-replicate 65 (pos 0); after = length-replicate 65 (pos 0) }
 
   -- a log that is a run, no term of which leaves 64 bits, of so many steps

@@ -102,10 +102,10 @@ module _ (t : Rows) where
         let w = held .variables (j .1) x (p .0) v in
         by-variable (kindOf t x) _ _ _ _ _ _ v _ w w))
 
-    agree-before : Agree (sees t e) never before (reads (blank machine))
+    pub agree-before : Agree (sees t e) never before (reads (blank machine))
     agree-before = record { present = agree-present (blank machine); after = λ x z. absurd z }
 
-    agree-both : Agree (sees t e) aVariable both (reads k)
+    pub agree-both : Agree (sees t e) aVariable both (reads k)
     unfolding machineOf
     agree-both = record {
       present = agree-present k;
@@ -114,7 +114,7 @@ module _ (t : Rows) where
           by-variable (kindOf t x) _ _ _ _ _ _ (p .1) _ w w;
     }
 
-    agree-constants : Agree (aConstant t) never before (constantsAlone t c)
+    pub agree-constants : Agree (aConstant t) never before (constantsAlone t c)
     unfolding machineOf
     agree-constants = record {
       present = λ x h. let p = and-split (named t 10 x) (hasKind t 1 x) h in
@@ -123,17 +123,17 @@ module _ (t : Rows) where
       after = λ x z. absurd z;
     }
 
-    seen-action : (x : ℕ) → In x (machine .concreteVariables) → ActionSeen (machine .tree) (sees t e) x (machine .action e x)
+    pub seen-action : (x : ℕ) → In x (machine .concreteVariables) → ActionSeen (machine .tree) (sees t e) x (machine .action e x)
     unfolding machineOf
     seen-action x i =
         let p = variable-named t 3 x i in
         action-seen t ok e x n (p .0) (subst (λ m. T (isVariableOf (1 + m) (kindOf t x))) (sym concrete) (p .1))
 
-    seen-axioms : All (λ r. T (mentions (aConstant t) never (machine .tree r))) (machine .axioms)
+    pub seen-axioms : All (λ r. T (mentions (aConstant t) never (machine .tree r))) (machine .axioms)
     unfolding machineOf
     seen-axioms = axioms-seen t ok
 
-    seen-guards : All (λ r. T (mentions (sees t e) never (machine .tree r))) (machine .guards e)
+    pub seen-guards : All (λ r. T (mentions (sees t e) never (machine .tree r))) (machine .guards e)
     unfolding machineOf
     seen-guards = guards-seen t ok e
 

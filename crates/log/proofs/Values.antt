@@ -40,7 +40,7 @@ pub record Sized (vs : Values) : Type 0 where
   pub present : length (vs .present) ≡ 65
   pub after : length (vs .after) ≡ 65
 
-bad-never : {i : ℕ} {vs : Values} {ls : List Line} → bad i ≡ found vs ls → ⊥
+pub bad-never : {i : ℕ} {vs : Values} {ls : List Line} → bad i ≡ found vs ls → ⊥
 bad-never e = true≢false (ap (λ (f : Found). elim f [ found vs ls ↦ false | bad i ↦ true ]) e)
 
 -- a row by its four numbers
@@ -107,7 +107,7 @@ module _ (t : Rows) (e : ℕ) where
     pub good : T (isValueRow t x row)
     pub then : readValues t e xs (i + 1) others (store t e x (wholeNumber (row .b)) vs) ≡ found ws rest
 
-  read-first : (x : ℕ) (xs : List ℕ) (i : ℕ) (ls : List Line) (vs ws : Values) (rest : List Line) → readValues t e (x ∷ xs) i ls vs ≡ found ws rest
+  pub read-first : (x : ℕ) (xs : List ℕ) (i : ℕ) (ls : List Line) (vs ws : Values) (rest : List Line) → readValues t e (x ∷ xs) i ls vs ≡ found ws rest
       → First x xs i ls vs ws rest
   unfolding readValues
   read-first x xs i [] vs ws rest h = absurd (bad-never h)
