@@ -1,0 +1,226 @@
+// 02, request 5: the values of a step, "rows 91 (identifier, value; booleans 0 or 1) .. in identifier order", read from a run and stored by identifier.
+use evaluate::value_at;
+use log::tags;
+use reader::next_row;
+use row::Place;
+use row::Read;
+use row::Row;
+use signed::of_word;
+use table::Table;
+use table::event;
+use table::event_field;
+use table::identifier;
+use table::identifier_field;
+use table::is_variable_of;
+ghost use mathlib.Core.Path.{_≡_};
+ghost use mathlib.Core.List.{[]};
+ghost use Prim.Native.Nat.{_+_};
+ghost use lib.IntN.{pos};
+ghost use lib.ListN.{length, getD, set};
+ghost use Rattle.lists.specs.Below.{oneIf};
+ghost use Rattle.lists.specs.Choice.{pick};
+ghost use Rattle.table.specs.Rows.{rowsOf};
+ghost use Rattle.table.specs.Counts.{countsOf};
+ghost use Rattle.log.specs.Rows.{isStateVariable, isInitial, isGiven, logged, isLogged, isValueRow};
+ghost use Rattle.log.specs.Replay.{storeBy, readValues, moved};
+ghost use Rattle.formula.specs.Values.{wholeNumber};
+ghost use Rattle.values.specs.Values.{valuesOf, linesAt, rowAt, isWanted, readOn, ReadsValue, ReadsIdentifier, Reaches};
+
+// Where reading goes on, or the row that is bad: 0 where the run ends.
+pub enum Reached {
+    Next(Place),
+    Bad(u64),
+}
+
+// The number of the row at a place.
+pub fn row_number(place: Place) -> u64
+    ensures { λ r. ⌜ r ≡ rowAt (place .at) ⌝ }
+{
+    (place.at / Row::LENGTH) as u64 + 1
+}
+
+// Stores a value in a place of a list; past its end there is none.
+fn put(values: &mut [i64], x: u64, value: i64)
+    ensures { λ _. ⌜ now (values .exit) ≡ set (now (values .entry)) x value ⌝ }
+{
+    let i = x as usize;
+    if i < values.len() {
+        values[i] = value;
+    }
+}
+
+// Whether an event is an initialisation.
+pub fn is_initial(words: &[u64], table: Table, e: u64) -> bool
+    requires { ⌜ table ≡ countsOf (rowsOf (now words)) ⌝ }
+    ensures { λ r. ⌜ r ≡ isInitial (rowsOf (now (words .entry))) e ⌝ }
+{
+    event_field(words, table, e, Table::CLASS) == event::INITIALISATION
+}
+
+// What is logged beside the variables: "constants .. after initialisation, else the event's parameters".
+fn is_given(words: &[u64], table: Table, e: u64, x: u64) -> bool
+    requires { ⌜ table ≡ countsOf (rowsOf (now words)) ⌝ }
+    ensures { λ r. ⌜ r ≡ isGiven (rowsOf (now (words .entry))) e x ⌝ }
+{
+    let kind = identifier_field(words, table, x, Table::KIND);
+    if is_initial(words, table, e) {
+        return kind == identifier::CONSTANT;
+    }
+    let owner = identifier_field(words, table, x, Table::OWNER);
+    (kind == identifier::CONCRETE_PARAMETER) & (owner == e)
+}
+
+// "all concrete and shared variables"
+fn is_state_variable(words: &[u64], table: Table, x: u64) -> bool
+    requires { ⌜ table ≡ countsOf (rowsOf (now words)) ⌝ }
+    ensures { λ r. ⌜ r ≡ isStateVariable (rowsOf (now (words .entry))) x ⌝ }
+{
+    let kind = identifier_field(words, table, x, Table::KIND);
+    is_variable_of(identifier::CONCRETE_VARIABLE, kind)
+}
+
+// "booleans 0 or 1"
+fn is_logged(sort: u64, value: u64) -> bool
+    ensures { λ r. ⌜ r ≡ isLogged sort value ⌝ }
+{
+    !(sort == identifier::BOOLEAN) | (value <= 1)
+}
+
+// Whether a row is the row 91 of the identifier x.
+fn is_value_row(words: &[u64], table: Table, x: u64, row: Row) -> bool
+    requires { ⌜ table ≡ countsOf (rowsOf (now words)) ⌝ }
+    ensures { λ r. ⌜ r ≡ isValueRow (rowsOf (now (words .entry))) x row ⌝ }
+{
+    let sort = identifier_field(words, table, x, Table::TYPE);
+    (row.tag == tags::VALUE) & ((row.a == x) & (is_logged(sort, row.b) & (row.c == 0)))
+}
+
+// A logged value: a given one is read at present, another is an after value.
+fn store(given: bool, x: u64, value: i64, present: &mut [i64], after: &mut [i64])
+    ensures { λ _. ⌜ valuesOf (now (present .exit)) (now (after .exit)) ≡ storeBy given x value (valuesOf (now (present .entry)) (now (after .entry))) ⌝ }
+{
+    if given {
+        put(present, x, value);
+    } else {
+        put(after, x, value);
+    }
+}
+
+// Stores the value of the row at a place, where it is the row 91 of the identifier x.
+fn read_row(
+    words: &[u64],
+    table: Table,
+    given: bool,
+    x: u64,
+    row: Row,
+    present: &mut [i64],
+    after: &mut [i64],
+) -> bool
+    requires { ⌜ table ≡ countsOf (rowsOf (now words)) ⌝ }
+    ensures { λ r. ⌜ (r ≡ isValueRow (rowsOf (now (words .entry))) x row) × (valuesOf (now (present .exit)) (now (after .exit)) ≡ pick (isValueRow (rowsOf (now (words .entry))) x row) (storeBy given x (wholeNumber (row .b)) (valuesOf (now (present .entry)) (now (after .entry)))) (valuesOf (now (present .entry)) (now (after .entry)))) ⌝ }
+{
+    if is_value_row(words, table, x, row) {
+        store(given, x, of_word(row.b), present, after);
+        return true;
+    }
+    false
+}
+
+// Reads the row 91 of the identifier x.
+fn read_value(
+    words: &[u64],
+    table: Table,
+    run: &[u8],
+    given: bool,
+    x: u64,
+    place: Place,
+    present: &mut [i64],
+    after: &mut [i64],
+) -> Reached
+    requires { ⌜ table ≡ countsOf (rowsOf (now words)) ⌝ }
+    ensures { λ r. ⌜ ReadsValue (rowsOf (now (words .entry))) given x (now (run .entry)) (place .at) (valuesOf (now (present .entry)) (now (after .entry))) r (valuesOf (now (present .exit)) (now (after .exit))) ⌝ }
+    ensures { λ r. ⌜ Reaches r (rowAt (place .at) + 1) ⌝ }
+{
+    match next_row(place, run) {
+        Read::End => Reached::Bad(0),
+        Read::Malformed => Reached::Bad(row_number(place)),
+        Read::Next(row, next) => {
+            if read_row(words, table, given, x, row, present, after) {
+                return Reached::Next(next);
+            }
+            Reached::Bad(row_number(place))
+        }
+    }
+}
+
+// The same of an identifier that may have none.
+fn read_identifier(
+    words: &[u64],
+    table: Table,
+    run: &[u8],
+    e: u64,
+    x: u64,
+    place: Place,
+    present: &mut [i64],
+    after: &mut [i64],
+) -> Reached
+    requires { ⌜ table ≡ countsOf (rowsOf (now words)) ⌝ }
+    ensures { λ r. ⌜ ReadsIdentifier (rowsOf (now (words .entry))) e x (now (run .entry)) (place .at) (valuesOf (now (present .entry)) (now (after .entry))) r (valuesOf (now (present .exit)) (now (after .exit))) ⌝ }
+    ensures { λ r. ⌜ Reaches r (rowAt (place .at) + oneIf (isWanted (rowsOf (now (words .entry))) e x)) ⌝ }
+{
+    let given = is_given(words, table, e, x);
+    if given | is_state_variable(words, table, x) {
+        return read_value(words, table, run, given, x, place, present, after);
+    }
+    Reached::Next(place)
+}
+
+// Reads the rows 91 of a step of the event e, "in identifier order".
+pub fn read_values(
+    words: &[u64],
+    table: Table,
+    run: &[u8],
+    e: u64,
+    place: Place,
+    present: &mut [i64],
+    after: &mut [i64],
+) -> Reached
+    requires { ⌜ table ≡ countsOf (rowsOf (now words)) ⌝ }
+    ensures { λ r. ⌜ readOn (rowsOf (now (words .entry))) r e [] (now (run .entry)) (valuesOf (now (present .exit)) (now (after .exit))) ≡ readValues (rowsOf (now (words .entry))) e (logged (rowsOf (now (words .entry))) e) (rowAt (place .at)) (linesAt (now (run .entry)) (place .at)) (valuesOf (now (present .entry)) (now (after .entry))) ⌝ }
+    ensures { λ r. ⌜ Reaches r (rowAt (place .at) + length (logged (rowsOf (now (words .entry))) e)) ⌝ }
+{
+    let mut place = place;
+    let mut x = 0;
+    while x < table.identifiers {
+        x += 1;
+        match read_identifier(words, table, run, e, x, place, present, after) {
+            Reached::Next(next) => {
+                place = next;
+            }
+            Reached::Bad(row) => return Reached::Bad(row),
+        }
+    }
+    Reached::Next(place)
+}
+
+// The present value of the identifier x becomes its after value, where it is a variable of the concrete machine.
+fn move_value(words: &[u64], table: Table, x: u64, present: &mut [i64], after: &[i64])
+    requires { ⌜ table ≡ countsOf (rowsOf (now words)) ⌝ }
+    ensures { λ _. ⌜ now (present .exit) ≡ pick (isStateVariable (rowsOf (now (words .entry))) x) (set (now (present .entry)) x (getD (now (after .entry)) x (pos 0))) (now (present .entry)) ⌝ }
+{
+    if is_state_variable(words, table, x) {
+        put(present, x, value_at(after, x));
+    }
+}
+
+// "each from the values the last one left"
+pub fn move_values(words: &[u64], table: Table, present: &mut [i64], after: &[i64])
+    requires { ⌜ table ≡ countsOf (rowsOf (now words)) ⌝ }
+    ensures { λ _. ⌜ valuesOf (now (present .exit)) (now (after .entry)) ≡ moved (rowsOf (now (words .entry))) (valuesOf (now (present .entry)) (now (after .entry))) ⌝ }
+{
+    let mut x = 0;
+    while x < table.identifiers {
+        x += 1;
+        move_value(words, table, x, present, after);
+    }
+}
