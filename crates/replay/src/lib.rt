@@ -1,0 +1,169 @@
+// 02, request 5: replay of a recorded run: "The reply is the number of steps after the initialisation, given if and only if the log is a run by document 01's
+// definition and no term met leaves signed 64 bits."
+use judge::step_fault;
+use log::Replay;
+use log::tags;
+use nodes::fill_notes;
+use reader::next_row;
+use row::Place;
+use row::Read;
+use row::Row;
+use rules::Verdict;
+use scan::Span;
+use table::Table;
+use table::event;
+use table::event_field;
+use table::named_event;
+use values::Reached;
+use values::is_initial;
+use values::move_values;
+use values::read_values;
+use values::row_number;
+use verdict::Loaded;
+use verdict::judge_with;
+use verdict::load;
+ghost use mathlib.Core.Path.{_≡_};
+ghost use mathlib.Core.List.{[]};
+ghost use Prim.Native.Nat.{suc, _+_, _≤_};
+ghost use lib.ListN.{length};
+ghost use Rattle.table.specs.Rows.{rowsOf};
+ghost use Rattle.table.specs.Counts.{countsOf};
+ghost use Rattle.table.specs.Lookups.{mostWords};
+ghost use Rattle.scan.specs.Spans.{Spanned};
+ghost use Rattle.nodes.specs.Notes.{Noted};
+ghost use Rattle.rules.specs.Verdict.{judge as judgeOf};
+ghost use Rattle.log.specs.Lines.{lines};
+ghost use Rattle.log.specs.Rows.{logged, isStepRow};
+ghost use Rattle.log.specs.Replay.{readValues, judged, replayFrom, replayLog, replayBy, noValues, replay as replayOf};
+ghost use Rattle.values.specs.Values.{valuesOf, linesAt, rowAt, Reaches};
+ghost use Rattle.replay.specs.Steps.{endedAfter, stepProgress, stepValues, TakesStep, ReplaysStep};
+
+// What a step comes to: where the next one begins, the end of the run before it with the number of its steps, or a refusal's number and row.
+pub enum Progress {
+    Going(Place),
+    Ended(u64),
+    Refused(u64, u64),
+}
+
+// Whether a row is the row 90 of a step: the concrete initialisation first, then concrete events that are none.
+fn is_step_row(words: &[u64], table: Table, first: bool, row: Row) -> bool
+    requires { ⌜ table ≡ countsOf (rowsOf (now words)) ⌝ }
+    ensures { λ r. ⌜ r ≡ isStepRow (rowsOf (now (words .entry))) first row ⌝ }
+{
+    let e = row.a;
+    let named = named_event(words, table, e);
+    let machine = event_field(words, table, e, Table::MACHINE);
+    let initial = is_initial(words, table, e);
+    (row.tag == tags::STEP)
+        & ((named & ((machine == event::CONCRETE) & (initial == first)))
+            & ((row.b == 0) & (row.c == 0)))
+}
+
+// The end of the run after n steps, the initialisation among them.
+fn ended(n: u64) -> Progress
+    ensures { λ r. ⌜ r ≡ endedAfter n ⌝ }
+{
+    if n == 0 {
+        return Progress::Refused(Replay::LOG, 0);
+    }
+    Progress::Ended(n - 1)
+}
+
+// Judges a step of the event e whose row 90 has this number, and where it is allowed goes on at the place after its rows, with the values that it left.
+fn judge_step(
+    words: &[u64],
+    table: Table,
+    spans: &[usize],
+    e: u64,
+    row: u64,
+    next: Place,
+    present: &mut [i64],
+    after: &mut [i64],
+) -> Progress
+    requires { ⌜ (table ≡ countsOf (rowsOf (now words))) × Spanned (rowsOf (now words)) (now spans) ⌝ }
+    ensures { λ r. ⌜ r ≡ stepProgress (rowsOf (now (words .entry))) e row next (valuesOf (now (present .entry)) (now (after .entry))) ⌝ }
+    ensures { λ _. ⌜ valuesOf (now (present .exit)) (now (after .exit)) ≡ stepValues (rowsOf (now (words .entry))) e (valuesOf (now (present .entry)) (now (after .entry))) ⌝ }
+{
+    let fault = step_fault(words, table, spans, present, after, e);
+    if fault != 0 {
+        return Progress::Refused(fault, row);
+    }
+    move_values(words, table, present, after);
+    Progress::Going(next)
+}
+
+// Takes the step of the event e, whose row 90 is the row before a place.
+fn take_step(
+    words: &[u64],
+    table: Table,
+    spans: &[usize],
+    run: &[u8],
+    e: u64,
+    row: u64,
+    place: Place,
+    present: &mut [i64],
+    after: &mut [i64],
+) -> Progress
+    requires { ⌜ (table ≡ countsOf (rowsOf (now words))) × Spanned (rowsOf (now words)) (now spans) ⌝ }
+    ensures { λ r. ⌜ TakesStep (rowsOf (now (words .entry))) e row (now (run .entry)) (place .at) (valuesOf (now (present .entry)) (now (after .entry))) r (valuesOf (now (present .exit)) (now (after .exit))) ⌝ }
+{
+    match read_values(words, table, run, e, place, present, after) {
+        Reached::Bad(bad) => Progress::Refused(Replay::LOG, bad),
+        Reached::Next(next) => judge_step(words, table, spans, e, row, next, present, after),
+    }
+}
+
+// Replays the step at a place, before which n steps were allowed.
+fn replay_step(
+    words: &[u64],
+    table: Table,
+    spans: &[usize],
+    run: &[u8],
+    n: u64,
+    place: Place,
+    present: &mut [i64],
+    after: &mut [i64],
+) -> Progress
+    requires { ⌜ (table ≡ countsOf (rowsOf (now words))) × Spanned (rowsOf (now words)) (now spans) ⌝ }
+    ensures { λ r. ⌜ ReplaysStep (rowsOf (now (words .entry))) n (now (run .entry)) (place .at) (valuesOf (now (present .entry)) (now (after .entry))) r (valuesOf (now (present .exit)) (now (after .exit))) ⌝ }
+{
+    match next_row(place, run) {
+        Read::End => ended(n),
+        Read::Malformed => Progress::Refused(Replay::LOG, row_number(place)),
+        Read::Next(row, next) => {
+            if is_step_row(words, table, n == 0, row) {
+                let e = row.a;
+                let at = row_number(place);
+                return take_step(words, table, spans, run, e, at, next, present, after);
+            }
+            Progress::Refused(Replay::LOG, row_number(place))
+        }
+    }
+}
+
+// Replays all steps of a run, with no values known before.
+fn replay_steps(
+    words: &[u64],
+    table: Table,
+    spans: &[usize],
+    run: &[u8],
+    present: &mut [i64],
+    after: &mut [i64],
+) -> Replay
+    requires { ⌜ (table ≡ countsOf (rowsOf (now words))) × Spanned (rowsOf (now words)) (now spans) ⌝ }
+    ensures { λ r. ⌜ r ≡ replayFrom (rowsOf (now (words .entry))) (suc (length (now (run .entry)))) 0 1 (lines (now (run .entry))) (valuesOf (now (present .entry)) (now (after .entry))) ⌝ }
+{
+    let mut place = Place::start();
+    let mut n = 0;
+    while n <= run.len() as u64 {
+        match replay_step(words, table, spans, run, n, place, present, after) {
+            Progress::Going(next) => {
+                place = next;
+            }
+            Progress::Ended(steps) => return Replay::Steps(steps),
+            Progress::Refused(number, row) => return Replay::Refused(number, row),
+        }
+        n += 1;
+    }
+    Replay::Refused(Replay::LOG, 0)
+}
