@@ -12,3 +12,4 @@ pub mod Runs
 pub mod Refusals
 pub mod Marks
 pub mod Exact
+pub mod Enough

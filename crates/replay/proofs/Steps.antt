@@ -13,11 +13,13 @@ use Rattle.row.specs.declared.Place.{Place}
 use Rattle.row.specs.declared.Line.{Line}
 use Rattle.row.specs.declared.Line.the-variants.{Whole, Malformed}
 use Rattle.table.specs.Rows.{Rows}
+use Rattle.rules.specs.Decoded.{decoded}
+use Rattle.rules.specs.Verdict.{verdict}
 use Rattle.log.specs.declared.Replay.{Replay}
 use Rattle.log.specs.declared.Replay.the-variants as reply
 use Rattle.log.specs.Rows.{logged, isStepRow}
 use Rattle.log.specs.Faults.{noFault, logFault, stepFault}
-use Rattle.log.specs.Replay.{Values, Found, found, bad, readValues, moved, judged, replayFrom}
+use Rattle.log.specs.Replay.{Values, Found, found, bad, readValues, moved, judged, replayFrom, replayLog, replayBy, replay}
 use Rattle.values.specs.declared.Reached.{Reached}
 use Rattle.values.specs.declared.Reached.the-variants.{Next, Bad}
 use Rattle.values.specs.Values.{linesAt, rowAt, readOn, Reaches}
@@ -43,7 +45,7 @@ module _ (t : Rows) where
 
   -- ---- a step whose rows are read
   module _ (e i : ℕ) (run : List ℕ) (at : ℕ) (vs us : Values) (r : Reached)
-    (reads : readOn t r e [] run us ≡ readValues t e (logged t e) (rowAt at) (linesAt run at) vs) (last : Reaches r (rowAt at + length (logged t e))) where
+      (reads : readOn t r e [] run us ≡ readValues t e (logged t e) (rowAt at) (linesAt run at) vs) (last : Reaches r (rowAt at + length (logged t e))) where
     abbrev onward : ℕ → ℕ → List Line → Values → Replay
     onward most n rest us = replayFrom t most (n + 1) (rowAt at + length (logged t e)) rest us
 
@@ -126,3 +128,8 @@ module _ (t : Rows) where
     pub onward-past : length run < n → reply.Refused logFault 0 ≡ whole
     unfolding replayFrom
     onward-past h = let e : 0 ≡ suc (length run) - n = omega arith in ap (λ most. replayFrom t most n (rowAt at) (linesAt run at) vs) e ∙ so
+
+-- the reply of a table's bytes
+pub replay-is : (table run : List ℕ) → replay table run ≡ replayBy (verdict table) (replayLog (decoded table) run)
+unfolding replay
+replay-is table run = refl

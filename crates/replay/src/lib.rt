@@ -167,3 +167,46 @@ fn replay_steps(
     }
     Replay::Refused(Replay::LOG, 0)
 }
+
+// Replays a run of the table of these rows, which is accepted.
+fn replay_log(words: &[u64], table: Table, spans: &[usize], run: &[u8]) -> Replay
+    requires { ⌜ (table ≡ countsOf (rowsOf (now words))) × Spanned (rowsOf (now words)) (now spans) ⌝ }
+    ensures { λ r. ⌜ r ≡ replayLog (rowsOf (now (words .entry))) (now (run .entry)) ⌝ }
+{
+    let mut present = [0i64; Table::IDENTIFIERS as usize + 1];
+    let mut after = [0i64; Table::IDENTIFIERS as usize + 1];
+    replay_steps(words, table, spans, run, &mut present, &mut after)
+}
+
+// The same of a table that may be refused: "After the table's checks".
+fn replay_judged(words: &[u64], table: Table, spans: &[usize], run: &[u8]) -> Replay
+    requires { ⌜ (table ≡ countsOf (rowsOf (now words))) × Noted (rowsOf (now words)) (now spans) × (length (now words) ≤ mostWords) ⌝ }
+    ensures { λ r. ⌜ r ≡ replayBy (judgeOf (rowsOf (now (words .entry)))) (replayLog (rowsOf (now (words .entry))) (now (run .entry))) ⌝ }
+{
+    match judge_with(words, table, spans) {
+        Verdict::Refused(number, row) => Replay::Refused(number, row),
+        Verdict::Accepted(count) => replay_log(words, table, spans, run),
+    }
+}
+
+// The same of the rows alone.
+fn replay_rows(words: &[u64], run: &[u8]) -> Replay
+    requires { ⌜ length (now words) ≤ mostWords ⌝ }
+    ensures { λ r. ⌜ r ≡ replayBy (judgeOf (rowsOf (now (words .entry)))) (replayLog (rowsOf (now (words .entry))) (now (run .entry))) ⌝ }
+{
+    let mut spans = [0usize; Span::WORDS];
+    let table = Table::of(words);
+    fill_notes(words, table, &mut spans);
+    replay_judged(words, table, &spans, run)
+}
+
+// Replays a recorded run of a table: how many steps follow the initialisation, or a refusal.
+pub fn replay(table: &[u8], run: &[u8]) -> Replay
+    ensures { λ r. ⌜ r ≡ replayOf (now (table .entry)) (now (run .entry)) ⌝ }
+{
+    let mut words = [0u64; Table::WORDS];
+    match load(table, &mut words) {
+        Loaded::Refused(number, row) => Replay::Refused(number, row),
+        Loaded::Words(n) => replay_rows(&words[..n], run),
+    }
+}

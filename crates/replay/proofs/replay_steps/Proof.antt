@@ -68,10 +68,12 @@ replay-steps-spec = tie.close (tie.spec
     let turn = c .before .before .before .before .before .before .before .before .before in
     let s = turn .before .before .before .before .before in
     let present : length (step .replay-step .last .1 .1 .1 .1 .1 .1 .0) ≡ length (turn .loop .present) = search needs in
-    let after : length (step .replay-step .last .1 .1 .1 .1 .1 .1 .1 .0) ≡ length (turn .loop .after) = search needs in
-    (present ∙ turn .loop .inv .0, after ∙ turn .loop .inv .1,
-    onward-next (rowsOf (s .args .words .now)) (s .args .run .now) (turn .loop .n) (turn .loop .place .at) (valuesOf (turn .loop .present) (turn .loop .after)) (turn .loop .inv .2) (c .before .before .before .before .before .before .before .before .loop-test .taken) (step .replay-step .result)
-    (valuesOf (step .replay-step .last .1 .1 .1 .1 .1 .1 .0) (step .replay-step .last .1 .1 .1 .1 .1 .1 .1 .0)) (step .replay-step .ensures) (c .before .next .given .0 .0) (c .before .next .given .1)))
+    let after : length (step .replay-step .last .1 .1 .1 .1 .1 .1 .1 .0) ≡ length (turn .loop .after) = search needs in (
+      present ∙ turn .loop .inv .0,
+      after ∙ turn .loop .inv .1,
+      onward-next (rowsOf (s .args .words .now)) (s .args .run .now) (turn .loop .n) (turn .loop .place .at) (valuesOf (turn .loop .present) (turn .loop .after)) (turn .loop .inv .2) (c .before .before .before .before .before .before .before .before .loop-test .taken) (step .replay-step .result)
+          (valuesOf (step .replay-step .last .1 .1 .1 .1 .1 .1 .0) (step .replay-step .last .1 .1 .1 .1 .1 .1 .1 .0)) (step .replay-step .ensures) (c .before .next .given .0 .0) (c .before .next .given .1),
+    ))
     (λ c. c .before .loop .inv .0)
     (λ c. c .before .loop .inv .1)
     (λ c. let turn = c .before in
