@@ -5,6 +5,8 @@ use Rattle.rules.specs.declared.Verdict.{Verdict}
 use Rattle.rules.specs.declared.Verdict.the-variants as verdict
 use Rattle.reply.specs.declared.Reply.{Reply}
 use Rattle.reply.specs.declared.Reply.the-variants as reply
+use Rattle.log.specs.declared.Replay.{Replay}
+use Rattle.log.specs.declared.Replay.the-variants as replay
 
 abbrev pub verdictNumber : Verdict → ℕ
 verdictNumber (verdict.Accepted count) = 0
@@ -23,3 +25,12 @@ replyNumber (reply.Refused number row) = number
 abbrev pub replyValue : Reply → ℕ
 replyValue (reply.Written rows) = rows
 replyValue (reply.Refused number row) = row
+
+abbrev pub replayNumber : Replay → ℕ
+replayNumber (replay.Steps steps) = 0
+replayNumber (replay.Refused number row) = number
+
+-- the number of steps, or the row
+abbrev pub replayValue : Replay → ℕ
+replayValue (replay.Steps steps) = steps
+replayValue (replay.Refused number row) = row

@@ -1,4 +1,6 @@
-// The three services for C and Rust (include/sifthorma.h): each answers 0 or a refusal's number, and puts the count or the row into `value`.
+// The services for C and Rust (include/sifthorma.h): each answers 0 or a refusal's number, and puts the count or the row into `value`.
+use log::Replay;
+use replay::replay;
 use reply::Reply;
 use rules::Verdict;
 use services::spell_entry;
@@ -7,7 +9,8 @@ use verdict::check;
 ghost use mathlib.Core.Path.{_≡_};
 ghost use Rattle.rules.specs.Verdict.{verdict as verdictOf};
 ghost use Rattle.reply.specs.Replies.{writeSequent, spellEntry};
-ghost use Rattle.sifthorma.specs.Codes.{verdictNumber, verdictValue, replyNumber, replyValue};
+ghost use Rattle.log.specs.Replay.{replay as replayOf};
+ghost use Rattle.sifthorma.specs.Codes.{verdictNumber, verdictValue, replyNumber, replyValue, replayNumber, replayValue};
 
 fn verdict_number(v: Verdict) -> u64
     ensures { λ r. ⌜ r ≡ verdictNumber v ⌝ }
@@ -89,4 +92,33 @@ pub extern "C" fn sifthorma_spell_entry(
     let reply = spell_entry(table, k, j, out);
     *value = reply_value(reply);
     reply_number(reply)
+}
+
+fn replay_number(reply: Replay) -> u64
+    ensures { λ r. ⌜ r ≡ replayNumber reply ⌝ }
+{
+    match reply {
+        Replay::Steps(steps) => 0,
+        Replay::Refused(number, row) => number,
+    }
+}
+
+fn replay_value(reply: Replay) -> u64
+    ensures { λ r. ⌜ r ≡ replayValue reply ⌝ }
+{
+    match reply {
+        Replay::Steps(steps) => steps,
+        Replay::Refused(number, row) => row,
+    }
+}
+
+// replay a recorded run: how many steps follow the initialisation, or a refusal.
+#[no_mangle]
+pub extern "C" fn sifthorma_replay(table: &[u8], run: &[u8], value: &mut u64) -> u64
+    ensures { λ r. ⌜ r ≡ replayNumber (replayOf (now (table .entry)) (now (run .entry))) ⌝ }
+    ensures { λ _. ⌜ now (value .exit) ≡ replayValue (replayOf (now (table .entry)) (now (run .entry))) ⌝ }
+{
+    let reply = replay(table, run);
+    *value = replay_value(reply);
+    replay_number(reply)
 }
