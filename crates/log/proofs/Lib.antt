@@ -11,4 +11,5 @@ pub mod Steps
 pub mod Runs
 pub mod Refusals
 pub mod Marks
+pub mod Terms
 pub mod Exact
