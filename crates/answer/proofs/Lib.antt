@@ -1,3 +1,4 @@
 pub mod Answer
 pub mod Mentions
 pub mod Faults
+pub mod Examples
