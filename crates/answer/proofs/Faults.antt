@@ -338,5 +338,5 @@ unfolding connectiveAnswer
 stops-at-left o r = (refl, refl)
 
 pub iff-stops-at-left : (r : Answer) → (binaryAnswer iff outside r ≡ outside) × (binaryAnswer iff undefined r ≡ undefined)
-unfolding binaryAnswer
+unfolding binaryAnswer operands
 iff-stops-at-left r = (refl, refl)
