@@ -19,11 +19,13 @@ use Rattle.answer.specs.Met.{Met, met-itself, met-operand, met-left, met
 
 -- ---- answers apart
 
-outside-never : {v : AnyValue} → outside ≡ value v → ⊥
-outside-never e = true≢false (ap (λ (a : Answer). elim a [ value v ↦ false | outside ↦ true | undefined ↦ true ]) e)
+abbrev isFault : Answer → Bool
+isFault (value v) = false
+isFault outside = true
+isFault undefined = true
 
-undefined-never : {v : AnyValue} → undefined ≡ value v → ⊥
-undefined-never e = true≢false (ap (λ (a : Answer). elim a [ value v ↦ false | outside ↦ true | undefined ↦ true ]) e)
+fault-never : {a : Answer} {v : AnyValue} → isFault a ≡ true → a ≡ value v → ⊥
+fault-never h e = true≢false (sym h ∙ ap isFault e)
 
 valueOr : AnyValue → Answer → AnyValue
 valueOr w a = elim a [ value v ↦ v | outside ↦ w | undefined ↦ w ]
@@ -40,7 +42,7 @@ within-value x v e = go (fitsValue x) e
   where
     go : (b : Bool) → pick b (value x) outside ≡ value v → (x ≡ v) × T b
     go true e = (value-injective e, tt)
-    go false e = absurd (outside-never e)
+    go false e = absurd (fault-never refl e)
 
 pub value-within : (x : AnyValue) → T (fitsValue x) → within x ≡ value x
 unfolding within
@@ -48,8 +50,8 @@ value-within x h = ap (λ b. pick b (value x) outside) (test-true (fitsValue x) 
 
 then-value : (a : Answer) (f : AnyValue → Answer) (v : AnyValue) → valueThen a f ≡ value v → (w : AnyValue) × (a ≡ value w) × (f w ≡ value v)
 then-value (value w) f v e = (w, refl, e)
-then-value outside f v e = absurd (outside-never e)
-then-value undefined f v e = absurd (undefined-never e)
+then-value outside f v e = absurd (fault-never refl e)
+then-value undefined f v e = absurd (fault-never refl e)
 
 -- both operands are values, and the operator is defined on them
 pub record Both (l r : Answer) (defined : AnyValue → AnyValue → Bool) (f : AnyValue → AnyValue → AnyValue) (v : AnyValue) : Type 0 where
@@ -67,17 +69,17 @@ operands-value defined f (value a) (value b) v e = go (defined a b) refl e
   where
     go : (d : Bool) → defined a b ≡ d → pick d (within (f a b)) undefined ≡ value v → Both (value a) (value b) defined f v
     go true h e = let p = within-value (f a b) v e in record { left = a; right = b; isLeft = refl; isRight = refl; isDefined = h; is = p .0; inside = p .1 }
-    go false h e = absurd (undefined-never e)
-operands-value defined f (value a) outside v e = absurd (outside-never e)
-operands-value defined f (value a) undefined v e = absurd (undefined-never e)
+    go false h e = absurd (fault-never refl e)
+operands-value defined f (value a) outside v e = absurd (fault-never refl e)
+operands-value defined f (value a) undefined v e = absurd (fault-never refl e)
 operands-value defined f outside (value b) v e = absurd (go (defined (number (pos 0)) b) e)
   where
     go : (d : Bool) → pick d outside undefined ≡ value v → ⊥
-    go true e = outside-never e
-    go false e = undefined-never e
-operands-value defined f outside outside v e = absurd (outside-never e)
-operands-value defined f outside undefined v e = absurd (undefined-never e)
-operands-value defined f undefined r v e = absurd (undefined-never e)
+    go true e = fault-never refl e
+    go false e = fault-never refl e
+operands-value defined f outside outside v e = absurd (fault-never refl e)
+operands-value defined f outside undefined v e = absurd (fault-never refl e)
+operands-value defined f undefined r v e = absurd (fault-never refl e)
 
 value-operands : (defined : AnyValue → AnyValue → Bool) (f : AnyValue → AnyValue → AnyValue) (a b : AnyValue) → defined a b ≡ true → T (fitsValue (f a b))
     → operands defined f (value a) (value b) ≡ value (f a b)

@@ -1,2 +1,4 @@
 pub mod Answer
 pub mod Mentions
+pub mod Faults
+pub mod Examples

@@ -11,5 +11,6 @@ pub mod Steps
 pub mod Runs
 pub mod Refusals
 pub mod Marks
+pub mod Terms
 pub mod Exact
 pub mod Enough

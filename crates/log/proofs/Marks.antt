@@ -7,7 +7,7 @@ use mathlib.Core.List.{List, [], _∷_, _++_, flatMap}
 use mathlib.Core.Logic.{_⊎_, inl, inr}
 use native.Mathlib.Omega.{arith}
 use lib.ListN.{length}
-use Rattle.lists.specs.All.{All, all-nil}
+use Rattle.lists.specs.All.{All, all-nil, In, here, there}
 use Rattle.lists.proofs.All.{all-join}
 use Rattle.lists.proofs.Flat.{flat-join}
 use Rattle.row.specs.Row.{greatest, width, rowBytes, Writable}
@@ -37,9 +37,10 @@ use Rattle.log.proofs.Refusals.{refused-number, refused-row, begun-leng
 abbrev pub LogNumber : ℕ → Type 0
 LogNumber n = (n ≡ outsideFault) ⊎ (n ≡ undefinedFault) ⊎ (n ≡ logFault)
 
-first-at : {A : Type 0} {Fine : A → Type 0} {Fault : A → ℕ → Type 0} {xs : List A} {n : ℕ} → First Fine Fault xs n → (x : A) × Fault x n
-first-at (fault-here {x = x} h) = (x, h)
-first-at (fault-later h f) = first-at f
+-- the member with the first fault
+pub first-in : {A : Type 0} {Fine : A → Type 0} {Fault : A → ℕ → Type 0} {xs : List A} {n : ℕ} → First Fine Fault xs n → (x : A) × In x xs × Fault x n
+first-in (fault-here {x = x} h) = (x, here refl, h)
+first-in (fault-later h f) = let (x, i, g) = first-in f in (x, there i, g)
 
 module _ (t : Rows) where
   abbrev machine : Machine
@@ -57,9 +58,9 @@ module _ (t : Rows) where
   action-fault-number ρ x (becomesSuchThat r) n f = formula-fault-number f
 
   step-fault-number : {ro : Role} {e : ℕ} {c s q k : State machine} {n : ℕ} → StepFault t ro e c s q k n → LogNumber n
-  step-fault-number (axiom-fault i f) = formula-fault-number (first-at f .1)
-  step-fault-number (guard-fault a f) = formula-fault-number (first-at f .1)
-  step-fault-number {e = e} {n = n} (action-fault a g f) = let p = first-at f in action-fault-number _ (p .0) (machine .action e (p .0)) n (p .1)
+  step-fault-number (axiom-fault i f) = formula-fault-number (first-in f .2)
+  step-fault-number (guard-fault a f) = formula-fault-number (first-in f .2)
+  step-fault-number {e = e} {n = n} (action-fault a g f) = let (x, i, g) = first-in f in action-fault-number _ x (machine .action e x) n g
 
   pub refusal-number : {first : Bool} {c s : State machine} {i : ℕ} {bytes : List ℕ} {number row : ℕ} → Refusal t first c s i bytes number row → LogNumber number
   refusal-number empty = inr (inr refl)

@@ -1,13 +1,13 @@
--- 01, Table L and marked cases: P1 to P10 as rows of one table: what the definitions give, and what 01 says, P1 to P3 as 02's request 4 has them. One proof computes
--- them all.
-use Prim.Native.Nat.{ℕ, zero, suc}
+-- 01, Table L and marked cases: P1 to P10 as rows of one table: what the definitions give, and what 01 says, P1 to P3 as 02's request 4 has them; then replays of logs,
+-- and what 02's request 5 says. One proof computes them all.
+use Prim.Native.Nat.{ℕ, zero, suc, _-_}
 use mathlib.Core.Path.{_≡_, refl}
 use mathlib.Core.Bool.{Bool, true, false, _&&_}
 use mathlib.Core.List.{List, [], _∷_, _++_}
 use mathlib.Core.Option.{Option, none, some}
 use lib.Dec.{eqb}
 use lib.IntN.{ℤ, pos, negsuc}
-use lib.ListN.{replicate}
+use lib.ListN.{replicate, take}
 use Rattle.row.specs.declared.Row.{Row}
 use Rattle.formula.specs.Values.{integer, AnyValue, number, truth, asValue}
 use Rattle.formula.specs.Tree.{literal, logicalNot, equal, quotient, remainder, and, Division, Tree, constant, identifier, unary, binary, division, connective}
@@ -24,6 +24,9 @@ use Rattle.reply.specs.declared.Reply.the-variants as reply
 use Rattle.reply.specs.Row.{row}
 use Rattle.reply.specs.Printed.{rowsBytes}
 use Rattle.reply.specs.Replies.{Outcome, writeSequent, output}
+use Rattle.log.specs.declared.Replay.{Replay}
+use Rattle.log.specs.declared.Replay.the-variants as replayed
+use Rattle.log.specs.Replay.{replay}
 
 -- An answer of any kind as a list of numbers.
 abbrev accepted : ℕ → List ℕ
@@ -39,6 +42,10 @@ ofVerdict (verdict.Refused c r) = refused c r
 abbrev ofReply : Reply → List ℕ
 ofReply (reply.Written n) = accepted n
 ofReply (reply.Refused c r) = refused c r
+
+abbrev ofReplay : Replay → List ℕ
+ofReplay (replayed.Steps n) = accepted n
+ofReplay (replayed.Refused c r) = refused c r
 
 -- a reply, then the buffer
 abbrev ofOutcome : Outcome → List ℕ
@@ -60,7 +67,7 @@ ofReading none = undefined
 ofReading (some (number z)) = whole z
 ofReading (some (truth b)) = bit b
 
--- A case: what the definitions give, and what 01 says.
+-- A case: what the definitions give, and what 01 or 02 says.
 pub record Case : Type 0 where
   pub computed : List ℕ
   pub stated : List ℕ
@@ -145,6 +152,54 @@ stepTo z = record { event = 3; parameters = blank falling; result = withU z }
 abbrev pub readIn : ℤ → Env (falling .type)
 readIn z = world falling (blank falling) (blank falling) (withU z) (blank falling) (blank falling) (blank falling) (blank falling)
 
+-- 02, request 5: logs of L, which has one identifier to log, the concrete variable 2, and one concrete event, the initialisation 2
+abbrev logL : List Row
+logL = row 90 2 0 0 ∷ row 91 2 0 0 ∷ []
+
+abbrev replayL : List Row → List ℕ
+replayL rs = ofReplay (replay bytesL (rowsBytes rs))
+
+-- the first log, ended after so many bytes
+abbrev replayTorn : ℕ → List ℕ
+replayTorn n = ofReplay (replay bytesL (take n (rowsBytes logL)))
+
+-- 02, request 5: a table with a concrete boolean variable b, a constant c, a shared variable n, a parameter p and a concrete variable k, in this order. The axiom is
+-- 0 < c. Event 3, the concrete initialisation, makes b := FALSE, n := 0 and k := c; event 4 has the guards p ≤ 100 ∧ (p × p) × p ≤ 100 and 0 < c ÷ p, makes
+-- b := bool(n < p) and n such that n' ≤ n + p, and leaves k.
+abbrev rowsM : List Row
+rowsM =
+    row 10 3 2 0 ∷ row 10 1 1 0 ∷ row 10 6 1 0 ∷ row 10 5 1 4 ∷ row 10 3 1 0 ∷
+    row 20 1 0 0 ∷ row 20 2 2 0 ∷ row 20 21 1 2 ∷
+    row 20 2 4 0 ∷ row 20 1 100 0 ∷ row 20 22 4 5 ∷ row 20 2 4 0 ∷ row 20 2 4 0 ∷ row 20 12 7 8 ∷ row 20 2 4 0 ∷ row 20 12 9 10 ∷ row 20 1 100 0 ∷ row 20 22 11 12 ∷ row 20 33 6 13 ∷
+    row 20 1 0 0 ∷ row 20 2 2 0 ∷ row 20 2 4 0 ∷ row 20 13 16 17 ∷ row 20 21 15 18 ∷
+    row 20 2 3 0 ∷ row 20 2 4 0 ∷ row 20 21 20 21 ∷ row 20 6 22 0 ∷
+    row 20 3 3 0 ∷ row 20 2 3 0 ∷ row 20 2 4 0 ∷ row 20 10 25 26 ∷ row 20 22 24 27 ∷
+    row 20 5 0 0 ∷ row 20 1 0 0 ∷ row 20 2 2 0 ∷ row 20 1 0 0 ∷ row 20 30 0 0 ∷
+    row 30 3 0 0 ∷ row 40 1 0 0 ∷ row 40 1 1 0 ∷ row 40 2 0 0 ∷ row 40 2 1 2 ∷ row 50 4 14 0 ∷ row 50 4 19 0 ∷
+    row 51 1 3 32 ∷ row 51 3 1 29 ∷ row 51 3 3 30 ∷ row 51 3 5 31 ∷ row 51 4 1 23 ∷ row 52 2 3 33 ∷ row 52 4 3 28 ∷ []
+
+abbrev bytesM : List ℕ
+bytesM = rowsBytes rowsM
+
+-- its rows of the initialisation, with the constant c, and of a step of event 4, with b, n, p and k
+abbrev beginning : ℕ → List Row
+beginning c = row 90 3 0 0 ∷ row 91 1 0 0 ∷ row 91 2 c 0 ∷ row 91 3 0 0 ∷ row 91 5 c 0 ∷ []
+
+abbrev step : ℕ → ℕ → ℕ → ℕ → List Row
+step b n p k = row 90 4 0 0 ∷ row 91 1 b 0 ∷ row 91 3 n 0 ∷ row 91 4 p 0 ∷ row 91 5 k 0 ∷ []
+
+-- the word of a negative number
+abbrev minus : ℕ → ℕ
+minus n = 18446744073709551616 - n
+
+-- a log, and bytes after it
+abbrev replayM : List Row → List ℕ → List ℕ
+replayM rs torn = ofReplay (replay bytesM (rowsBytes rs ++ torn))
+
+-- rows after the initialisation with c = 6
+abbrev afterSix : List Row → List ℕ
+afterSix rs = replayM (beginning 6 ++ rs) []
+
 unfoldable pub cases : List Case
 cases =
     -- P1: the program prints for L
@@ -178,6 +233,51 @@ cases =
     ∷ gives (ofReading (readTree (readIn (negsuc 0)) (falling .tree 8))) (whole (negsuc 0))
     ∷ gives (bit (withinBound (convergentSteps falling (stepTo (negsuc 0) ∷ [])) (pos 0))) (bit true)
     ∷ gives (bit (withinBound (convergentSteps falling (stepTo (negsuc 0) ∷ stepTo (negsuc 1) ∷ [])) (pos 0))) (bit false)
+    -- 02, request 5: logs of L, the first of which is a run with no step after the initialisation
+    ∷ gives (replayL logL) (accepted 0)
+    -- an empty log, and one that ends inside the step
+    ∷ gives (replayTorn 0) (refused 18 0)
+    ∷ gives (replayTorn 38) (refused 18 0)
+    -- a torn row 1, and a torn row 2
+    ∷ gives (replayTorn 37) (refused 18 1)
+    ∷ gives (replayTorn 39) (refused 18 2)
+    -- a value that the action does not allow
+    ∷ gives (replayL (row 90 2 0 0 ∷ row 91 2 1 0 ∷ [])) (refused 18 1)
+    -- a second initialisation, and a row past the step's last
+    ∷ gives (replayL (logL ++ logL)) (refused 18 3)
+    ∷ gives (replayL (logL ++ (row 91 2 0 0 ∷ []))) (refused 18 3)
+    -- columns not used that are not 0
+    ∷ gives (replayL (row 90 2 0 1 ∷ row 91 2 0 0 ∷ [])) (refused 18 1)
+    ∷ gives (replayL (row 90 2 0 0 ∷ row 91 2 0 1 ∷ [])) (refused 18 2)
+    -- the abstract initialisation, and an abstract variable
+    ∷ gives (replayL (row 90 1 0 0 ∷ row 91 1 0 0 ∷ [])) (refused 18 1)
+    ∷ gives (replayL (row 90 2 0 0 ∷ row 91 1 0 0 ∷ [])) (refused 18 2)
+    -- a refused table
+    ∷ gives (ofReplay (replay (rowsBytes shortL) (rowsBytes logL))) (refused 9 7)
+    -- logs of the other table: two steps, constants and parameters standing among the variables in identifier order
+    ∷ gives (afterSix (step 1 2 2 6 ++ step 0 (minus 5) 2 6)) (accepted 2)
+    -- 16: p × p × p leaves 64 bits; 17: c ÷ 0; each with the step's row 90
+    ∷ gives (afterSix (step 0 0 (minus 2147483648) 6)) (refused 16 6)
+    ∷ gives (afterSix (step 1 2 2 6 ++ step 0 0 0 6)) (refused 17 11)
+    -- guards that are false: 0 < 6 ÷ −1; and p ≤ 100, after which ∧ does not read p × p × p
+    ∷ gives (afterSix (step 0 0 (minus 1) 6)) (refused 18 6)
+    ∷ gives (afterSix (step 1 0 2147483647 6)) (refused 18 6)
+    -- values that an action does not allow: of b, of n, and of k, which is not assigned
+    ∷ gives (afterSix (step 0 2 2 6)) (refused 18 6)
+    ∷ gives (afterSix (step 1 3 2 6)) (refused 18 6)
+    ∷ gives (afterSix (step 1 2 2 7)) (refused 18 6)
+    -- a false axiom
+    ∷ gives (replayM (beginning 0) []) (refused 18 1)
+    -- a boolean 2 and a value that is in no number form, before any term is read
+    ∷ gives (afterSix (step 2 2 (minus 2147483648) 6)) (refused 18 7)
+    ∷ gives (afterSix (step 1 2147483648 (minus 2147483648) 6)) (refused 18 8)
+    -- the parameter before the variables
+    ∷ gives (afterSix (row 90 4 0 0 ∷ row 91 4 2 0 ∷ row 91 1 1 0 ∷ row 91 3 2 0 ∷ row 91 5 6 0 ∷ [])) (refused 18 7)
+    -- a torn end, and one that does not hide the fault of the step before it
+    ∷ gives (replayM (beginning 6 ++ step 1 2 2 6) (room 7)) (refused 18 11)
+    ∷ gives (replayM (beginning 6 ++ step 1 2 0 6) (room 7)) (refused 17 6)
+    -- a step before the initialisation
+    ∷ gives (replayM (step 1 2 2 6) []) (refused 18 1)
     ∷ []
 
 -- the two are the same in every case

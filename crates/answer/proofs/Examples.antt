@@ -1,0 +1,158 @@
+-- 02, request 5, evaluation in signed 64 bits by examples: at the bounds, where both faults are met, and what the connectives don't read. All are computed from the definition.
+use mathlib.Core.Path.{_≡_, refl}
+use mathlib.Core.Bool.{true, false}
+use Prim.Native.Nat.{ℕ, _-_, _^_}
+use lib.IntN.{pos, negsuc}
+use Rattle.formula.specs.Values.{integer, number, truth}
+use Rattle.formula.specs.Tree.{literal, top, bottom, bool, negation, logicalNot, plus, minus, times, equal, less, iff, quotient, remainder, and, or, implies}
+use Rattle.formula.specs.Tree.{Tree, constant, unary, binary, division, connective}
+use Rattle.formula.specs.Evaluate.{Env}
+use Rattle.answer.specs.Answer.{Answer, value, outside, undefined, within, operands, binaryAnswer, divisionAnswer, connectiveAnswer, unaryAnswer, answer}
+
+-- no identifier is mentioned
+abbrev env : Env (λ x. integer)
+env = record { present = λ x. pos 0; after = λ x. pos 0 }
+
+abbrev answered : Tree → Answer
+answered t = answer env t
+
+-- a literal by its word, a negative one in two's complement
+abbrev word : ℕ → Tree
+word w = constant (literal w)
+
+abbrev minusOne : Tree
+minusOne = word (2 ^ 64 - 1)
+
+-- 2 ^ 62, 2 ^ 63 − 1 and −2 ^ 63
+abbrev large : Tree
+large = word (2 ^ 62)
+
+abbrev greatest : Tree
+greatest = word (2 ^ 63 - 1)
+
+abbrev least : Tree
+least = word (2 ^ 63)
+
+-- ---- the bounds
+
+greatest-fits : answered greatest ≡ value (number (pos (2 ^ 63 - 1)))
+unfolding answer within
+greatest-fits = refl
+
+above-greatest : answered (binary plus greatest (word 1)) ≡ outside
+unfolding answer within binaryAnswer operands
+above-greatest = refl
+
+least-fits : answered least ≡ value (number (negsuc (2 ^ 63 - 1)))
+unfolding answer within
+least-fits = refl
+
+below-least : answered (binary minus least (word 1)) ≡ outside
+unfolding answer within binaryAnswer operands
+below-least = refl
+
+-- 2 ^ 62 × −2 fits, 2 ^ 62 × 2 doesn't
+products : (answered (binary times large (word (2 ^ 64 - 2))) ≡ value (number (negsuc (2 ^ 63 - 1)))) × (answered (binary times large (word 2)) ≡ outside)
+unfolding answer within binaryAnswer operands
+products = (refl, refl)
+
+-- every node's exact value counts: (2 ^ 62 + 2 ^ 62) − 2 ^ 62
+part-outside : answered (binary minus (binary plus large large) large) ≡ outside
+unfolding answer within binaryAnswer operands
+part-outside = refl
+
+-- mod is one operator: −2 ^ 63 mod −1 is 0, but −2 ^ 63 ÷ −1 and −(−2 ^ 63) are 2 ^ 63
+least-mod : answered (division remainder least minusOne) ≡ value (number (pos 0))
+unfolding answer within divisionAnswer operands
+least-mod = refl
+
+least-divided : answered (division quotient least minusOne) ≡ outside
+unfolding answer within divisionAnswer operands
+least-divided = refl
+
+least-negated : answered (unary negation least) ≡ outside
+unfolding answer within unaryAnswer
+least-negated = refl
+
+-- ---- both faults
+
+-- a term outside 64 bits, and an undefined one
+abbrev tooLarge : Tree
+tooLarge = binary plus greatest (word 1)
+
+abbrev byZero : Tree
+byZero = division quotient (word 1) (word 0)
+
+by-zero : (answered byZero ≡ undefined) × (answered (division remainder (word 1) (word 0)) ≡ undefined)
+unfolding answer within divisionAnswer operands
+by-zero = (refl, refl)
+
+-- undefined wins, on either side, of a term and of a comparison
+undefined-sum : (answered (binary plus tooLarge byZero) ≡ undefined) × (answered (binary plus byZero tooLarge) ≡ undefined)
+unfolding answer within binaryAnswer divisionAnswer operands
+undefined-sum = (refl, refl)
+
+undefined-less : (answered (binary less tooLarge byZero) ≡ undefined) × (answered (binary less byZero tooLarge) ≡ undefined)
+unfolding answer within binaryAnswer divisionAnswer operands
+undefined-less = (refl, refl)
+
+-- a dividend outside 64 bits: divisor 0, and divisor 1
+dividend-outside : (answered (division quotient tooLarge (word 0)) ≡ undefined) × (answered (division quotient tooLarge (word 1)) ≡ outside)
+unfolding answer within binaryAnswer divisionAnswer operands
+dividend-outside = (refl, refl)
+
+-- a divisor with a part outside 64 bits, whose exact value is 0: 1 ÷ ((2 ^ 63 − 1 + 1) − (2 ^ 63 − 1 + 1))
+divisor-outside : (answered (division quotient (word 1) (binary minus tooLarge tooLarge)) ≡ outside) × (answered (division quotient byZero tooLarge) ≡ undefined)
+unfolding answer within binaryAnswer divisionAnswer operands
+divisor-outside = (refl, refl)
+
+-- = of booleans is a comparison too: bool(2 ^ 63 = 0) = bool(1 ÷ 0 = 0)
+abbrev outsidePredicate : Tree
+outsidePredicate = binary equal tooLarge (word 0)
+
+abbrev undefinedPredicate : Tree
+undefinedPredicate = binary equal byZero (word 0)
+
+undefined-equal : answered (binary equal (unary bool outsidePredicate) (unary bool undefinedPredicate)) ≡ undefined
+unfolding answer within unaryAnswer binaryAnswer divisionAnswer operands
+undefined-equal = refl
+
+-- bool and ¬ of a faulty predicate
+faulty-bool : (answered (unary bool outsidePredicate) ≡ outside) × (answered (unary bool undefinedPredicate) ≡ undefined)
+unfolding answer within unaryAnswer binaryAnswer divisionAnswer operands
+faulty-bool = (refl, refl)
+
+faulty-not : (answered (unary logicalNot outsidePredicate) ≡ outside) × (answered (unary logicalNot undefinedPredicate) ≡ undefined)
+unfolding answer within unaryAnswer binaryAnswer divisionAnswer operands
+faulty-not = (refl, refl)
+
+-- ---- connectives
+
+abbrev ⊤ᵗ : Tree
+⊤ᵗ = constant top
+
+abbrev ⊥ᵗ : Tree
+⊥ᵗ = constant bottom
+
+-- a right side that isn't read
+unread-right :
+    (answered (connective and ⊥ᵗ undefinedPredicate) ≡ value (truth false)) × (answered (connective or ⊤ᵗ outsidePredicate) ≡ value (truth true))
+    × (answered (connective implies ⊥ᵗ undefinedPredicate) ≡ value (truth true))
+unfolding answer within connectiveAnswer
+unread-right = (refl, refl, refl)
+
+-- one that is
+read-right :
+    (answered (connective and ⊤ᵗ undefinedPredicate) ≡ undefined) × (answered (connective or ⊥ᵗ outsidePredicate) ≡ outside)
+    × (answered (connective implies ⊤ᵗ outsidePredicate) ≡ outside) × (answered (binary iff ⊥ᵗ undefinedPredicate) ≡ undefined)
+unfolding answer within binaryAnswer divisionAnswer connectiveAnswer operands
+read-right = (refl, refl, refl, refl)
+
+-- they stop at a faulty left side
+faulty-left : (answered (connective and undefinedPredicate ⊥ᵗ) ≡ undefined) × (answered (connective or outsidePredicate undefinedPredicate) ≡ outside)
+unfolding answer within binaryAnswer divisionAnswer connectiveAnswer operands
+faulty-left = (refl, refl)
+
+faulty-iff : (answered (binary iff outsidePredicate undefinedPredicate) ≡ outside) × (answered (binary iff undefinedPredicate outsidePredicate) ≡ undefined)
+unfolding answer within binaryAnswer divisionAnswer operands
+faulty-iff = (refl, refl)
