@@ -15,6 +15,7 @@ pub mod operators;
 pub mod plain;
 pub mod program;
 pub mod refute;
+pub mod replay;
 pub mod rows;
 pub mod sequents;
 pub mod services;

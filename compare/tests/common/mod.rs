@@ -1,6 +1,8 @@
 //! Tables that several tests share.
 #![allow(dead_code)]
 
+pub mod prefix;
+
 use compare::against::{Call, Reply, Services};
 use compare::checks::Refusal;
 use compare::rows::{bytes_of, layout, Row};
