@@ -17,6 +17,7 @@ pub mod program;
 pub mod refute;
 pub mod replay;
 pub mod rows;
+pub mod runs;
 pub mod sequents;
 pub mod services;
 pub mod shrink;

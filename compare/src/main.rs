@@ -4,24 +4,27 @@ use compare::against::Services;
 use compare::bench;
 use compare::by_sequent::hold;
 use compare::campaign::{self, Found, Summary};
-use compare::checks::Refusal;
+use compare::checks::{accept, Refusal};
 use compare::generate;
 use compare::operators::family;
 use compare::operators::wanted::{missing, wanted};
 use compare::plain::is_left_out;
 use compare::program::{self, Program};
+use compare::replay::replayed;
 use compare::rows::{bytes_of, layout, Row};
+use compare::runs::simulate::simulate;
 use compare::services::{print, refusal_row, Answers};
 use compare::stack::report;
 use compare::statistics::Statistics;
 use compare::table::Table;
 use compare::validity::{search, Under};
-use std::fs::read_to_string;
+use std::fs::{read, read_to_string};
 use std::io::{stdin, stdout, Read, Write};
 use std::path::Path;
 use std::process::ExitCode;
 
 const USAGE: &str = "use: compare print | sequent K | entry K J | layout | table SEED
+     | replay TABLE LOG | simulate TABLE STEPS SEED
      | statistics SEEDS [FIRST] | left-out SEEDS [FIRST]
      | against-library TABLES [FIRST] | operators
      | against-program PROGRAM TABLES [FIRST] | by-sequent PROGRAM [FILE..]
@@ -59,6 +62,8 @@ fn answer(words: &[&str]) -> Result<Vec<u8>, String> {
         }
         ["table", seed] => Ok(generate::table(number(seed)?)),
         ["bench-table", name] => bench::table(name),
+        ["replay", table, log] => Ok(replayed(&bytes_in(table)?, &bytes_in(log)?)),
+        ["simulate", table, steps, seed] => simulated(table, number(steps)?, number(seed)?),
         ["statistics", seeds] => Ok(Statistics::of(0, number(seeds)?).report().into_bytes()),
         ["statistics", seeds, first] => {
             let statistics = Statistics::of(number(first)?, number(seeds)?);
@@ -68,6 +73,13 @@ fn answer(words: &[&str]) -> Result<Vec<u8>, String> {
         ["left-out", seeds, first] => left_out(number(seeds)?, number(first)?),
         _ => compared(words),
     }
+}
+
+/// A log of a real run of the table in this file.
+fn simulated(file: &str, steps: u64, seed: u64) -> Result<Vec<u8>, String> {
+    let table = accept(&bytes_in(file)?);
+    let refused = |one: Refusal| format!("{file}: refused by {}, row {}", one.number, one.row);
+    simulate(&table.map_err(refused)?, steps, seed)
 }
 
 /// Searches the sequents that request 4 leaves out for values that refute them.
@@ -195,6 +207,11 @@ fn program_of(path: &str) -> Program {
 fn answered(rows: Result<Vec<Row>, Refusal>) -> Result<Vec<u8>, String> {
     let rows = rows.unwrap_or_else(|refusal| vec![refusal_row(refusal)]);
     Ok(bytes_of(&rows))
+}
+
+/// All that the file holds.
+fn bytes_in(file: &str) -> Result<Vec<u8>, String> {
+    read(file).map_err(|error| format!("{file}: {error}"))
 }
 
 fn number(text: &str) -> Result<u64, String> {

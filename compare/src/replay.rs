@@ -5,6 +5,8 @@ pub mod machine;
 pub mod term;
 
 use crate::checks::{accept, Refusal};
+use crate::rows::{bytes_of, Row};
+use crate::services::refusal_row;
 use machine::Machine;
 use term::Fault;
 
@@ -16,6 +18,15 @@ pub const NOT_A_RUN: i32 = 18;
 pub fn replay(table: &[u8], run: &[u8]) -> Result<u64, Refusal> {
     let machine = Machine::of(&accept(table)?);
     machine.replay(run).map_err(Stop::refusal)
+}
+
+/// What the program `replay` prints: row 92 (steps, 0, 0), or row 89 (refusal, row, 0).
+pub fn replayed(table: &[u8], run: &[u8]) -> Vec<u8> {
+    let row = match replay(table, run) {
+        Ok(steps) => Row::new(92, steps as i32, 0, 0),
+        Err(refusal) => refusal_row(refusal),
+    };
+    bytes_of(&[row])
 }
 
 /// Where a log stops being a run: a row of it, counted from 1, or 0, and why.

@@ -17,6 +17,13 @@ pub struct Logged {
     pub variable: bool,
 }
 
+impl Logged {
+    /// Its place among the values of a state.
+    pub fn place(self) -> usize {
+        self.number as usize - 1
+    }
+}
+
 impl<'a> Log<'a> {
     pub fn new(bytes: &'a [u8]) -> Log<'a> {
         Log {

@@ -9,7 +9,6 @@ use crate::table::*;
 /// What the steps of a run need of a table.
 pub struct Machine {
     nodes: Vec<Node>,
-    axioms: Vec<i32>,
     /// The number of the concrete initialisation.
     pub initial: i32,
     /// By event number less one; nothing for abstract events.
@@ -21,8 +20,8 @@ pub struct Step {
     pub event: i32,
     /// Constants or parameters, and variables, in identifier order.
     pub logged: Vec<Logged>,
-    pub axioms: bool,
-    pub guards: Vec<i32>,
+    /// Roots that must be true, in order: axioms at the initialisation, then guards.
+    pub conditions: Vec<(Role, i32)>,
     /// Variables in identifier order.
     pub variables: Vec<(usize, Change)>,
 }
@@ -40,7 +39,6 @@ impl Machine {
         let numbers = 1..=table.events.len() as i32;
         Machine {
             nodes: table.nodes.clone(),
-            axioms: table.tagged(AXIOM).map(|row| row.root).collect(),
             initial: initialisation(table, CONCRETE).expect("an accepted table has one"),
             events: numbers.map(|number| step_of(table, number)).collect(),
         }
@@ -79,12 +77,11 @@ impl Machine {
             cause: Cause::Event,
         })?;
         for &one in &step.logged {
-            let place = one.number as usize - 1;
             let value = log.value(one)?;
             if one.variable {
-                state.after[place] = value;
+                state.after[one.place()] = value;
             } else {
-                state.now[place] = value;
+                state.now[one.place()] = value;
             }
         }
         Ok(step)
@@ -92,20 +89,11 @@ impl Machine {
 
     /// Whether the step is allowed; if not, by its first fault.
     pub fn judge(&self, step: &Step, state: &State) -> Result<(), Cause> {
-        if step.axioms {
-            self.all_true(Role::Axiom, &self.axioms, state)?;
+        for &(role, root) in &step.conditions {
+            is_wanted(role, self.value(root, state), 1)?;
         }
-        self.all_true(Role::Guard, &step.guards, state)?;
         for &(place, change) in &step.variables {
             self.judge_change(change, place, state)?;
-        }
-        Ok(())
-    }
-
-    /// Whether these predicates are true, each read only where those before it are.
-    pub fn all_true(&self, role: Role, roots: &[i32], state: &State) -> Result<(), Cause> {
-        for &root in roots {
-            is_wanted(role, self.value(root, state), 1)?;
         }
         Ok(())
     }
@@ -132,6 +120,12 @@ impl Machine {
 }
 
 impl Step {
+    /// The constants or parameters that it logs.
+    pub fn inputs(&self) -> Vec<Logged> {
+        let inputs = self.logged.iter().filter(|one| !one.variable);
+        inputs.copied().collect()
+    }
+
     /// What the step leaves is what the next one starts from.
     pub fn settle(&self, state: &mut State) {
         for &(place, _) in &self.variables {
@@ -149,39 +143,47 @@ fn is_wanted(role: Role, answer: Answer, wanted: i64) -> Result<(), Cause> {
     }
 }
 
-/// The steps of a concrete event.
+/// The steps of an event, if it is concrete.
 fn step_of(table: &Table, event: i32) -> Option<Step> {
     let Event { machine, class, .. } = table.event(event)?;
-    if machine != CONCRETE {
-        return None;
-    }
-    let initial = class == INITIALISATION;
-    let numbered = table.identifiers.iter().zip(1..);
-    let logs = |one: &Identifier| match one.kind {
-        CONSTANT => initial,
+    let first = class == INITIALISATION;
+    let variables = table.variables(CONCRETE).into_iter();
+    let change = |number: i32| (number as usize - 1, change_of(table, event, number));
+    (machine == CONCRETE).then(|| Step {
+        event,
+        logged: logged_by(table, event, first),
+        conditions: conditions_of(table, event, first),
+        variables: variables.map(change).collect(),
+    })
+}
+
+fn logged_by(table: &Table, event: i32, first: bool) -> Vec<Logged> {
+    let is_logged = |one: &Identifier| match one.kind {
+        CONSTANT => first,
         CONCRETE_PARAMETER => one.owner == event,
         kind => is_variable_of(CONCRETE, kind),
     };
-    let logged = numbered.filter(|(one, _)| logs(one));
-    let change = |number: i32| match table.action(event, number) {
+    let numbered = table.identifiers.iter().zip(1..);
+    let logged = numbered.filter(|(one, _)| is_logged(one));
+    let logged = logged.map(|(one, number)| Logged {
+        number,
+        boolean: one.type_number == BOOLEAN,
+        variable: one.is_variable(),
+    });
+    logged.collect()
+}
+
+fn conditions_of(table: &Table, event: i32, first: bool) -> Vec<(Role, i32)> {
+    let axioms = table.tagged(AXIOM).filter(|_| first);
+    let axioms = axioms.map(|row| (Role::Axiom, row.root));
+    let guards = table.guards(event).map(|row| (Role::Guard, row.root));
+    axioms.chain(guards).collect()
+}
+
+fn change_of(table: &Table, event: i32, variable: i32) -> Change {
+    match table.action(event, variable) {
         Some(row) if row.tag == BECOMES_EQUAL => Change::Equal(row.root),
         Some(row) => Change::SuchThat(row.root),
         None => Change::Kept,
-    };
-    let variables = table.variables(CONCRETE).into_iter();
-    Some(Step {
-        event,
-        logged: logged
-            .map(|(one, number)| Logged {
-                number,
-                boolean: one.type_number == BOOLEAN,
-                variable: one.is_variable(),
-            })
-            .collect(),
-        axioms: initial,
-        guards: table.guards(event).map(|row| row.root).collect(),
-        variables: variables
-            .map(|number| (number as usize - 1, change(number)))
-            .collect(),
-    })
+    }
 }
