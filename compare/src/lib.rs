@@ -11,6 +11,7 @@ pub mod generate;
 #[cfg(library)]
 pub mod library;
 pub mod mentioned;
+pub mod numbers;
 pub mod operators;
 pub mod plain;
 pub mod program;
