@@ -15,6 +15,7 @@ use compare::rows::{bytes_of, layout, Row};
 use compare::runs::simulate::simulate;
 use compare::services::{print, refusal_row, Answers};
 use compare::stack::report;
+use compare::statistics::replays::Replays;
 use compare::statistics::Statistics;
 use compare::table::Table;
 use compare::validity::{search, Under};
@@ -25,7 +26,7 @@ use std::process::ExitCode;
 
 const USAGE: &str = "use: compare print | sequent K | entry K J | layout | table SEED
      | replay TABLE LOG | simulate TABLE STEPS SEED
-     | statistics SEEDS [FIRST] | left-out SEEDS [FIRST]
+     | statistics SEEDS [FIRST] | replay-statistics BATCHES | left-out SEEDS [FIRST]
      | against-library TABLES [FIRST] | operators
      | against-program PROGRAM TABLES [FIRST] | by-sequent PROGRAM [FILE..]
      | bench [PROGRAM] | bench-table NAME | stack";
@@ -68,6 +69,9 @@ fn answer(words: &[&str]) -> Result<Vec<u8>, String> {
         ["statistics", seeds, first] => {
             let statistics = Statistics::of(number(first)?, number(seeds)?);
             Ok(statistics.report().into_bytes())
+        }
+        ["replay-statistics", batches] => {
+            Ok(Replays::of(0, number(batches)?).report().into_bytes())
         }
         ["left-out", seeds] => left_out(number(seeds)?, 0),
         ["left-out", seeds, first] => left_out(number(seeds)?, number(first)?),

@@ -1,5 +1,6 @@
 //! Real runs of a table: values are tried until a step is allowed.
 
+use super::values::any_integer;
 use crate::formula::LITERAL;
 use crate::generate::random::Random;
 use crate::replay::log::Logged;
@@ -25,10 +26,11 @@ const STARTS: usize = 16;
 /// Walks from state to state of a machine.
 #[derive(Clone)]
 pub struct Simulator<'a> {
-    machine: &'a Machine,
+    pub machine: &'a Machine,
     literals: Vec<i32>,
+    identifiers: usize,
     /// Concrete events but the initialisation.
-    events: Vec<i32>,
+    pub events: Vec<i32>,
     pub state: State,
 }
 
@@ -54,6 +56,7 @@ impl<'a> Simulator<'a> {
         Simulator {
             machine,
             literals: literals.map(|node| node.b).collect(),
+            identifiers: table.identifiers.len(),
             events: numbers.filter(later).collect(),
             state: State::default(),
         }
@@ -124,7 +127,7 @@ impl<'a> Simulator<'a> {
     }
 
     /// Constants or parameters that meet the axioms and guards: one value after another is changed, for no worse.
-    fn choose_inputs(&mut self, step: &Step, random: &mut Random) -> bool {
+    pub fn choose_inputs(&mut self, step: &Step, random: &mut Random) -> bool {
         let inputs = step.inputs();
         for &one in &inputs {
             self.state.now[one.place()] = self.any_value(one, random);
@@ -172,7 +175,7 @@ impl<'a> Simulator<'a> {
     }
 
     /// An after value for which the predicate is true.
-    fn such_that(&mut self, one: Logged, root: i32, random: &mut Random) -> Option<i64> {
+    pub fn such_that(&mut self, one: Logged, root: i32, random: &mut Random) -> Option<i64> {
         for _ in 0..AFTER_VALUES {
             let value = self.any_value(one, random);
             self.state.after[one.place()] = value;
@@ -183,36 +186,14 @@ impl<'a> Simulator<'a> {
         None
     }
 
-    /// A value of its type: small, at an end of 32 bits, or near a literal of the table or a value of the state.
+    /// A value of its type.
     pub fn any_value(&self, one: Logged, random: &mut Random) -> i64 {
         if one.boolean {
             return random.below(2) as i64;
         }
-        let near = random.pick(&[-1, 0, 0, 1]);
-        let value = match random.below(8) {
-            0 | 1 => random.below(21) as i64 - 10,
-            2 => random.pick(&ENDS),
-            3 => random.below(1 << 16) as i64,
-            4 | 5 => i64::from(random.maybe(&self.literals).unwrap_or(0)) + near,
-            _ => random.pick(&self.state.now) + near,
-        };
-        value.clamp(i64::from(i32::MIN), i64::from(i32::MAX))
+        any_integer(&self.literals, &self.state.now[..self.identifiers], random)
     }
 }
-
-/// Values at the ends of 32 bits, and whose square or cube is at an end of 32 or 64 bits.
-const ENDS: [i64; 10] = [
-    -2147483648,
-    -2147483647,
-    2147483646,
-    2147483647,
-    46340,
-    46341,
-    65536,
-    -65536,
-    2097151,
-    2097152,
-];
 
 /// The rows of a step with these values.
 pub fn rows_of(step: &Step, state: &State) -> Vec<Row> {

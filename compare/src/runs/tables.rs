@@ -1,0 +1,61 @@
+//! Tables made to be replayed: machines of every shape with few formulas, most of which some logged values make faulty.
+
+use super::terms::formula;
+use crate::generate::draft::{Draft, DraftFormula};
+use crate::generate::plan::{root_sort, sight, Plan};
+use crate::generate::random::Random;
+use crate::table::*;
+
+/// A draft of an accepted table.
+pub fn replayed(random: &mut Random) -> Draft {
+    let mut draft = plan(random).draft(random);
+    let mut left = Table::MOST_NODES - draft.nodes();
+    for place in 0..draft.formulas.len() {
+        let one = &draft.formulas[place];
+        if !is_read(&draft, one) {
+            continue;
+        }
+        let seen = sight(&draft, one.tag, one.event, one.identifier);
+        let sort = root_sort(&draft, one.tag, one.identifier);
+        let tree = formula(sort, &seen, left + 1, random);
+        left = left + 1 - tree.nodes();
+        draft.formulas[place].tree = tree;
+    }
+    draft
+}
+
+/// Whether a replay reads it: an axiom, or a guard or action of a concrete event.
+fn is_read(draft: &Draft, one: &DraftFormula) -> bool {
+    match one.tag {
+        AXIOM => true,
+        GUARD | BECOMES_EQUAL | BECOMES_SUCH_THAT => {
+            draft.events[one.event as usize - 1][0] == CONCRETE
+        }
+        _ => false,
+    }
+}
+
+/// Few of everything, or none.
+fn plan(random: &mut Random) -> Plan {
+    let mut plan = Plan {
+        constants: random.pick(&[0, 1, 2, 2, 3]),
+        abstract_variables: random.pick(&[0, 0, 1]),
+        concrete_variables: random.pick(&[0, 1, 1, 2, 3]),
+        abstract_parameters: random.pick(&[0, 0, 1]),
+        abstract_events: random.pick(&[1, 1, 2]),
+        ordinary: random.pick(&[0, 1, 1, 2]),
+        axioms: random.pick(&[0, 1, 1, 2]),
+        guards: random.pick(&[0, 1, 3, 5]),
+        ..Plan::default()
+    };
+    plan.add_shared(random.pick(&[0, 0, 1, 2]));
+    plan.share_new_events(random.pick(&[0, 1, 1, 2]), random);
+    if plan.ordinary + plan.new_events() > 0 {
+        plan.concrete_parameters = random.pick(&[0, 1, 2, 4]);
+    }
+    let concrete = plan.concrete_variables + plan.shared_variables;
+    let initial = concrete + plan.shared_variables + plan.abstract_variables;
+    let events = plan.ordinary + plan.new_events() + plan.abstract_events;
+    plan.actions = initial + random.below(concrete * events + 1);
+    plan
+}
