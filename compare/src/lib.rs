@@ -17,6 +17,7 @@ pub mod plain;
 pub mod program;
 pub mod refute;
 pub mod replay;
+pub mod replays;
 pub mod rows;
 pub mod runs;
 pub mod sequents;

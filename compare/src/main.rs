@@ -11,12 +11,12 @@ use compare::operators::wanted::{missing, wanted};
 use compare::plain::is_left_out;
 use compare::program::{self, Program};
 use compare::replay::replayed;
+use compare::replays::{self, Replays};
 use compare::rows::{bytes_of, layout, Row};
-use compare::runs::simulate::simulate;
+use compare::runs::{self, simulate::simulate};
 use compare::services::{print, refusal_row, Answers};
 use compare::stack::report;
-use compare::statistics::replays::Replays;
-use compare::statistics::Statistics;
+use compare::statistics::{self, Statistics};
 use compare::table::Table;
 use compare::validity::{search, Under};
 use std::fs::{read, read_to_string};
@@ -27,7 +27,7 @@ use std::process::ExitCode;
 const USAGE: &str = "use: compare print | sequent K | entry K J | layout | table SEED
      | replay TABLE LOG | simulate TABLE STEPS SEED
      | statistics SEEDS [FIRST] | replay-statistics BATCHES | left-out SEEDS [FIRST]
-     | against-library TABLES [FIRST] | operators
+     | against-library TABLES [FIRST] | operators | against-library-replay LOGS [FIRST]
      | against-program PROGRAM TABLES [FIRST] | by-sequent PROGRAM [FILE..]
      | bench [PROGRAM] | bench-table NAME | stack";
 
@@ -71,7 +71,8 @@ fn answer(words: &[&str]) -> Result<Vec<u8>, String> {
             Ok(statistics.report().into_bytes())
         }
         ["replay-statistics", batches] => {
-            Ok(Replays::of(0, number(batches)?).report().into_bytes())
+            let statistics = statistics::replays::Replays::of(0, number(batches)?);
+            Ok(statistics.report().into_bytes())
         }
         ["left-out", seeds] => left_out(number(seeds)?, 0),
         ["left-out", seeds, first] => left_out(number(seeds)?, number(first)?),
@@ -105,6 +106,10 @@ fn compared(words: &[&str]) -> Result<Vec<u8>, String> {
         ["against-library", count] => against_library(number(count)?, 0),
         ["against-library", count, first] => against_library(number(count)?, number(first)?),
         ["operators"] => operators(),
+        ["against-library-replay", logs] => against_library_replay(number(logs)?, 0),
+        ["against-library-replay", logs, first] => {
+            against_library_replay(number(logs)?, number(first)?)
+        }
         ["against-program", program, count] => against_program(program, number(count)?, 0),
         ["against-program", program, count, first] => {
             against_program(program, number(count)?, number(first)?)
@@ -129,12 +134,20 @@ fn library() -> Option<&'static dyn Services> {
     return None;
 }
 
+/// Its replay, if this was built with it.
+fn library_replay() -> Option<&'static dyn Replays> {
+    #[cfg(library)]
+    return Some(&compare::library::Library);
+    #[cfg(not(library))]
+    return None;
+}
+
+const UNLINKED: &str =
+    "this was built without the library: set SIFTHORMA_LIBRARY to the path of libsifthorma.a";
+
 /// The proved library, for commands that need it.
 fn linked() -> Result<&'static dyn Services, String> {
-    library().ok_or(
-        "this was built without the library: set SIFTHORMA_LIBRARY to the path of libsifthorma.a"
-            .to_string(),
-    )
+    library().ok_or(UNLINKED.to_string())
 }
 
 /// Compares the proved library with this program on the tables of so many seeds.
@@ -157,6 +170,24 @@ fn operators() -> Result<Vec<u8>, String> {
     let asked = wanted().len();
     let shown = format!("{asked} cases of operators, each shown by some table\n");
     Ok([shown.into_bytes(), same].concat())
+}
+
+/// Compares the proved library's replay with this program's, on every operator by itself and on so many generated logs.
+fn against_library_replay(logs: u64, first: u64) -> Result<Vec<u8>, String> {
+    let replays = library_replay().ok_or(UNLINKED)?;
+    let mut text = String::new();
+    let family = runs::family::family();
+    for compared in [
+        replays::compare_list(replays, &family, threads()),
+        replays::compare(replays, first, logs, threads(), true),
+    ] {
+        let (summary, found) = compared?;
+        text += &summary.report();
+        if let Some(found) = found {
+            return Err(text + &found.report());
+        }
+    }
+    Ok((text + "no difference\n").into_bytes())
 }
 
 fn threads() -> usize {

@@ -117,7 +117,7 @@ fn operators_meet_faults_on_either_side() {
                 "{operator} {fault:?} right"
             );
         }
-        assert!(met(operator, &faults, &faults) >= 20, "{operator}: both");
+        assert!(met(operator, &faults, &faults) >= 10, "{operator}: both");
     }
     for operator in [DIVIDE, MOD] {
         assert!(

@@ -90,7 +90,7 @@ fn logs_of(table: &Table, random: &mut Random) -> Vec<Vec<u8>> {
 /// How many steps to take: few, or one in fifteen times some hundreds.
 fn steps(random: &mut Random) -> usize {
     match random.below(30) {
-        0 | 1 => random.between(100, 400),
+        0 | 1 => random.between(100, 700),
         2..=5 => random.between(8, 30),
         _ => random.below(8),
     }

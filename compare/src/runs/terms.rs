@@ -29,9 +29,11 @@ enum Kind {
     MaybeUndefined,
     /// An operator whose operands may both be faulty.
     TwoFaults,
+    /// 0, with a part that is or may be outside.
+    ZeroOutside,
 }
 
-const KINDS: [Kind; 11] = [
+const KINDS: [Kind; 12] = [
     Kind::Small,
     Kind::Zero,
     Kind::End,
@@ -43,6 +45,7 @@ const KINDS: [Kind; 11] = [
     Kind::MaybeUndefined,
     Kind::TwoFaults,
     Kind::TwoFaults,
+    Kind::ZeroOutside,
 ];
 
 const FAULTY: [Kind; 4] = [
@@ -202,6 +205,13 @@ impl Terms<'_> {
                 let operator = self.random.pick(&ARITHMETIC);
                 self.two_faults(operator)
             }
+            Kind::ZeroOutside => match self.random.one_in(2) {
+                true => Tree::two(TIMES, literal(0), self.maybe_outside()),
+                false => {
+                    let outside = self.outside();
+                    Tree::two(MINUS, outside.clone(), outside)
+                }
+            },
         }
     }
 
@@ -273,7 +283,11 @@ impl Terms<'_> {
                 let square = Tree::two(TIMES, leaf.clone(), leaf);
                 Tree::two(PLUS, square, big())
             }
-            7 => Tree::two(DIVIDE, self.lowest(), leaf),
+            7 => {
+                // mod is never outside itself, but as near to it.
+                let operator = self.random.pick(&[DIVIDE, MOD]);
+                Tree::two(operator, self.lowest(), leaf)
+            }
             _ => Tree::one(NEGATION, Tree::two(PLUS, self.lowest(), leaf)),
         }
     }
@@ -303,8 +317,29 @@ impl Terms<'_> {
                 let operator = self.random.pick(&[EQUAL, LESS, AT_MOST]);
                 self.pair(operator, depth)
             }
-            6..=8 => self.connected(depth),
+            6..=7 => self.connected(depth),
+            8 => self.faulty_sides(),
             _ => self.left_open(depth),
+        }
+    }
+
+    /// A connective or an equality of booleans both of whose sides may be faulty.
+    fn faulty_sides(&mut self) -> Tree {
+        let operator = self.random.pick(&[AND, OR, IMPLIES, EQUIVALENT, EQUAL]);
+        let (left, right) = (self.faulty_comparison(), self.faulty_comparison());
+        match operator {
+            EQUAL => Tree::two(operator, Tree::one(BOOL, left), Tree::one(BOOL, right)),
+            _ => Tree::two(operator, left, right),
+        }
+    }
+
+    fn faulty_comparison(&mut self) -> Tree {
+        let operator = self.random.pick(&[EQUAL, LESS, AT_MOST]);
+        let kind = self.random.pick(&FAULTY);
+        let faulty = self.of_kind(kind);
+        match self.random.one_in(2) {
+            true => Tree::two(operator, faulty, self.integer_leaf()),
+            false => Tree::two(operator, self.integer_leaf(), faulty),
         }
     }
 
