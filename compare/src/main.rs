@@ -9,6 +9,7 @@ use compare::generate;
 use compare::operators::family;
 use compare::operators::wanted::{missing, wanted};
 use compare::plain::is_left_out;
+use compare::program::replay::Replayer;
 use compare::program::{self, Program};
 use compare::replay::replayed;
 use compare::replays::{self, Replays};
@@ -26,10 +27,11 @@ use std::process::ExitCode;
 
 const USAGE: &str = "use: compare print | sequent K | entry K J | layout | table SEED
      | replay TABLE LOG | simulate TABLE STEPS SEED
-     | statistics SEEDS [FIRST] | replay-statistics BATCHES | left-out SEEDS [FIRST]
+     | statistics SEEDS [FIRST] | replay-statistics BATCHES [FIRST] | left-out SEEDS [FIRST]
      | against-library TABLES [FIRST] | operators | against-library-replay LOGS [FIRST]
-     | against-program PROGRAM TABLES [FIRST] | by-sequent PROGRAM [FILE..]
-     | bench [PROGRAM] | bench-table NAME | stack";
+     | against-program PROGRAM TABLES [FIRST] | against-program-replay PROGRAM LOGS [FIRST]
+     | by-sequent PROGRAM [FILE..]
+     | bench [PROGRAM] | bench-table NAME | bench-replay [STEPS] | stack";
 
 fn main() -> ExitCode {
     let words: Vec<String> = std::env::args().skip(1).collect();
@@ -63,15 +65,9 @@ fn answer(words: &[&str]) -> Result<Vec<u8>, String> {
         }
         ["table", seed] => Ok(generate::table(number(seed)?)),
         ["bench-table", name] => bench::table(name),
-        ["replay", table, log] => Ok(replayed(&bytes_in(table)?, &bytes_in(log)?)),
-        ["simulate", table, steps, seed] => simulated(table, number(steps)?, number(seed)?),
         ["statistics", seeds] => Ok(Statistics::of(0, number(seeds)?).report().into_bytes()),
         ["statistics", seeds, first] => {
             let statistics = Statistics::of(number(first)?, number(seeds)?);
-            Ok(statistics.report().into_bytes())
-        }
-        ["replay-statistics", batches] => {
-            let statistics = statistics::replays::Replays::of(0, number(batches)?);
             Ok(statistics.report().into_bytes())
         }
         ["left-out", seeds] => left_out(number(seeds)?, 0),
@@ -106,22 +102,55 @@ fn compared(words: &[&str]) -> Result<Vec<u8>, String> {
         ["against-library", count] => against_library(number(count)?, 0),
         ["against-library", count, first] => against_library(number(count)?, number(first)?),
         ["operators"] => operators(),
-        ["against-library-replay", logs] => against_library_replay(number(logs)?, 0),
-        ["against-library-replay", logs, first] => {
-            against_library_replay(number(logs)?, number(first)?)
-        }
         ["against-program", program, count] => against_program(program, number(count)?, 0),
         ["against-program", program, count, first] => {
             against_program(program, number(count)?, number(first)?)
         }
         ["by-sequent", program, files @ ..] => by_sequent(program, files),
-        ["bench"] => Ok(bench::library(linked()?)?.into_bytes()),
+        ["bench"] => {
+            let calls = bench::library(linked()?)?;
+            let replays = bench::replay::report(library_replay(), bench::replay::STEPS);
+            let replays = replays.map_err(|text| format!("{calls}{text}"))?;
+            Ok((calls + &replays).into_bytes())
+        }
         ["stack"] => Ok(report::report(linked()?)?.into_bytes()),
         ["bench", program] => {
             let this = std::env::current_exe().map_err(|error| error.to_string())?;
             let (proved, rust) = (program_of(program), Program::new(&this, &["print"]));
             Ok(bench::program(&proved, &rust)?.into_bytes())
         }
+        _ => logs(words),
+    }
+}
+
+/// The commands that replay logs. Without the library, `bench-replay` times this program alone.
+fn logs(words: &[&str]) -> Result<Vec<u8>, String> {
+    match words {
+        ["replay", table, log] => Ok(replayed(&bytes_in(table)?, &bytes_in(log)?)),
+        ["simulate", table, steps, seed] => simulated(table, number(steps)?, number(seed)?),
+        ["replay-statistics", batches, first @ ..] => {
+            let counted = statistics::replays::Replays::of(or(0, first)?, number(batches)?);
+            Ok(counted.report().into_bytes())
+        }
+        ["against-library-replay", logs, first @ ..] => {
+            against_library_replay(number(logs)?, or(0, first)?)
+        }
+        ["against-program-replay", program, logs, first @ ..] => {
+            against_program_replay(program, number(logs)?, or(0, first)?)
+        }
+        ["bench-replay", steps @ ..] => {
+            let steps = or(bench::replay::STEPS, steps)?;
+            Ok(bench::replay::report(library_replay(), steps)?.into_bytes())
+        }
+        _ => Err(USAGE.to_string()),
+    }
+}
+
+/// The number that is given, or else this one.
+fn or(otherwise: u64, given: &[&str]) -> Result<u64, String> {
+    match given {
+        [] => Ok(otherwise),
+        [one] => number(one),
         _ => Err(USAGE.to_string()),
     }
 }
@@ -206,6 +235,13 @@ fn reported((summary, found): (Summary, Option<Found>)) -> Result<Vec<u8>, Strin
 /// sequents if it is linked.
 fn against_program(program: &str, count: u64, first: u64) -> Result<Vec<u8>, String> {
     let same = program::compare(&program_of(program), library(), first, count)?;
+    Ok(same.into_bytes())
+}
+
+/// Compares a program that replays a log of a table, each in a file, with this one on so many generated logs.
+fn against_program_replay(program: &str, logs: u64, first: u64) -> Result<Vec<u8>, String> {
+    let program = Replayer::new(Path::new(program), &[]);
+    let same = program::replay::compare(&program, first, logs)?;
     Ok(same.into_bytes())
 }
 
