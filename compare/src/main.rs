@@ -14,9 +14,10 @@ use compare::program::{self, Program};
 use compare::replay::replayed;
 use compare::replays::{self, Replays};
 use compare::rows::{bytes_of, layout, Row};
-use compare::runs::{self, simulate::simulate};
+use compare::runs::family::whole_family;
+use compare::runs::simulate::simulate;
 use compare::services::{print, refusal_row, Answers};
-use compare::stack::report;
+use compare::stack::{self, report};
 use compare::statistics::{self, Statistics};
 use compare::table::Table;
 use compare::validity::{search, Under};
@@ -31,7 +32,7 @@ const USAGE: &str = "use: compare print | sequent K | entry K J | layout | table
      | against-library TABLES [FIRST] | operators | against-library-replay LOGS [FIRST]
      | against-program PROGRAM TABLES [FIRST] | against-program-replay PROGRAM LOGS [FIRST]
      | by-sequent PROGRAM [FILE..]
-     | bench [PROGRAM] | bench-table NAME | bench-replay [STEPS] | stack";
+     | bench [PROGRAM] | bench-table NAME | bench-replay [STEPS] | stack | stack-replay";
 
 fn main() -> ExitCode {
     let words: Vec<String> = std::env::args().skip(1).collect();
@@ -138,6 +139,10 @@ fn logs(words: &[&str]) -> Result<Vec<u8>, String> {
         ["against-program-replay", program, logs, first @ ..] => {
             against_program_replay(program, number(logs)?, or(0, first)?)
         }
+        ["stack-replay"] => {
+            let replays = library_replay().ok_or(UNLINKED)?;
+            Ok(stack::replay::report(replays)?.into_bytes())
+        }
         ["bench-replay", steps @ ..] => {
             let steps = or(bench::replay::STEPS, steps)?;
             Ok(bench::replay::report(library_replay(), steps)?.into_bytes())
@@ -205,7 +210,7 @@ fn operators() -> Result<Vec<u8>, String> {
 fn against_library_replay(logs: u64, first: u64) -> Result<Vec<u8>, String> {
     let replays = library_replay().ok_or(UNLINKED)?;
     let mut text = String::new();
-    let family = runs::family::family();
+    let family = whole_family();
     for compared in [
         replays::compare_list(replays, &family, threads()),
         replays::compare(replays, first, logs, threads(), true),

@@ -169,7 +169,7 @@ pub fn reply(answer: Result<u64, Refusal>) -> Reply {
 }
 
 /// Whether a reply is about the log, so that the table is accepted.
-fn is_of_log(reply: Reply) -> bool {
+pub fn is_of_log(reply: Reply) -> bool {
     reply.number == 0 || reply.number >= OUTSIDE as u64
 }
 

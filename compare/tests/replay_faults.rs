@@ -6,7 +6,7 @@ use common::plain_replay::{Mistake, Plain};
 use compare::replays::{compare, compare_list, first_batch, shown_log, Found};
 use compare::rows::ROW_BYTES;
 use compare::runs::batch::LOGS;
-use compare::runs::family::family;
+use compare::runs::family::whole_family;
 
 /// So many logs are compared in the gate.
 const GATE: u64 = 20_000;
@@ -94,7 +94,7 @@ fn no_mistake_is_no_difference() {
         found.map_or(String::new(), |one| one.report())
     );
     assert_eq!(summary.logs, GATE);
-    let (_, found) = compare_list(&plain, &family(), 1).expect("no panic");
+    let (_, found) = compare_list(&plain, &whole_family(), 1).expect("no panic");
     assert!(
         found.is_none(),
         "{}",
@@ -132,14 +132,18 @@ fn assert_small(mistake: Mistake, table: usize, log: usize) -> Found {
 
 #[test]
 fn differences_are_shown_on_small_tables_and_logs() {
-    assert_small(Mistake::KeptIsFree, 14, 4);
-    assert_small(Mistake::Wraps, 20, 4);
-    assert_small(Mistake::BooleanTwo, 6, 3);
-    assert_small(Mistake::DivisorRuleDropped, 20, 5);
-    assert_small(Mistake::InputsFirst, 8, 4);
-    assert_small(Mistake::AfterForEqual, 20, 10);
-    assert_small(Mistake::EquivalentReadsBoth, 26, 5);
-    assert_small(Mistake::NoSecondGuard, 14, 6);
+    for mistake in [
+        Mistake::KeptIsFree,
+        Mistake::Wraps,
+        Mistake::BooleanTwo,
+        Mistake::DivisorRuleDropped,
+        Mistake::InputsFirst,
+        Mistake::AfterForEqual,
+        Mistake::EquivalentReadsBoth,
+        Mistake::NoSecondGuard,
+    ] {
+        assert_small(mistake, 30, 12);
+    }
 }
 
 /// Two rows and a byte: the step isn't allowed, but what follows is looked at first.

@@ -1,9 +1,11 @@
 //! Generated logs give every answer, by every cause and often, and their formulas meet what request 5 tells apart.
 
+use compare::checks::accept;
 use compare::formula::*;
 use compare::replay::term::Fault;
-use compare::replay::Role;
-use compare::runs::family::family;
+use compare::replay::{replay, Role};
+use compare::runs::batch::Batch;
+use compare::runs::family::{deep_family, family};
 use compare::statistics::replays::Replays;
 use compare::statistics::terms::{Class, Side, HIGHEST, LOWEST};
 
@@ -86,7 +88,7 @@ fn every_answer_occurs_often() {
         .iter()
         .filter(|one| one.0.starts_with("table"));
     let refused: Vec<usize> = refused.map(|one| *one.1).collect();
-    assert!(refused.len() >= 9, "{refused:?}");
+    assert_eq!(refused.len(), 12, "{refused:?}");
     assert!(refused.iter().sum::<usize>() >= 500, "{refused:?}");
     // No answer is left out of the list above but one, and refused tables.
     let others = replays.answers.len() - refused.len() - ANSWERS.len();
@@ -151,6 +153,20 @@ fn operators_meet_faults_on_either_side() {
                 assert!(count >= 5, "{role:?} {operator} {fault:?}: {count}");
             }
         }
+    }
+}
+
+#[test]
+fn the_deepest_formulas_are_accepted_and_read() {
+    let batches = deep_family();
+    assert_eq!(batches.len(), 12 * 6 + 5);
+    for Batch { table, logs } in batches {
+        let read = accept(&table).expect("accepted");
+        assert!(read.nodes.len() >= 490, "{}", read.nodes.len());
+        let answer = replay(&table, &logs[0]);
+        // Some divide by 0 in the end, some leave 64 bits, most are true.
+        let stopped = answer.err().map(|refusal| refusal.number);
+        assert!(matches!(stopped, None | Some(16..=18)), "{stopped:?}");
     }
 }
 

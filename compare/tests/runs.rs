@@ -200,7 +200,7 @@ fn known(damage: Damage, case: &Case) -> Option<Result<u64, usize>> {
         Damage::StepDoubled if place == 0 => case.run.step(0).end + 1,
         Damage::OtherValues | Damage::StepDropped | Damage::StepDoubled => return None,
         Damage::StepsExchanged if place == 0 => 1,
-        Damage::StepsExchanged | Damage::More => return None,
+        Damage::StepsExchanged | Damage::More | Damage::Byte => return None,
     };
     Some(Err(row))
 }
@@ -239,7 +239,7 @@ fn damage_gives_what_it_must() {
         }
     }
     // What isn't known by construction is compared with the library all the same.
-    let unknown = [Damage::OtherValues, Damage::More];
+    let unknown = [Damage::OtherValues, Damage::More, Damage::Byte];
     for damage in DAMAGES {
         let count = counts.get(&damage).copied().unwrap_or(0);
         let floor = if unknown.contains(&damage) { 0 } else { 100 };

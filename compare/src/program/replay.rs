@@ -2,8 +2,8 @@
 
 use super::{first_row, SHRINKING};
 use crate::campaign::shown_table;
-use crate::replay::replayed;
-use crate::replays::shown_log;
+use crate::replay::{replay, replayed};
+use crate::replays::{is_of_log, reply, shown_log};
 use crate::runs::batch::{batch, Batch};
 use crate::shrink::shrink_pair;
 use std::fs::{remove_file, write};
@@ -50,11 +50,13 @@ impl Replayer {
         Ok(differs.then(|| first_row(&expected, &printed)))
     }
 
-    /// The difference on the smallest table and log found.
+    /// The difference on the smallest table and log found; an accepted table stays accepted.
     fn smallest(&self, table: &[u8], log: &[u8]) -> Result<String, String> {
+        let of_log = |table: &[u8], log: &[u8]| is_of_log(reply(replay(table, log)));
+        let wanted = of_log(table, log);
         let (table, log) = shrink_pair(table, log, SHRINKING, |table, log| {
-            self.difference(table, log)
-                .is_ok_and(|found| found.is_some())
+            let found = self.difference(table, log);
+            found.is_ok_and(|found| found.is_some()) && of_log(table, log) == wanted
         });
         let found = self.difference(&table, &log)?.unwrap_or_default();
         Ok(format!(

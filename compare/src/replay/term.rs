@@ -47,33 +47,31 @@ pub fn value(nodes: &[Node], root: i32, state: &State) -> Answer {
         NOT => Ok(1 - of(b)?),
         DIVIDE | MOD => divided(operator, of(b), of(c)),
         PLUS..=TIMES | EQUAL..=AT_MOST => {
-            let (a, b) = both(of(b), of(c))?;
+            let (a, b) = both(of(b), of(c), false)?;
             strict(operator, a, b)
         }
         _ => connected(operator, of(b)?, || of(c)),
     }
 }
 
-/// Both operands, or the fault that wins: an undefined part over one outside 64 bits.
-fn both(left: Answer, right: Answer) -> Result<(i64, i64), Fault> {
+/// Both operands, or the fault that counts: undefined, by an operand or by the operator itself, wins over outside.
+fn both(left: Answer, right: Answer, undefined: bool) -> Result<(i64, i64), Fault> {
     match (left, right) {
-        (Ok(a), Ok(b)) => Ok((a, b)),
         (Err(Fault::Undefined), _) | (_, Err(Fault::Undefined)) => Err(Fault::Undefined),
+        _ if undefined => Err(Fault::Undefined),
+        (Ok(a), Ok(b)) => Ok((a, b)),
         _ => Err(Fault::Outside),
     }
 }
 
-/// Whether ÷ or mod is undefined itself. It never is where its divisor is faulty, but it can be where its dividend is.
-fn is_undefined(_operator: i32, _dividend: Answer, divisor: Answer) -> bool {
+/// Whether ÷ or mod is undefined itself: never where its divisor is faulty, whatever its dividend is.
+fn is_undefined(divisor: Answer) -> bool {
     divisor == Ok(0)
 }
 
 /// ÷ rounds toward zero. −2⁶³ ÷ −1 is outside 64 bits, but −2⁶³ mod −1 is 0.
 fn divided(operator: i32, dividend: Answer, divisor: Answer) -> Answer {
-    if is_undefined(operator, dividend, divisor) {
-        return Err(Fault::Undefined);
-    }
-    let (a, b) = both(dividend, divisor)?;
+    let (a, b) = both(dividend, divisor, is_undefined(divisor))?;
     match operator {
         DIVIDE => inside(a.checked_div(b)),
         _ => Ok(a.wrapping_rem(b)),

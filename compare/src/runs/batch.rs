@@ -42,14 +42,23 @@ const MODELS: [&str; 4] = [
 pub fn batch(number: u64) -> Batch {
     let mut random = Random::new(number ^ 0x5EED_0F10);
     let table = match number % 40 {
-        0 | 1 => generate::table(generate::ROUND * number + random.below(27) as u64),
+        slot @ (0 | 1) => {
+            // All refusals in turn: the first slots of a round of seeds.
+            let turn = (number / 40 * 2 + slot) % 27;
+            generate::table(generate::ROUND * number + turn)
+        }
         2 => bytes_of(&layout(random.pick(&MODELS)).expect("a model")),
         3..=8 => bytes_of(&accepted_draft(&mut random).rows(&mut random)),
         _ => bytes_of(&replayed(&mut random).rows(&mut random)),
     };
+    batch_of(table, &mut random)
+}
+
+/// The table with logs for it.
+pub fn batch_of(table: Vec<u8>, random: &mut Random) -> Batch {
     let logs = match accept(&table) {
-        Ok(read) => logs_of(&read, &mut random),
-        Err(_) => any_logs(&mut random),
+        Ok(read) => logs_of(&read, random),
+        Err(_) => any_logs(random),
     };
     Batch { table, logs }
 }

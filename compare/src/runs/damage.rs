@@ -2,8 +2,8 @@
 
 use super::recorded::{set_row, Recorded};
 use crate::generate::random::Random;
-use crate::replay::machine::{Change, Machine};
-use crate::rows::{bytes_of, Row, ROW_BYTES};
+use crate::replay::machine::{Change, Machine, Step};
+use crate::rows::{bytes_of, read_row, Row, ROW_BYTES};
 use crate::table::*;
 
 #[derive(Clone, Copy, Debug, PartialEq, Eq, PartialOrd, Ord)]
@@ -22,6 +22,8 @@ pub enum Damage {
     OtherTag,
     UnusedColumn,
     OutOfForm,
+    /// Any byte is another one.
+    Byte,
     /// A row 90 names an abstract event, the initialisation, no event, or any other one.
     OtherEvent,
     /// A row 91 names another identifier.
@@ -44,7 +46,7 @@ pub enum Damage {
     More,
 }
 
-pub const DAMAGES: [Damage; 21] = [
+pub const DAMAGES: [Damage; 22] = [
     Damage::ByOne,
     Damage::ToAnEnd,
     Damage::NoBoolean,
@@ -54,6 +56,7 @@ pub const DAMAGES: [Damage; 21] = [
     Damage::OtherTag,
     Damage::UnusedColumn,
     Damage::OutOfForm,
+    Damage::Byte,
     Damage::OtherEvent,
     Damage::OtherIdentifier,
     Damage::Torn,
@@ -98,6 +101,7 @@ impl Subject<'_> {
             Damage::Exchanged => self.exchanged(random),
             Damage::OtherTag | Damage::UnusedColumn => self.bad_row(damage, random),
             Damage::OutOfForm => self.out_of_form(random),
+            Damage::Byte => Some(self.other_byte(random)),
             Damage::OtherEvent => self.other_event(random),
             Damage::OtherIdentifier => self.other_identifier(random),
             Damage::Torn | Damage::Cut | Damage::CutInside => self.ended(damage, random),
@@ -232,7 +236,15 @@ impl Subject<'_> {
             ])),
             _ => columns[..2].copy_from_slice(random.pick(&[b" 0", b"+1", b"--", b"-0", b"0 "])),
         }
-        (crate::rows::read_row(row).is_none()).then_some(Damaged { log, place })
+        read_row(row).is_none().then_some(Damaged { log, place })
+    }
+
+    fn other_byte(&self, random: &mut Random) -> Damaged {
+        let place = self.any_row(random);
+        let mut log = self.run.bytes.clone();
+        let byte = &mut log[place * ROW_BYTES + random.below(ROW_BYTES)];
+        *byte = random.pick(b"  0123456789--+\n\0x");
+        Damaged { log, place }
     }
 
     fn other_event(&self, random: &mut Random) -> Option<Damaged> {
@@ -343,9 +355,7 @@ impl Subject<'_> {
         let start = self.run.starts[self.run.step_of(place)];
         let step = self.machine.step(self.run.row(start).a);
         let variable = self.run.row(place).a as usize - 1;
-        let kept = |step: &crate::replay::machine::Step| {
-            step.variables.contains(&(variable, Change::Kept))
-        };
+        let kept = |step: &Step| step.variables.contains(&(variable, Change::Kept));
         !self.run.is_start(place) && step.is_some_and(kept)
     }
 

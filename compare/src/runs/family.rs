@@ -1,4 +1,5 @@
-//! Every operator over operands of every class, in every formula that a replay reads: one table and log each.
+//! Every operator over operands of every class, and formulas as deep as they can be, in every place that a replay reads: one
+//! table and log each.
 
 use super::batch::Batch;
 use crate::formula::*;
@@ -38,13 +39,27 @@ const PLACES: [(i32, i32, i32); 6] = [
     (BECOMES_SUCH_THAT, LATER, TRUTH),
 ];
 
-/// Each predicate in each place, and each integer as what the integer variable becomes.
+/// Both families below.
+pub fn whole_family() -> Vec<Batch> {
+    [family(), deep_family()].concat()
+}
+
+/// Every operator in every place.
 pub fn family() -> Vec<Batch> {
-    let (integers, mut predicates) = (integers(), predicates());
+    everywhere(&integers(), &predicates())
+}
+
+/// The deepest formulas in every place.
+pub fn deep_family() -> Vec<Batch> {
+    everywhere(&deep_integers(), &deep_predicates())
+}
+
+/// Each predicate in each place, and each integer compared there and as what the integer variable becomes.
+fn everywhere(integers: &[Tree], predicates: &[Tree]) -> Vec<Batch> {
     let compared = |tree: &Tree| Tree::two(AT_MOST, tree.clone(), literal(0));
-    predicates.extend(integers.iter().map(compared));
+    let compared = integers.iter().map(compared);
     let mut batches = Vec::new();
-    for predicate in &predicates {
+    for predicate in predicates.iter().cloned().chain(compared) {
         for (tag, event, identifier) in PLACES {
             let tree = match tag {
                 BECOMES_EQUAL => Tree::one(BOOL, predicate.clone()),
@@ -54,7 +69,7 @@ pub fn family() -> Vec<Batch> {
         }
     }
     for tree in integers {
-        batches.push(with((BECOMES_EQUAL, LATER, NUMBER), tree));
+        batches.push(with((BECOMES_EQUAL, LATER, NUMBER), tree.clone()));
     }
     batches
 }
@@ -164,6 +179,40 @@ fn truths() -> Vec<Tree> {
         compared(5),
         compared(7),
     ]
+}
+
+/// Operators one below the other, of one operand and of two; with what else the table has, 512 nodes aren't passed.
+const CHAIN: usize = 500;
+const PAIRS: usize = 250;
+
+fn deep_integers() -> Vec<Tree> {
+    let one = || Tree::leaf(IDENTIFIER, 1);
+    vec![
+        nested(CHAIN, one(), |tree| Tree::one(NEGATION, tree)),
+        nested(PAIRS, one(), |tree| Tree::two(PLUS, tree, one())),
+        nested(PAIRS, one(), |tree| Tree::two(PLUS, one(), tree)),
+        nested(PAIRS, one(), |tree| Tree::two(DIVIDE, tree, one())),
+        nested(PAIRS, one(), |tree| Tree::two(MOD, one(), tree)),
+    ]
+}
+
+fn deep_predicates() -> Vec<Tree> {
+    let top = || Tree::leaf(TOP, 0);
+    let boolean = |tree| Tree::two(EQUAL, Tree::one(BOOL, tree), Tree::leaf(TRUE, 0));
+    let right = |tree| Tree::two(EQUAL, Tree::leaf(TRUE, 0), Tree::one(BOOL, tree));
+    vec![
+        nested(CHAIN, top(), |tree| Tree::one(NOT, tree)),
+        nested(PAIRS, top(), |tree| Tree::two(AND, tree, top())),
+        nested(PAIRS, top(), |tree| Tree::two(AND, top(), tree)),
+        nested(PAIRS, top(), |tree| Tree::two(EQUIVALENT, tree, top())),
+        nested(PAIRS, top(), |tree| Tree::two(IMPLIES, top(), tree)),
+        nested(CHAIN / 3, top(), boolean),
+        nested(CHAIN / 3, top(), right),
+    ]
+}
+
+fn nested(depth: usize, inner: Tree, around: impl Fn(Tree) -> Tree) -> Tree {
+    (0..depth).fold(inner, |tree, _| around(tree))
 }
 
 fn literal(value: i32) -> Tree {
