@@ -8,6 +8,7 @@ use compare::runs::batch::Batch;
 use compare::runs::family::{deep_family, family};
 use compare::statistics::replays::Replays;
 use compare::statistics::terms::{Class, Side, HIGHEST, LOWEST};
+use std::sync::LazyLock;
 
 const STRICT: [i32; 8] = [PLUS, MINUS, TIMES, DIVIDE, MOD, EQUAL, LESS, AT_MOST];
 const CONNECTIVES: [i32; 4] = [AND, OR, IMPLIES, EQUIVALENT];
@@ -71,9 +72,12 @@ const TABLES: [(&str, usize); 12] = [
     ("axioms", 300),
 ];
 
+/// The 20,000 logs of the gate.
+static GATE: LazyLock<Replays> = LazyLock::new(|| Replays::of(0, 800));
+
 #[test]
 fn every_answer_occurs_often() {
-    let replays = Replays::of(0, 800);
+    let replays = &*GATE;
     assert_eq!(replays.pairs, 20_000);
     for (word, floor) in ANSWERS {
         let count = replays.answers.get(word).copied().unwrap_or(0);
@@ -95,10 +99,10 @@ fn every_answer_occurs_often() {
     assert_eq!(others, 1, "{:?}", replays.answers);
 }
 
-/// What random formulas meet in the steps that they stop.
+/// What generated formulas meet in the steps that they stop.
 #[test]
 fn operators_meet_faults_on_either_side() {
-    let terms = Replays::of(0, 800).terms;
+    let terms = &GATE.terms;
     let met = |operator: i32, left: &[Class], right: &[Class]| -> usize {
         let pairs = terms
             .pairs
@@ -127,6 +131,10 @@ fn operators_meet_faults_on_either_side() {
             "{operator} by 0"
         );
     }
+}
+
+#[test]
+fn operators_reach_the_ends_of_64_bits_and_pass_them_by_one() {
     for (operator, exact) in [
         (PLUS, HIGHEST),
         (PLUS, HIGHEST + 1),
@@ -141,14 +149,18 @@ fn operators_meet_faults_on_either_side() {
         (DIVIDE, HIGHEST + 1),
         (NEGATION, HIGHEST + 1),
     ] {
-        let count = terms.ends.get(&(operator, exact)).copied().unwrap_or(0);
-        assert!(count >= 5, "{operator} gives {exact}: {count}");
+        let count = GATE.terms.ends.get(&(operator, exact));
+        assert!(count >= Some(&5), "{operator} gives {exact}: {count:?}");
     }
+}
+
+#[test]
+fn connectives_meet_faults() {
     for role in [Role::Axiom, Role::Guard, Role::SuchThat] {
         for operator in CONNECTIVES {
             for fault in FAULTS {
                 let sides = [Side::Left, Side::Right];
-                let one = |side| terms.connected.get(&(role, operator, side, fault));
+                let one = |side| GATE.terms.connected.get(&(role, operator, side, fault));
                 let count: usize = sides.into_iter().filter_map(one).sum();
                 assert!(count >= 5, "{role:?} {operator} {fault:?}: {count}");
             }

@@ -13,7 +13,7 @@ use compare::runs::batch::{batch, LOGS};
 use compare::runs::damage::{Damage, Damaged, Subject, DAMAGES};
 use compare::runs::recorded::Recorded;
 use compare::runs::simulate::{simulate, Simulator};
-use compare::runs::tables::replayed;
+use compare::runs::tables::{large, replayed};
 use compare::table::Table;
 use std::collections::{BTreeMap, BTreeSet};
 
@@ -245,6 +245,37 @@ fn damage_gives_what_it_must() {
         let floor = if unknown.contains(&damage) { 0 } else { 100 };
         assert!(count >= floor, "{damage:?}: {count}");
     }
+}
+
+/// Tables at the limits have runs too.
+#[test]
+fn large_tables_have_runs() {
+    let (mut starts, mut steps, mut logged) = (0, 0, 0);
+    for seed in 0..40 {
+        let mut random = Random::new(seed);
+        let rows = large(&mut random).rows(&mut random);
+        let bytes = bytes_of(&rows);
+        let read = accept(&bytes).expect("such tables are accepted");
+        if let Ok(log) = simulate(&read, 0, seed) {
+            assert_eq!(replay(&bytes, &log), Ok(0));
+            starts += 1;
+            logged = logged.max(log.len() / ROW_BYTES);
+        }
+        if let Ok(log) = simulate(&read, 10, seed) {
+            assert_eq!(replay(&bytes, &log), Ok(10));
+            steps += 1;
+        }
+    }
+    assert!(starts >= 20, "{starts}");
+    assert!(steps >= 10, "{steps}");
+    assert!(logged >= 39, "{logged}");
+}
+
+#[test]
+fn torn_ends_have_every_length() {
+    let logs = (0..400).flat_map(|number| batch(number).logs);
+    let lengths: BTreeSet<usize> = logs.map(|log| log.len() % ROW_BYTES).collect();
+    assert_eq!(lengths.len(), ROW_BYTES);
 }
 
 #[test]

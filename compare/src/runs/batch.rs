@@ -3,7 +3,7 @@
 use super::damage::{Damage, Subject, DAMAGES};
 use super::recorded::Recorded;
 use super::simulate::Simulator;
-use super::tables::replayed;
+use super::tables::{large, replayed};
 use crate::checks::accept;
 use crate::generate;
 use crate::generate::accepted_draft;
@@ -38,7 +38,7 @@ const MODELS: [&str; 4] = [
 ];
 
 /// The batch of this number: of forty, two have a table that may be refused, one a model, six any accepted table, the others
-/// one that is made to be replayed.
+/// one that is made to be replayed, one of them a large one.
 pub fn batch(number: u64) -> Batch {
     let mut random = Random::new(number ^ 0x5EED_0F10);
     let table = match number % 40 {
@@ -49,6 +49,7 @@ pub fn batch(number: u64) -> Batch {
         }
         2 => bytes_of(&layout(random.pick(&MODELS)).expect("a model")),
         3..=8 => bytes_of(&accepted_draft(&mut random).rows(&mut random)),
+        9 => bytes_of(&large(&mut random).rows(&mut random)),
         _ => bytes_of(&replayed(&mut random).rows(&mut random)),
     };
     batch_of(table, &mut random)

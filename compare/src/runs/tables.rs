@@ -1,14 +1,26 @@
 //! Tables made to be replayed: machines of every shape with few formulas, most of which some logged values make faulty.
 
-use super::terms::formula;
+use super::terms::{formula, Wanted};
 use crate::generate::draft::{Draft, DraftFormula};
 use crate::generate::plan::{root_sort, sight, Plan};
 use crate::generate::random::Random;
 use crate::table::*;
 
-/// A draft of an accepted table.
+/// A draft of an accepted table with few of everything.
 pub fn replayed(random: &mut Random) -> Draft {
-    let mut draft = plan(random).draft(random);
+    let plan = few(random);
+    with_formulas(plan, 4, random)
+}
+
+/// The same at the limits or near them; its formulas are true for most values, so that all of one event can be.
+pub fn large(random: &mut Random) -> Draft {
+    let plan = many(random);
+    with_formulas(plan, 18, random)
+}
+
+/// The formulas that a replay reads, each with a value for so many of 24 values, as long as there are nodes for them.
+fn with_formulas(plan: Plan, often: usize, random: &mut Random) -> Draft {
+    let mut draft = plan.draft(random);
     let mut left = Table::MOST_NODES - draft.nodes();
     for place in 0..draft.formulas.len() {
         let one = &draft.formulas[place];
@@ -16,8 +28,12 @@ pub fn replayed(random: &mut Random) -> Draft {
             continue;
         }
         let seen = sight(&draft, one.tag, one.event, one.identifier);
-        let sort = root_sort(&draft, one.tag, one.identifier);
-        let tree = formula(sort, &seen, left + 1, random);
+        let wanted = Wanted {
+            sort: root_sort(&draft, one.tag, one.identifier),
+            most: left + 1,
+            often,
+        };
+        let tree = formula(wanted, &seen, random);
         left = left + 1 - tree.nodes();
         draft.formulas[place].tree = tree;
     }
@@ -35,8 +51,27 @@ fn is_read(draft: &Draft, one: &DraftFormula) -> bool {
     }
 }
 
+/// As many of everything as a table may have, or one or two fewer.
+fn many(random: &mut Random) -> Plan {
+    let mut near = |limit: usize| limit - random.below(3);
+    Plan {
+        constants: near(10),
+        concrete_variables: near(20),
+        shared_variables: near(10),
+        concrete_parameters: near(24),
+        abstract_events: 1,
+        ordinary: near(10),
+        convergent: near(9),
+        anticipated: near(10),
+        axioms: near(16),
+        guards: near(64),
+        actions: near(128),
+        ..Plan::default()
+    }
+}
+
 /// Few of everything, or none.
-fn plan(random: &mut Random) -> Plan {
+fn few(random: &mut Random) -> Plan {
     let mut plan = Plan {
         constants: random.pick(&[0, 1, 2, 2, 3]),
         abstract_variables: random.pick(&[0, 0, 1]),

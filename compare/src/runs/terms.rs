@@ -7,10 +7,9 @@ use crate::generate::tree::{Leaf, Tree};
 use crate::replay::term::{value, Answer, State};
 use crate::table::Node;
 
-/// How often values are tried with a formula, how many of them must have an answer that is wanted, and how many formulas are
-/// tried.
+/// How often values are tried with a formula, how many of them must be faulty, and how many formulas are tried.
 const SAMPLES: usize = 24;
-const WANTED: usize = 4;
+const FAULTS: usize = 4;
 const FORMULAS: usize = 40;
 
 /// What an operand is to be.
@@ -63,9 +62,18 @@ pub struct Terms<'a> {
     sight: &'a [Leaf],
 }
 
-/// A formula of this sort with at most so many nodes, that has a value for some of the values it mentions, of 32 bits if it is
-/// an integer, and true if it is a predicate; most of them are faulty for others.
-pub fn formula(sort: Sort, sight: &[Leaf], most: usize, random: &mut Random) -> Tree {
+/// What a formula is to be: its sort, the most nodes, and for how many of 24 values it must have a value, of 32 bits if it is an
+/// integer, and true if it is a predicate.
+#[derive(Clone, Copy)]
+pub struct Wanted {
+    pub sort: Sort,
+    pub most: usize,
+    pub often: usize,
+}
+
+/// A formula as it is wanted; most of them are faulty for some of the other values.
+pub fn formula(wanted: Wanted, sight: &[Leaf], random: &mut Random) -> Tree {
+    let Wanted { sort, most, often } = wanted;
     for _ in 0..FORMULAS {
         let depth = random.pick(&[1, 2, 2, 3, 3]);
         let tree = Terms { random, sight }.grow(sort, depth);
@@ -73,9 +81,9 @@ pub fn formula(sort: Sort, sight: &[Leaf], most: usize, random: &mut Random) -> 
             continue;
         }
         let answers = answers(&tree, sight, random);
-        let wanted = answers.iter().filter(|&&one| is_wanted(sort, one)).count();
+        let met = answers.iter().filter(|&&one| is_wanted(sort, one)).count();
         let faulty = answers.iter().filter(|one| one.is_err()).count();
-        if wanted >= WANTED && (faulty >= WANTED || random.one_in(6)) {
+        if met >= often && (faulty >= FAULTS || random.one_in(6)) {
             return tree;
         }
     }
