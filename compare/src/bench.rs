@@ -1,5 +1,7 @@
 //! Times the proved program and library against this program: the same tables, calls and output.
 
+pub mod replay;
+
 use crate::against::Services;
 use crate::checks::accept;
 use crate::generate::draft::Draft;

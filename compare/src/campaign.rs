@@ -3,14 +3,11 @@
 use crate::against::{Call, Comparison, Difference, Effort, Outcome, Services};
 use crate::generate;
 use crate::generate::random::Random;
+use crate::numbers::Numbers;
 use crate::rows::ROW_BYTES;
 use crate::shrink::{rows_of, shrink};
 use std::ops::Range;
-use std::panic::{catch_unwind, AssertUnwindSafe};
-use std::sync::atomic::{AtomicBool, AtomicU64, Ordering};
-use std::sync::Mutex;
-use std::thread;
-use std::time::{Duration, Instant};
+use std::time::Duration;
 
 /// Tables of at most so many bytes get every call that is chosen with buffers of each length.
 const SMALL: usize = 20 * ROW_BYTES;
@@ -20,9 +17,6 @@ const LARGE: usize = 250 * ROW_BYTES;
 
 /// Time for making a table with a difference smaller.
 const SHRINKING: Duration = Duration::from_secs(60);
-
-/// Time between two lines of progress.
-const PAUSE: Duration = Duration::from_secs(10);
 
 /// Counts over the tables that were compared.
 #[derive(Clone, Debug, Default)]
@@ -91,15 +85,6 @@ impl Tables for List<'_> {
     }
 }
 
-/// The numbers still to be taken. All threads stop after a difference or a panic.
-struct Work<'a> {
-    services: &'a dyn Services,
-    tables: &'a dyn Tables,
-    next: AtomicU64,
-    end: u64,
-    stop: AtomicBool,
-}
-
 /// Compares the tables of so many seeds from the first on, as below.
 pub fn compare(
     services: &dyn Services,
@@ -131,73 +116,39 @@ fn compare_tables(
     threads: usize,
     progress: bool,
 ) -> Result<(Summary, Option<Found>), String> {
-    let first = numbers.start;
-    let work = Work {
-        services,
-        tables,
-        next: AtomicU64::new(first),
-        end: numbers.end,
-        stop: AtomicBool::new(false),
+    let numbers = Numbers {
+        range: numbers,
+        threads,
+        word: tables.word(),
+        words: "tables",
+        progress,
     };
-    let all = Mutex::new(Vec::new());
-    thread::scope(|scope| {
-        for _ in 0..threads {
-            scope.spawn(|| {
-                let taken = take_numbers(&work);
-                let mut all = all.lock().expect("no thread panics while it holds this");
-                all.push(taken);
-            });
-        }
-        if progress {
-            scope.spawn(|| show_progress(&work, first));
-        }
-    });
-    let (mut summary, mut found) = (Summary::default(), Vec::new());
-    for taken in all.into_inner().expect("all threads have ended") {
-        let (counted, one) = taken?;
-        summary.add(&counted);
-        found.extend(one);
+    let taken = numbers.take(|number, summary| take_number(services, tables, number, summary));
+    let (summaries, mut found) = taken?;
+    let mut summary = Summary::default();
+    for one in &summaries {
+        summary.add(one);
     }
     found.sort_by_key(|one: &Found| one.number);
     let found = found.into_iter().next();
     Ok((summary, found.map(|one| smaller(services, one))))
 }
 
-/// Takes one number after another, until there are none or any thread stops.
-fn take_numbers(work: &Work) -> Result<(Summary, Option<Found>), String> {
-    let mut summary = Summary::default();
-    loop {
-        let number = work.next.fetch_add(1, Ordering::Relaxed);
-        if number >= work.end || work.stop.load(Ordering::Relaxed) {
-            return Ok((summary, None));
-        }
-        // What a panic leaves half done in the summary isn't used.
-        let taken = catch_unwind(AssertUnwindSafe(|| take_number(work, number, &mut summary)));
-        match taken {
-            Ok(None) => {}
-            Ok(found) => {
-                work.stop.store(true, Ordering::Relaxed);
-                return Ok((summary, found));
-            }
-            Err(_) => {
-                work.stop.store(true, Ordering::Relaxed);
-                let word = work.tables.word();
-                return Err(format!("a panic at {word} {number} ends the comparison"));
-            }
-        }
-    }
-}
-
 /// Compares the table with one number.
-fn take_number(work: &Work, number: u64, summary: &mut Summary) -> Option<Found> {
-    let table = work.tables.table(number);
-    let effort = work.tables.effort(&table);
+fn take_number(
+    services: &dyn Services,
+    tables: &dyn Tables,
+    number: u64,
+    summary: &mut Summary,
+) -> Option<Found> {
+    let table = tables.table(number);
+    let effort = tables.effort(&table);
     let mut random = Random::new(!number);
-    let comparison = Comparison::new(work.services, &table).run(effort, &mut random);
+    let comparison = Comparison::new(services, &table).run(effort, &mut random);
     summary.count(&comparison);
     let difference = comparison.difference?;
     Some(Found {
-        word: work.tables.word(),
+        word: tables.word(),
         number,
         rows: table.len() / ROW_BYTES,
         table,
@@ -221,24 +172,6 @@ fn smaller(services: &dyn Services, mut found: Found) -> Found {
     });
     found.difference = last;
     found
-}
-
-/// Writes a line now and then, until all numbers are taken or the threads stop.
-fn show_progress(work: &Work, first: u64) {
-    let start = Instant::now();
-    let mut shown = start;
-    loop {
-        thread::sleep(Duration::from_millis(100));
-        let next = work.next.load(Ordering::Relaxed).min(work.end);
-        if next == work.end || work.stop.load(Ordering::Relaxed) {
-            return;
-        }
-        if shown.elapsed() >= PAUSE {
-            shown = Instant::now();
-            let (done, count) = (next - first, work.end - first);
-            eprintln!("{done} of {count} tables, {} s", start.elapsed().as_secs());
-        }
-    }
 }
 
 impl Summary {

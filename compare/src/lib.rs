@@ -11,11 +11,15 @@ pub mod generate;
 #[cfg(library)]
 pub mod library;
 pub mod mentioned;
+pub mod numbers;
 pub mod operators;
 pub mod plain;
 pub mod program;
 pub mod refute;
+pub mod replay;
+pub mod replays;
 pub mod rows;
+pub mod runs;
 pub mod sequents;
 pub mod services;
 pub mod shrink;

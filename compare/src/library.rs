@@ -1,6 +1,7 @@
 //! The proved library behind its C header. Built only where build.rs has found it.
 
 use crate::against::{Reply, Services};
+use crate::replays::Replays;
 use crate::stack::STACK;
 
 extern "C" {
@@ -20,6 +21,13 @@ extern "C" {
         j: u64,
         out: *mut u8,
         out_length: usize,
+        value: *mut u64,
+    ) -> u64;
+    fn sifthorma_replay(
+        table: *const u8,
+        table_length: usize,
+        run: *const u8,
+        run_length: usize,
         value: *mut u64,
     ) -> u64;
 }
@@ -55,6 +63,26 @@ impl Services for Library {
         let (start, length) = (out.as_mut_ptr(), out.len());
         let number = unsafe {
             sifthorma_spell_entry(table.as_ptr(), table.len(), k, j, start, length, &mut value)
+        };
+        Reply { number, value }
+    }
+}
+
+impl Replays for Library {
+    fn stack(&self) -> usize {
+        STACK
+    }
+
+    fn replay(&self, table: &[u8], run: &[u8]) -> Reply {
+        let mut value = UNSET;
+        let number = unsafe {
+            sifthorma_replay(
+                table.as_ptr(),
+                table.len(),
+                run.as_ptr(),
+                run.len(),
+                &mut value,
+            )
         };
         Reply { number, value }
     }

@@ -4,28 +4,35 @@ use compare::against::Services;
 use compare::bench;
 use compare::by_sequent::hold;
 use compare::campaign::{self, Found, Summary};
-use compare::checks::Refusal;
+use compare::checks::{accept, Refusal};
 use compare::generate;
 use compare::operators::family;
 use compare::operators::wanted::{missing, wanted};
 use compare::plain::is_left_out;
+use compare::program::replay::Replayer;
 use compare::program::{self, Program};
+use compare::replay::replayed;
+use compare::replays::{self, Replays};
 use compare::rows::{bytes_of, layout, Row};
+use compare::runs::family::whole_family;
+use compare::runs::simulate::simulate;
 use compare::services::{print, refusal_row, Answers};
-use compare::stack::report;
-use compare::statistics::Statistics;
+use compare::stack::{self, report};
+use compare::statistics::{self, Statistics};
 use compare::table::Table;
 use compare::validity::{search, Under};
-use std::fs::read_to_string;
+use std::fs::{read, read_to_string};
 use std::io::{stdin, stdout, Read, Write};
 use std::path::Path;
 use std::process::ExitCode;
 
 const USAGE: &str = "use: compare print | sequent K | entry K J | layout | table SEED
-     | statistics SEEDS [FIRST] | left-out SEEDS [FIRST]
-     | against-library TABLES [FIRST] | operators
-     | against-program PROGRAM TABLES [FIRST] | by-sequent PROGRAM [FILE..]
-     | bench [PROGRAM] | bench-table NAME | stack";
+     | replay TABLE LOG | simulate TABLE STEPS SEED
+     | statistics SEEDS [FIRST] | replay-statistics BATCHES [FIRST] | left-out SEEDS [FIRST]
+     | against-library TABLES [FIRST] | operators | against-library-replay LOGS [FIRST]
+     | against-program PROGRAM TABLES [FIRST] | against-program-replay PROGRAM LOGS [FIRST]
+     | by-sequent PROGRAM [FILE..]
+     | bench [PROGRAM] | bench-table NAME | bench-replay [STEPS] | stack | stack-replay";
 
 fn main() -> ExitCode {
     let words: Vec<String> = std::env::args().skip(1).collect();
@@ -70,6 +77,13 @@ fn answer(words: &[&str]) -> Result<Vec<u8>, String> {
     }
 }
 
+/// A log of a real run of the table in this file.
+fn simulated(file: &str, steps: u64, seed: u64) -> Result<Vec<u8>, String> {
+    let table = accept(&bytes_in(file)?);
+    let refused = |one: Refusal| format!("{file}: refused by {}, row {}", one.number, one.row);
+    simulate(&table.map_err(refused)?, steps, seed)
+}
+
 /// Searches the sequents that request 4 leaves out for values that refute them.
 fn left_out(count: u64, first: u64) -> Result<Vec<u8>, String> {
     let mut text = String::new();
@@ -94,13 +108,54 @@ fn compared(words: &[&str]) -> Result<Vec<u8>, String> {
             against_program(program, number(count)?, number(first)?)
         }
         ["by-sequent", program, files @ ..] => by_sequent(program, files),
-        ["bench"] => Ok(bench::library(linked()?)?.into_bytes()),
+        ["bench"] => {
+            let calls = bench::library(linked()?)?;
+            let replays = bench::replay::report(library_replay(), bench::replay::STEPS);
+            let replays = replays.map_err(|text| format!("{calls}{text}"))?;
+            Ok((calls + &replays).into_bytes())
+        }
         ["stack"] => Ok(report::report(linked()?)?.into_bytes()),
         ["bench", program] => {
             let this = std::env::current_exe().map_err(|error| error.to_string())?;
             let (proved, rust) = (program_of(program), Program::new(&this, &["print"]));
             Ok(bench::program(&proved, &rust)?.into_bytes())
         }
+        _ => logs(words),
+    }
+}
+
+/// The commands that replay logs. Without the library, `bench-replay` times this program alone.
+fn logs(words: &[&str]) -> Result<Vec<u8>, String> {
+    match words {
+        ["replay", table, log] => Ok(replayed(&bytes_in(table)?, &bytes_in(log)?)),
+        ["simulate", table, steps, seed] => simulated(table, number(steps)?, number(seed)?),
+        ["replay-statistics", batches, first @ ..] => {
+            let counted = statistics::replays::Replays::of(or(0, first)?, number(batches)?);
+            Ok(counted.report().into_bytes())
+        }
+        ["against-library-replay", logs, first @ ..] => {
+            against_library_replay(number(logs)?, or(0, first)?)
+        }
+        ["against-program-replay", program, logs, first @ ..] => {
+            against_program_replay(program, number(logs)?, or(0, first)?)
+        }
+        ["stack-replay"] => {
+            let replays = library_replay().ok_or(UNLINKED)?;
+            Ok(stack::replay::report(replays)?.into_bytes())
+        }
+        ["bench-replay", steps @ ..] => {
+            let steps = or(bench::replay::STEPS, steps)?;
+            Ok(bench::replay::report(library_replay(), steps)?.into_bytes())
+        }
+        _ => Err(USAGE.to_string()),
+    }
+}
+
+/// The number that is given, or else this one.
+fn or(otherwise: u64, given: &[&str]) -> Result<u64, String> {
+    match given {
+        [] => Ok(otherwise),
+        [one] => number(one),
         _ => Err(USAGE.to_string()),
     }
 }
@@ -113,12 +168,20 @@ fn library() -> Option<&'static dyn Services> {
     return None;
 }
 
+/// Its replay, if this was built with it.
+fn library_replay() -> Option<&'static dyn Replays> {
+    #[cfg(library)]
+    return Some(&compare::library::Library);
+    #[cfg(not(library))]
+    return None;
+}
+
+const UNLINKED: &str =
+    "this was built without the library: set SIFTHORMA_LIBRARY to the path of libsifthorma.a";
+
 /// The proved library, for commands that need it.
 fn linked() -> Result<&'static dyn Services, String> {
-    library().ok_or(
-        "this was built without the library: set SIFTHORMA_LIBRARY to the path of libsifthorma.a"
-            .to_string(),
-    )
+    library().ok_or(UNLINKED.to_string())
 }
 
 /// Compares the proved library with this program on the tables of so many seeds.
@@ -143,6 +206,24 @@ fn operators() -> Result<Vec<u8>, String> {
     Ok([shown.into_bytes(), same].concat())
 }
 
+/// Compares the proved library's replay with this program's, on every operator by itself and on so many generated logs.
+fn against_library_replay(logs: u64, first: u64) -> Result<Vec<u8>, String> {
+    let replays = library_replay().ok_or(UNLINKED)?;
+    let mut text = String::new();
+    let family = whole_family();
+    for compared in [
+        replays::compare_list(replays, &family, threads()),
+        replays::compare(replays, first, logs, threads(), true),
+    ] {
+        let (summary, found) = compared?;
+        text += &summary.report();
+        if let Some(found) = found {
+            return Err(text + &found.report());
+        }
+    }
+    Ok((text + "no difference\n").into_bytes())
+}
+
 fn threads() -> usize {
     std::thread::available_parallelism().map_or(1, |threads| threads.get())
 }
@@ -159,6 +240,13 @@ fn reported((summary, found): (Summary, Option<Found>)) -> Result<Vec<u8>, Strin
 /// sequents if it is linked.
 fn against_program(program: &str, count: u64, first: u64) -> Result<Vec<u8>, String> {
     let same = program::compare(&program_of(program), library(), first, count)?;
+    Ok(same.into_bytes())
+}
+
+/// Compares a program that replays a log of a table, each in a file, with this one on so many generated logs.
+fn against_program_replay(program: &str, logs: u64, first: u64) -> Result<Vec<u8>, String> {
+    let program = Replayer::new(Path::new(program), &[]);
+    let same = program::replay::compare(&program, first, logs)?;
     Ok(same.into_bytes())
 }
 
@@ -195,6 +283,11 @@ fn program_of(path: &str) -> Program {
 fn answered(rows: Result<Vec<Row>, Refusal>) -> Result<Vec<u8>, String> {
     let rows = rows.unwrap_or_else(|refusal| vec![refusal_row(refusal)]);
     Ok(bytes_of(&rows))
+}
+
+/// All that the file holds.
+fn bytes_in(file: &str) -> Result<Vec<u8>, String> {
+    read(file).map_err(|error| format!("{file}: {error}"))
 }
 
 fn number(text: &str) -> Result<u64, String> {

@@ -1,5 +1,7 @@
 //! Runs a program that reads a table from standard input and prints, and compares what it prints.
 
+pub mod replay;
+
 use crate::against::Services;
 use crate::by_sequent::{hold_chosen, Held};
 use crate::campaign::shown_table;

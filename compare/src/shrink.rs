@@ -1,4 +1,4 @@
-//! Makes a table smaller while something stays true of it.
+//! Makes a table, or a table and a log, smaller while something stays true of it.
 
 use crate::formula::{columns, Columns, LITERAL, TOP, TRUE};
 use crate::rows::{bytes_of, read_row, Row, ROW_BYTES};
@@ -24,6 +24,51 @@ pub fn shrink(table: &[u8], limit: Duration, mut stays: impl FnMut(&[u8]) -> boo
             return best;
         }
     }
+}
+
+/// The smallest table and log found of which `stays` is still true.
+pub fn shrink_pair(
+    table: &[u8],
+    log: &[u8],
+    limit: Duration,
+    mut stays: impl FnMut(&[u8], &[u8]) -> bool,
+) -> (Vec<u8>, Vec<u8>) {
+    let end = Instant::now() + limit;
+    let (mut table, mut log) = (table.to_vec(), log.to_vec());
+    loop {
+        let size = (weight(&table), weight(&log));
+        log = shrink_bytes(log, end, &mut |log| stays(&table, log));
+        if let Some(rows) = rows_of(&table).filter(|rows| rows.iter().all(|row| row.tag < LOGGED)) {
+            let (steps, rest) = log.split_at(whole_rows(&log) * ROW_BYTES);
+            let both = [rows, rows_of(steps).unwrap_or_default()].concat();
+            let both = shrink_rows(both, end, &mut |rows| {
+                let (table, log) = parted(rows, rest);
+                stays(&table, &log)
+            });
+            (table, log) = parted(&both, rest);
+        }
+        table = shrink_bytes(table, end, &mut |table| stays(table, &log));
+        if (weight(&table), weight(&log)) == size || Instant::now() > end {
+            return (table, log);
+        }
+    }
+}
+
+/// Rows of a log have this tag or the next one; those of a table have lower ones.
+const LOGGED: i32 = 90;
+
+/// How many rows a log begins with that are in the row form and have a log's tag.
+pub fn whole_rows(log: &[u8]) -> usize {
+    let rows = log.chunks(ROW_BYTES).map(read_row);
+    let logged = |row: &Option<Row>| row.is_some_and(|row| (LOGGED..=91).contains(&row.tag));
+    rows.take_while(logged).count()
+}
+
+/// A table's rows, and the rows of a log behind them with what else it has.
+fn parted(rows: &[Row], rest: &[u8]) -> (Vec<u8>, Vec<u8>) {
+    let start = rows.iter().position(|row| row.tag >= LOGGED);
+    let (table, log) = rows.split_at(start.unwrap_or(rows.len()));
+    (bytes_of(table), [&bytes_of(log), rest].concat())
 }
 
 /// Fewer bytes first, then fewer bytes that aren't a space or a zero.
@@ -101,7 +146,7 @@ fn shrink_places(
     best
 }
 
-/// The table without the identifiers, events and formulas in a run of rows, and without all that names them.
+/// The table without the identifiers, events, formulas and steps in a run of rows, and without all that names them.
 /// A last convergent or anticipated event can only go with the variant, so that is tried too.
 fn without_parts(rows: &[Row], place: usize, run: usize) -> Vec<Vec<Row>> {
     let places = place..(place + run).min(rows.len());
@@ -126,6 +171,7 @@ fn with_names(rows: &[Row], mut dropped: Places) -> Places {
                 dropped.insert(other);
             }
         }
+        dropped.extend(values_of(rows, &dropped));
         if dropped.len() == before {
             break;
         }
@@ -138,6 +184,16 @@ fn with_names(rows: &[Row], mut dropped: Places) -> Places {
         dropped.extend(tree(rows, root));
     }
     dropped
+}
+
+/// The rows 91 of all steps whose rows 90 are among these.
+fn values_of(rows: &[Row], steps: &Places) -> Places {
+    let mut values = Places::new();
+    for &step in steps.iter().filter(|&&step| rows[step].tag == LOGGED) {
+        let later = (step + 1..rows.len()).take_while(|&place| rows[place].tag > LOGGED);
+        values.extend(later);
+    }
+    values
 }
 
 /// The table with this node replaced by one of its operands or of theirs, or by a leaf that mentions nothing.
@@ -200,6 +256,8 @@ fn references(row: Row) -> Vec<(usize, i32)> {
         40 => vec![(2, 40)],
         50 => vec![(0, 40), (1, 20)],
         51 | 52 | 60 => vec![(0, 40), (1, 10), (2, 20)],
+        90 => vec![(0, 40)],
+        91 => vec![(0, 10)],
         _ => vec![],
     }
 }

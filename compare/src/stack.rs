@@ -1,9 +1,11 @@
 //! The stack that a call of the services needs: threads with exactly as much as is stated, and what a call uses.
 
+pub mod replay;
 pub mod report;
 pub mod tables;
 
 use crate::against::{Call, Reply, Services};
+use crate::replays::Replays;
 use std::hint::black_box;
 use std::panic::resume_unwind;
 use std::thread::{scope, Builder};
@@ -28,6 +30,11 @@ pub fn measure(services: &dyn Services, table: &[u8], call: Call) -> (Reply, usi
     on_thread(AREA + REST, || {
         used(|| call.make(services, table, &mut out))
     })
+}
+
+/// The reply to a replay, and how many bytes of stack it used.
+pub fn measure_replay(replays: &dyn Replays, table: &[u8], log: &[u8]) -> (Reply, usize) {
+    on_thread(AREA + REST, || used(|| replays.replay(table, log)))
 }
 
 /// Bytes of stack that are filled before a call; one that changes them all isn't measured.

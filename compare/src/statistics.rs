@@ -2,8 +2,10 @@
 
 pub mod anticipated;
 pub mod left_out;
+pub mod replays;
 pub mod shapes;
 pub mod shared;
+pub mod terms;
 
 use crate::checks::{accept, Refusal};
 use crate::generate::sections::COMBINATIONS;

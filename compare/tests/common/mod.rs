@@ -1,6 +1,9 @@
 //! Tables that several tests share.
 #![allow(dead_code)]
 
+pub mod plain_replay;
+pub mod prefix;
+
 use compare::against::{Call, Reply, Services};
 use compare::checks::Refusal;
 use compare::rows::{bytes_of, layout, Row};
