@@ -215,10 +215,10 @@ fn evaluate_node(
         return leaf(words, table, present, after, operator, b);
     }
     let left = evaluate_expression(words, table, present, after, operand(n, b));
+    let mut right = left;
     if reads_right(operator, left) {
         let c = node_field(words, table, n, Table::RIGHT);
-        let right = evaluate_expression(words, table, present, after, operand(n, c));
-        return combine(operator, left, right);
+        right = evaluate_expression(words, table, present, after, operand(n, c));
     }
-    combine(operator, left, left)
+    combine(operator, left, right)
 }

@@ -1,14 +1,19 @@
 -- A node's answer is a leaf's, or comes from its operands', which have smaller numbers; a predicate is handed on. The measure is three times the node's number and
 -- two more for an expression, one more for a predicate.
 use Prim.Native.Nat.{ℕ, _+_, _*_, _<_}
-use mathlib.Core.Path.{sym, _∙_}
+use mathlib.Core.Path.{sym, ap, _∙_}
+use mathlib.Core.Logic.{_⊎_, inl, inr}
 use native.Mathlib.Omega.{arith}
 use borrow.Author.Needs.{needs}
 use borrow.Fn.Kinds.{In}
 use borrow.Fn.PlainCycle.{Measures, is, falls, and}
 use Rattle.table.specs.Rows.{rowsOf}
+use Rattle.machine.specs.Operator.{operatorNumbered}
 use Rattle.machine.specs.Described.{machineOf}
 use Rattle.answer.specs.Stored.{storedEnv}
+use Rattle.signed.specs.declared.Found.{Found}
+use Rattle.signed.specs.Found.{foundOf, answerOf}
+use Rattle.evaluate.specs.Evaluate.{combined}
 use Rattle.evaluate.proofs.Nodes.{operand-below, leaf-is, both-read, left-read}
 use Rattle.evaluate.proofs.evaluate_expression.Reads as evaluate-expression
 use Rattle.evaluate.proofs.evaluate_expression.Kinds as evaluate-expression-kinds
@@ -33,6 +38,11 @@ use Rattle.evaluate.proofs.+evaluate_expression+evaluate_node+evaluate_
 use Rattle.evaluate.proofs.+evaluate_expression+evaluate_node+evaluate_predicate.Tie.{
   close,
 }
+
+-- where two ways meet
+by-case : {A B C : Type 0} → A ⊎ B → (A → C) → (B → C) → C
+by-case (inl a) f g = f a
+by-case (inr b) f g = g b
 
 abbrev μ-evaluate-expression : Measures 3 evaluate-expression-kinds.ps ℕ
 μ-evaluate-expression κs a = 3 * a .1 .1 .1 .1 .0 + 2
@@ -166,21 +176,6 @@ pub +evaluate-expression+evaluate-node+evaluate-predicate-spec : {M : Type 1} �
     (c .operand2 .result) (c .before .node-field2 .result) (c .operand2 .ensures) (sym (t .before .is-leaf .ensures) ∙ t .if1 .left) in
     (omega (arith, below, s .pre .0), s .pre .1 .0))
     (λ c κs. search needs)
-    (λ c. let r = c .before in
-    let y = r .before in
-    let l = y .before .before .before .before in
-    let x = l .before in
-    let t = x .before in
-    let f = t .before .before in
-    let s = f .before .before in
-    let a = s .args in
-    let rows = rowsOf (a .words .now) in
-    let ρ = storedEnv (machineOf rows .type) (a .present .now) (a .after .now) in
-    c .combine .ensures
-    ∙ both-read rows (a .n) (a .operator) (f .node-field .result) (s .pre .1 .1) (f .node-field .ensures) ρ (sym (t .before .is-leaf .ensures) ∙ t .if1 .left)
-    (x .operand .result) (x .operand .ensures) (l .evaluate-expression .result) (l .evaluate-expression .ensures)
-    (y .before .node-field2 .result) (y .operand2 .result) (y .before .node-field2 .ensures) (y .operand2 .ensures) (r .evaluate-expression2 .result) (r .evaluate-expression2 .ensures))
-    (λ c κs. search needs)
     (λ c. let q = c .before .before in
     let l = q .before in
     let x = l .before in
@@ -190,9 +185,18 @@ pub +evaluate-expression+evaluate-node+evaluate-predicate-spec : {M : Type 1} �
     let a = s .args in
     let rows = rowsOf (a .words .now) in
     let ρ = storedEnv (machineOf rows .type) (a .present .now) (a .after .now) in
-    c .combine2 .ensures
-    ∙ left-read rows (a .n) (a .operator) (f .node-field .result) (s .pre .1 .1) (f .node-field .ensures) ρ (sym (t .before .is-leaf .ensures) ∙ t .if1 .left)
-    (x .operand .result) (x .operand .ensures) (l .evaluate-expression .result) (l .evaluate-expression .ensures) (sym (q .reads-right .ensures) ∙ c .before .if2 .left)))
+    let left = l .evaluate-expression .result in
+    let inner = sym (t .before .is-leaf .ensures) ∙ t .if1 .left in
+    let given : Found → Found = λ r. foundOf (combined (operatorNumbered (a .operator)) (answerOf left) (answerOf r)) in
+    c .combine .ensures
+    ∙ by-case (c .before .if2 .came)
+    (λ read. ap given (read .4)
+    ∙ both-read rows (a .n) (a .operator) (f .node-field .result) (s .pre .1 .1) (f .node-field .ensures) ρ inner
+    (x .operand .result) (x .operand .ensures) left (l .evaluate-expression .ensures)
+    (read .1 .result) (read .2 .result) (read .1 .ensures) (read .2 .ensures) (read .3 .result) (read .3 .ensures))
+    (λ stop. ap given (stop .1)
+    ∙ left-read rows (a .n) (a .operator) (f .node-field .result) (s .pre .1 .1) (f .node-field .ensures) ρ inner
+    (x .operand .result) (x .operand .ensures) left (l .evaluate-expression .ensures) (sym (q .reads-right .ensures) ∙ stop .0 .left))))
     λ t. evaluate-predicate-lts.spec
     (operator-at-reads.Asked, operator-at-reads.Learnt, evaluate-node-below t, evaluate-node.Post)
     (evaluate-predicate-at t)
