@@ -1,11 +1,11 @@
 -- What one row of a run makes of the reading: by what the reader finds at the place.
 use mathlib.Core.Path.{_≡_, refl, sym, ap, ap₂, subst, _∙_}
-use mathlib.Core.Bool.{Bool, true, false}
+use mathlib.Core.Bool.{Bool, true, false, _&&_}
 use mathlib.Core.List.{List, [], _∷_}
 use Prim.Native.Nat.{ℕ, _+_, _-_, _≤_, _<_}
 use native.Mathlib.Omega.{arith}
 use borrow.Author.Tests.{ltb-true, ltb-false}
-use lib.Dec.{ltb}
+use lib.Dec.{ltb, eqb}
 use lib.ListN.{length, take, drop, length-drop}
 use lib.Seq.{drop-drop}
 use Rattle.lists.specs.Choice.{pick}
@@ -19,8 +19,8 @@ use Rattle.row.specs.declared.Line.the-variants as line
 use Rattle.row.specs.declared.Read.{Read}
 use Rattle.row.specs.declared.Read.the-variants as read
 use Rattle.formula.specs.Values.{wholeNumber}
-use Rattle.table.specs.Rows.{Rows, count}
-use Rattle.log.specs.Rows.{isGiven, isValueRow, logged}
+use Rattle.table.specs.Rows.{Rows, count, kindOf, ownerOf}
+use Rattle.log.specs.Rows.{isInitial, isGiven, isValueRow, logged}
 use Rattle.log.specs.Replay.{Values, Found, bad, storeBy, readValues}
 use Rattle.log.specs.Lines.{lines}
 use Rattle.log.proofs.Lines.{lines-none, lines-torn, lines-whole}
@@ -121,6 +121,12 @@ module _ (t : Rows) (given : Bool) (x : ℕ) (run : List ℕ) (at : ℕ) (vs : V
         ∙ ap (λ b. pick b (readValues t e ys (rowAt at + 1) (linesAt run (p .at)) (storeBy (isGiven t e x) x (wholeNumber (r .b)) vs)) (bad (rowAt at))) fails)
 
 -- ---- an identifier that may have no row 91
+
+-- whether it is given, by what was read of it
+pub given-is : (t : Rows) (e x : ℕ) {g i : Bool} {k o : ℕ} → g ≡ pick i (eqb k 1) (eqb k 5 && eqb o e) → i ≡ isInitial t e → k ≡ kindOf t x → o ≡ ownerOf t x → g ≡ isGiven t e x
+given-is t e x {o = n} h i k o =
+    h ∙ ap₂ (λ i k. pick i (eqb k 1) (eqb k 5 && eqb n e)) i k ∙ ap (λ o. pick (isInitial t e) (eqb (kindOf t x) 1) (eqb (kindOf t x) 5 && eqb o e)) o
+
 module _ (t : Rows) (e x : ℕ) (run : List ℕ) {w : Bool} (is : w ≡ isWanted t e x) where
   pub identifier-read : (at : ℕ) (vs : Values) (given : Bool) (r : Reached) (ws : Values) → w ≡ true → given ≡ isGiven t e x → ReadsValue t given x run at vs r ws → Reaches r (rowAt at + 1)
       → ReadsIdentifier t e x run at vs r ws × Reaches r (rowAt at + oneIf (isWanted t e x))

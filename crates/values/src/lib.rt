@@ -13,7 +13,10 @@ use table::identifier;
 use table::identifier_field;
 use table::is_variable_of;
 ghost use mathlib.Core.Path.{_≡_};
+ghost use mathlib.Core.Bool.{_&&_};
 ghost use mathlib.Core.List.{[]};
+ghost use lib.Dec.{eqb};
+ghost use Rattle.table.specs.Names.{constantKind, concreteParameterKind};
 ghost use Prim.Native.Nat.{_+_};
 ghost use lib.IntN.{pos};
 ghost use lib.ListN.{length, getD, set};
@@ -58,15 +61,12 @@ pub fn is_initial(words: &[u64], table: Table, e: u64) -> bool
 }
 
 // What is logged beside the variables: "constants .. after initialisation, else the event's parameters".
-fn is_given(words: &[u64], table: Table, e: u64, x: u64) -> bool
-    requires { ⌜ table ≡ countsOf (rowsOf (now words)) ⌝ }
-    ensures { λ r. ⌜ r ≡ isGiven (rowsOf (now (words .entry))) e x ⌝ }
+fn is_given(initial: bool, kind: u64, owner: u64, e: u64) -> bool
+    ensures { λ r. ⌜ r ≡ pick initial (eqb kind constantKind) (eqb kind concreteParameterKind && eqb owner e) ⌝ }
 {
-    let kind = identifier_field(words, table, x, Table::KIND);
-    if is_initial(words, table, e) {
+    if initial {
         return kind == identifier::CONSTANT;
     }
-    let owner = identifier_field(words, table, x, Table::OWNER);
     (kind == identifier::CONCRETE_PARAMETER) & (owner == e)
 }
 
@@ -158,18 +158,21 @@ fn read_identifier(
     words: &[u64],
     table: Table,
     run: &[u8],
+    initial: bool,
     e: u64,
     x: u64,
     place: Place,
     present: &mut [i64],
     after: &mut [i64],
 ) -> Reached
-    requires { ⌜ table ≡ countsOf (rowsOf (now words)) ⌝ }
+    requires { ⌜ (table ≡ countsOf (rowsOf (now words))) × (initial ≡ isInitial (rowsOf (now words)) e) ⌝ }
     ensures { λ r. ⌜ ReadsIdentifier (rowsOf (now (words .entry))) e x (now (run .entry)) (place .at) (valuesOf (now (present .entry)) (now (after .entry))) r (valuesOf (now (present .exit)) (now (after .exit))) ⌝ }
     ensures { λ r. ⌜ Reaches r (rowAt (place .at) + oneIf (isWanted (rowsOf (now (words .entry))) e x)) ⌝ }
 {
-    let given = is_given(words, table, e, x);
-    if given | is_state_variable(words, table, x) {
+    let kind = identifier_field(words, table, x, Table::KIND);
+    let owner = identifier_field(words, table, x, Table::OWNER);
+    let given = is_given(initial, kind, owner, e);
+    if given | is_variable_of(identifier::CONCRETE_VARIABLE, kind) {
         return read_value(words, table, run, given, x, place, present, after);
     }
     Reached::Next(place)
@@ -189,11 +192,12 @@ pub fn read_values(
     ensures { λ r. ⌜ readOn (rowsOf (now (words .entry))) r e [] (now (run .entry)) (valuesOf (now (present .exit)) (now (after .exit))) ≡ readValues (rowsOf (now (words .entry))) e (logged (rowsOf (now (words .entry))) e) (rowAt (place .at)) (linesAt (now (run .entry)) (place .at)) (valuesOf (now (present .entry)) (now (after .entry))) ⌝ }
     ensures { λ r. ⌜ Reaches r (rowAt (place .at) + length (logged (rowsOf (now (words .entry))) e)) ⌝ }
 {
+    let initial = is_initial(words, table, e);
     let mut place = place;
     let mut x = 0;
     while x < table.identifiers {
         x += 1;
-        match read_identifier(words, table, run, e, x, place, present, after) {
+        match read_identifier(words, table, run, initial, e, x, place, present, after) {
             Reached::Next(next) => {
                 place = next;
             }

@@ -1,10 +1,11 @@
 -- By whether the identifier has a row 91.
-use mathlib.Core.Path.{ap₂}
+use mathlib.Core.Path.{ap, ap₂, _∙_}
 use mathlib.Core.Bool.{_||_}
 use borrow.Author.Needs.{needs}
+use Rattle.table.specs.Names.{isVariableOf}
 use Rattle.table.specs.Rows.{rowsOf}
 use Rattle.values.specs.Values.{valuesOf}
-use Rattle.values.proofs.Reading.{identifier-read, identifier-skipped}
+use Rattle.values.proofs.Reading.{identifier-read, identifier-skipped, given-is}
 use Rattle.values.proofs.read_identifier.Statement.{statement}
 use Rattle.values.proofs.read_identifier.Tie as tie
 
@@ -13,14 +14,24 @@ read-identifier-spec = tie.close (tie.spec
     (λ c κs. search needs)
     (λ c κs. search needs)
     (λ c κs. search needs)
+    (λ c κs. search needs)
+    (λ c κs. search needs)
     (λ c. search needs)
     (λ c. search needs)
     (λ c. let read = c .before .before in
-    let wanted = c .before .before .before .before .before .before in
-    let s = wanted .before .before .before .before in
-    identifier-read (rowsOf (s .args .words .now)) (s .args .e) (s .args .x) (s .args .run .now) (ap₂ _||_ (wanted .before .is-given .ensures) (wanted .is-state-variable .ensures))
-    (s .args .place .at) (valuesOf (s .args .present .now) (s .args .after .now)) (wanted .before .is-given .result) _ _ (c .before .before .before .before .before .if1 .taken) (wanted .before .is-given .ensures) (read .read-value .ensures .0) (read .read-value .ensures .1))
-    (λ c. let wanted = c .before in
-    let s = wanted .before .before .before .before in
-    identifier-skipped (rowsOf (s .args .words .now)) (s .args .e) (s .args .x) (s .args .run .now) (ap₂ _||_ (wanted .before .is-given .ensures) (wanted .is-state-variable .ensures))
+    let variable = c .before .before .before .before .before .before in
+    let test = variable .before in
+    let kind = test .before .before in
+    let s = kind .before .before .before in
+    let t = rowsOf (s .args .words .now) in
+    let given = given-is t (s .args .e) (s .args .x) (test .is-given .ensures) (s .pre .1) (kind .identifier-field .ensures) (test .before .identifier-field2 .ensures) in
+    identifier-read t (s .args .e) (s .args .x) (s .args .run .now) (ap₂ _||_ given (variable .is-variable-of .ensures ∙ ap (isVariableOf 3) (kind .identifier-field .ensures)))
+    (s .args .place .at) (valuesOf (s .args .present .now) (s .args .after .now)) (test .is-given .result) _ _ (c .before .before .before .before .before .if1 .taken) given (read .read-value .ensures .0) (read .read-value .ensures .1))
+    (λ c. let variable = c .before in
+    let test = variable .before in
+    let kind = test .before .before in
+    let s = kind .before .before .before in
+    let t = rowsOf (s .args .words .now) in
+    let given = given-is t (s .args .e) (s .args .x) (test .is-given .ensures) (s .pre .1) (kind .identifier-field .ensures) (test .before .identifier-field2 .ensures) in
+    identifier-skipped t (s .args .e) (s .args .x) (s .args .run .now) (ap₂ _||_ given (variable .is-variable-of .ensures ∙ ap (isVariableOf 3) (kind .identifier-field .ensures)))
     (s .args .place) (valuesOf (s .args .present .now) (s .args .after .now)) (c .if1 .left)))
