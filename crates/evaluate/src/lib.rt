@@ -27,10 +27,9 @@ use table::operand;
 use table::operator;
 use table::sort;
 ghost use mathlib.Core.Path.{_≡_};
-ghost use mathlib.Core.Bool.{false};
 ghost use lib.IntN.{pos};
 ghost use lib.ListN.{getD};
-ghost use Rattle.table.specs.Rows.{rowsOf, leftOf};
+ghost use Rattle.table.specs.Rows.{rowsOf};
 ghost use Rattle.table.specs.Counts.{countsOf};
 ghost use Rattle.formula.specs.Values.{wrap};
 ghost use Rattle.machine.specs.Operator.{operatorNumbered};
@@ -165,7 +164,7 @@ fn operator_at(words: &[u64], table: Table, n: u64) -> u64
     node_field(words, table, n, Table::OPERATOR)
 }
 
-// The answer of node n, an expression. A predicate is handed on, and a leaf is read at once.
+// The answer of node n, an expression. A predicate is handed on.
 pub fn evaluate_expression(
     words: &[u64],
     table: Table,
@@ -177,15 +176,11 @@ pub fn evaluate_expression(
     ensures { λ r. ⌜ r ≡ foundOf (answer (storedEnv (machineOf (rowsOf (now (words .entry))) .type) (now (present .entry)) (now (after .entry))) (treeOf (rowsOf (now (words .entry))) n)) ⌝ }
 {
     let operator = operator_at(words, table, n);
-    let b = node_field(words, table, n, Table::LEFT);
-    if is_leaf(operator) {
-        return leaf(words, table, present, after, operator, b);
-    }
     let found = find_operator(operator);
     if found.sort == sort::PREDICATE {
         return evaluate_predicate(words, table, present, after, n);
     }
-    evaluate_node(words, table, present, after, n, operator, b)
+    evaluate_node(words, table, present, after, n, operator)
 }
 
 // The answer of node n, a predicate.
@@ -200,14 +195,10 @@ pub fn evaluate_predicate(
     ensures { λ r. ⌜ r ≡ foundOf (answer (storedEnv (machineOf (rowsOf (now (words .entry))) .type) (now (present .entry)) (now (after .entry))) (treeOf (rowsOf (now (words .entry))) n)) ⌝ }
 {
     let operator = operator_at(words, table, n);
-    let b = node_field(words, table, n, Table::LEFT);
-    if is_leaf(operator) {
-        return leaf(words, table, present, after, operator, b);
-    }
-    evaluate_node(words, table, present, after, n, operator, b)
+    evaluate_node(words, table, present, after, n, operator)
 }
 
-// The answer of node n by its operator and its column b, from those of its operands, each begun as an expression. The right one is evaluated only where it is read.
+// The answer of node n by its operator, from those of its operands, each begun as an expression. The right one is evaluated only where it is read.
 fn evaluate_node(
     words: &[u64],
     table: Table,
@@ -215,11 +206,14 @@ fn evaluate_node(
     after: &[i64],
     n: u64,
     operator: u64,
-    b: u64,
 ) -> Found
-    requires { ⌜ (table ≡ countsOf (rowsOf (now words))) × (operator ≡ operatorAt (rowsOf (now words)) n) × (b ≡ leftOf (rowsOf (now words)) n) × (isLeaf (operatorNumbered operator) ≡ false) ⌝ }
+    requires { ⌜ (table ≡ countsOf (rowsOf (now words))) × (operator ≡ operatorAt (rowsOf (now words)) n) ⌝ }
     ensures { λ r. ⌜ r ≡ foundOf (answer (storedEnv (machineOf (rowsOf (now (words .entry))) .type) (now (present .entry)) (now (after .entry))) (treeOf (rowsOf (now (words .entry))) n)) ⌝ }
 {
+    let b = node_field(words, table, n, Table::LEFT);
+    if is_leaf(operator) {
+        return leaf(words, table, present, after, operator, b);
+    }
     let left = evaluate_expression(words, table, present, after, operand(n, b));
     let mut right = left;
     if reads_right(operator, left) {

@@ -106,12 +106,6 @@ pub +evaluate-expression+evaluate-node+evaluate-predicate-spec : {M : Type 1} �
     (λ t. evaluate-expression-lts.spec (
       operator-at-reads.Asked,
       operator-at-reads.Learnt,
-      node-field-reads.Asked,
-      node-field-reads.Learnt,
-      is-leaf-reads.Asked,
-      is-leaf-reads.Learnt,
-      leaf-reads.Asked,
-      leaf-reads.Learnt,
       find-operator-reads.Asked,
       find-operator-reads.Learnt,
       evaluate-predicate-below t,
@@ -122,101 +116,92 @@ pub +evaluate-expression+evaluate-node+evaluate-predicate-spec : {M : Type 1} �
     (evaluate-expression-at t)
     evaluate-expression.Post
     (λ c κs. search needs)
-    (λ c κs. (c .before .before .pre .1, omega arith))
     (λ c κs. search needs)
-    (λ c κs. c .before .before .before .before .before .pre .1)
-    (λ c. let test = c .before in
-    let f = test .before .before in
-    let o = f .before in
-    let s = o .before .before in
-    let a = s .args in
-    let rows = rowsOf (a .words .now) in
-    let ρ = storedEnv (machineOf rows .type) (a .present .now) (a .after .now) in
-    c .leaf .ensures ∙ leaf-is rows (a .n) (o .operator-at .result) (f .node-field .result) (o .operator-at .ensures) (f .node-field .ensures) ρ (sym (test .before .is-leaf .ensures) ∙ test .if1 .taken))
-    (λ c κs. search needs)
-    (λ c κs. let s = c .before .before .before .before .before .before .before .before in
+    (λ c κs. let s = c .before .before .before .before .before in
     (omega (arith, s .pre .0), s .pre .1))
     (λ c. c .evaluate-predicate .ensures)
-    (λ c κs. let test = c .before .before .before in
-    let f = test .before .before in
-    let o = f .before in
+    (λ c κs. let o = c .before .before .before in
     let s = o .before .before in
-    (omega (arith, s .pre .0), (s .pre .1, o .operator-at .ensures, f .node-field .ensures, sym (test .before .is-leaf .ensures) ∙ test .if1 .left)))
+    (omega (arith, s .pre .0), (s .pre .1, o .operator-at .ensures)))
     (λ c. c .evaluate-node .ensures))
     (λ t. evaluate-node-lts.spec (
-      operand-reads.Asked,
-      operand-reads.Learnt,
-      evaluate-expression-below t,
-      evaluate-expression.Post,
-      reads-right-reads.Asked,
-      reads-right-reads.Learnt,
-      node-field-reads.Asked,
-      node-field-reads.Learnt,
-      combine-reads.Asked,
-      combine-reads.Learnt,
-    )
-    (evaluate-node-at t)
-    evaluate-node.Post
-    (λ c κs. search needs)
-    (λ c κs. let s = c .before .before in
-    let a = s .args in
-    let below = operand-below (rowsOf (a .words .now)) (a .n) (a .operator) (a .b) (s .pre .1 .1) (s .pre .1 .2) (c .operand .result) (a .b) (c .operand .ensures) (s .pre .1 .3) in
-    (omega (arith, below, s .pre .0), s .pre .1 .0))
-    (λ c κs. search needs)
-    (λ c κs. (c .before .before .before .before .before .pre .1 .0, omega arith))
-    (λ c κs. search needs)
-    (λ c κs. let s = c .before .before .before .before .before .before .before in
-    let a = s .args in
-    let below = operand-below (rowsOf (a .words .now)) (a .n) (a .operator) (a .b) (s .pre .1 .1) (s .pre .1 .2) (c .operand2 .result) (c .before .node-field .result) (c .operand2 .ensures) (s .pre .1 .3) in
-    (omega (arith, below, s .pre .0), s .pre .1 .0))
-    (λ c κs. search needs)
-    (λ c. let q = c .before .before in
-    let l = q .before in
-    let x = l .before in
-    let s = x .before .before in
-    let a = s .args in
-    let rows = rowsOf (a .words .now) in
-    let ρ = storedEnv (machineOf rows .type) (a .present .now) (a .after .now) in
-    let left = l .evaluate-expression .result in
-    let given : Found → Found = λ r. foundOf (combined (operatorNumbered (a .operator)) (answerOf left) (answerOf r)) in
-    c .combine .ensures
-    ∙ by-case (c .before .if1 .came)
-    (λ read. ap given (read .4)
-    ∙ both-read rows (a .n) (a .operator) (a .b) (s .pre .1 .1) (s .pre .1 .2) ρ (s .pre .1 .3)
-    (x .operand .result) (x .operand .ensures) left (l .evaluate-expression .ensures)
-    (read .1 .result) (read .2 .result) (read .1 .ensures) (read .2 .ensures) (read .3 .result) (read .3 .ensures))
-    (λ stop. ap given (stop .1)
-    ∙ left-read rows (a .n) (a .operator) (a .b) (s .pre .1 .1) (s .pre .1 .2) ρ (s .pre .1 .3)
-    (x .operand .result) (x .operand .ensures) left (l .evaluate-expression .ensures) (sym (q .reads-right .ensures) ∙ stop .0 .left))))
-    λ t. evaluate-predicate-lts.spec (
-      operator-at-reads.Asked,
-      operator-at-reads.Learnt,
       node-field-reads.Asked,
       node-field-reads.Learnt,
       is-leaf-reads.Asked,
       is-leaf-reads.Learnt,
       leaf-reads.Asked,
       leaf-reads.Learnt,
-      evaluate-node-below t,
-      evaluate-node.Post,
+      operand-reads.Asked,
+      operand-reads.Learnt,
+      evaluate-expression-below t,
+      evaluate-expression.Post,
+      reads-right-reads.Asked,
+      reads-right-reads.Learnt,
+      combine-reads.Asked,
+      combine-reads.Learnt,
     )
-    (evaluate-predicate-at t)
-    evaluate-predicate.Post
+    (evaluate-node-at t)
+    evaluate-node.Post
+    (λ c κs. (c .before .pre .1 .0, omega arith))
     (λ c κs. search needs)
-    (λ c κs. (c .before .before .pre .1, omega arith))
-    (λ c κs. search needs)
-    (λ c κs. c .before .before .before .before .before .pre .1)
-    (λ c. let test = c .before in
-    let f = test .before .before in
-    let o = f .before in
-    let s = o .before .before in
+    (λ c κs. c .before .before .before .before .pre .1 .0)
+    (λ c. let t = c .before in
+    let f = t .before .before in
+    let s = f .before .before in
     let a = s .args in
     let rows = rowsOf (a .words .now) in
     let ρ = storedEnv (machineOf rows .type) (a .present .now) (a .after .now) in
-    c .leaf .ensures ∙ leaf-is rows (a .n) (o .operator-at .result) (f .node-field .result) (o .operator-at .ensures) (f .node-field .ensures) ρ (sym (test .before .is-leaf .ensures) ∙ test .if1 .taken))
-    (λ c κs. let test = c in
-    let f = test .before .before in
-    let o = f .before in
-    let s = o .before .before in
-    (omega (arith, s .pre .0), (s .pre .1, o .operator-at .ensures, f .node-field .ensures, sym (test .before .is-leaf .ensures) ∙ test .if1 .left)))
+    c .leaf .ensures
+    ∙ leaf-is rows (a .n) (a .operator) (f .node-field .result) (s .pre .1 .1) (f .node-field .ensures) ρ (sym (t .before .is-leaf .ensures) ∙ t .if1 .taken))
+    (λ c κs. search needs)
+    (λ c κs. let t = c .before in
+    let f = t .before .before in
+    let s = f .before .before in
+    let a = s .args in
+    let b = f .node-field .result in
+    let below =
+    operand-below (rowsOf (a .words .now)) (a .n) (a .operator) b (s .pre .1 .1) (f .node-field .ensures)
+    (c .operand .result) b (c .operand .ensures) (sym (t .before .is-leaf .ensures) ∙ t .if1 .left) in
+    (omega (arith, below, s .pre .0), s .pre .1 .0))
+    (λ c κs. search needs)
+    (λ c κs. (c .before .before .before .before .before .before .before .before .pre .1 .0, omega arith))
+    (λ c κs. search needs)
+    (λ c κs. let t = c .before .before .before .before .before .before in
+    let f = t .before .before in
+    let s = f .before .before in
+    let a = s .args in
+    let b = f .node-field .result in
+    let below =
+    operand-below (rowsOf (a .words .now)) (a .n) (a .operator) b (s .pre .1 .1) (f .node-field .ensures)
+    (c .operand2 .result) (c .before .node-field2 .result) (c .operand2 .ensures) (sym (t .before .is-leaf .ensures) ∙ t .if1 .left) in
+    (omega (arith, below, s .pre .0), s .pre .1 .0))
+    (λ c κs. search needs)
+    (λ c. let q = c .before .before in
+    let l = q .before in
+    let x = l .before in
+    let t = x .before in
+    let f = t .before .before in
+    let s = f .before .before in
+    let a = s .args in
+    let rows = rowsOf (a .words .now) in
+    let ρ = storedEnv (machineOf rows .type) (a .present .now) (a .after .now) in
+    let left = l .evaluate-expression .result in
+    let inner = sym (t .before .is-leaf .ensures) ∙ t .if1 .left in
+    let given : Found → Found = λ r. foundOf (combined (operatorNumbered (a .operator)) (answerOf left) (answerOf r)) in
+    c .combine .ensures
+    ∙ by-case (c .before .if2 .came)
+    (λ read. ap given (read .4)
+    ∙ both-read rows (a .n) (a .operator) (f .node-field .result) (s .pre .1 .1) (f .node-field .ensures) ρ inner
+    (x .operand .result) (x .operand .ensures) left (l .evaluate-expression .ensures)
+    (read .1 .result) (read .2 .result) (read .1 .ensures) (read .2 .ensures) (read .3 .result) (read .3 .ensures))
+    (λ stop. ap given (stop .1)
+    ∙ left-read rows (a .n) (a .operator) (f .node-field .result) (s .pre .1 .1) (f .node-field .ensures) ρ inner
+    (x .operand .result) (x .operand .ensures) left (l .evaluate-expression .ensures) (sym (q .reads-right .ensures) ∙ stop .0 .left))))
+    λ t. evaluate-predicate-lts.spec
+    (operator-at-reads.Asked, operator-at-reads.Learnt, evaluate-node-below t, evaluate-node.Post)
+    (evaluate-predicate-at t)
+    evaluate-predicate.Post
+    (λ c κs. search needs)
+    (λ c κs. let s = c .before .before in
+    (omega (arith, s .pre .0), (s .pre .1, c .operator-at .ensures)))
     (λ c. c .evaluate-node .ensures)
