@@ -1,3 +1,4 @@
 pub mod Columns
 pub mod Scan
 pub mod Form
+pub mod Leading

@@ -1,8 +1,10 @@
 -- How columns are read, from the left: one byte more after a text. Whatever is read is in the number form, and all that is in it is read (proofs/Form.antt).
-use Prim.Native.Nat.{ℕ, _+_, _-_, _*_, _^_}
+use Prim.Native.Nat.{ℕ, _+_, _-_, _*_, _^_, _≤_, _<_}
+use mathlib.Core.Path.{_≡_}
 use mathlib.Core.List.{List, [], _∷_}
 use mathlib.Core.Bool.{Bool, true, false}
 use lib.Dec.{ltb, eqb}
+use lib.ListN.{length, getD}
 use Rattle.lists.specs.Choice.{pick}
 use Rattle.number.specs.declared.Number.{Number}
 use Rattle.number.specs.declared.Number.the-variants.{Value, Malformed}
@@ -61,3 +63,7 @@ valueOf Wrong = Malformed
 -- what columns hold
 unfoldable pub numberOf : ℕ → List ℕ → Number
 numberOf greatest columns = valueOf (scanFrom greatest (Prefix Spaces) columns)
+
+-- the first k columns are spaces
+abbrev pub BlankTo : ℕ → List ℕ → Type 0
+BlankTo k columns = (k ≤ length columns) × ((j : ℕ) → j < k → getD columns j 0 ≡ space)

@@ -6,7 +6,7 @@ ghost use Prim.Native.Nat.{_≤_, _<_, _+_, _-_, _^_};
 ghost use Rattle.lists.specs.Over.{over};
 ghost use Rattle.lists.specs.Choice.{pick};
 ghost use Rattle.number.specs.Number.{space, digitZero, Spaces, Minus, Digits, mostOf, textOf, columnsOf};
-ghost use Rattle.number.specs.Reading.{Prefix, wordOf, digitOf, scanFrom, valueOf, numberOf};
+ghost use Rattle.number.specs.Reading.{Prefix, wordOf, digitOf, scanFrom, valueOf, numberOf, BlankTo};
 
 // ASCII.
 const SPACE: u8 = 32;
@@ -114,12 +114,33 @@ fn after_spaces(greatest: u64, columns: &[u8], at: usize) -> Number
     digits(greatest, false, columns, at)
 }
 
+// How many of the first columns are seen to be spaces at one glance: eight or none.
+fn blank_start(columns: &[u8]) -> usize
+    ensures { λ r. ⌜ BlankTo r (now (columns .entry)) ⌝ }
+{
+    if columns.len() < 8 {
+        return 0;
+    }
+    let first = (columns[0] == SPACE)
+        & (columns[1] == SPACE)
+        & (columns[2] == SPACE)
+        & (columns[3] == SPACE);
+    let second = (columns[4] == SPACE)
+        & (columns[5] == SPACE)
+        & (columns[6] == SPACE)
+        & (columns[7] == SPACE);
+    if first & second {
+        return 8;
+    }
+    0
+}
+
 // The number that the columns hold, all of them.
 pub fn read_number(greatest: u64, columns: &[u8]) -> Number
     requires { ⌜ greatest < 2 ^ 63 ⌝ }
     ensures { λ r. ⌜ r ≡ numberOf greatest (now (columns .entry)) ⌝ }
 {
-    let mut i = 0;
+    let mut i = blank_start(columns);
     while i < columns.len() {
         if columns[i] != SPACE {
             return after_spaces(greatest, columns, i);

@@ -1,11 +1,12 @@
 -- The loop's invariant: the columns from i on read as all of them do.
 use Prim.Native.Nat.{_≤_, _-_}
-use mathlib.Core.Path.{_≡_, refl, sym, _∙_}
+use mathlib.Core.Path.{_≡_, sym, _∙_}
 use native.Mathlib.Omega.{arith}
 use lib.ListN.{length, drop}
 use borrow.Author.Needs.{needs}
 use Rattle.number.specs.Number.{Spaces}
 use Rattle.number.specs.Reading.{Prefix, scanFrom}
+use Rattle.number.proofs.Leading.{blank-skipped}
 use Rattle.number.proofs.Scan.{first-space, scanned, no-number}
 use Rattle.number.proofs.read_number.Statement.{statement}
 use Rattle.number.proofs.read_number.Tie as tie
@@ -20,17 +21,18 @@ pub read-number-spec : {M : Type 1} → statement M
 read-number-spec = tie.close (tie.spec
     Inv-loop
     μ-loop
-    (λ c. (search needs, refl))
+    (λ c κs. search needs)
+    (λ c. let s = c .before .before in (c .blank-start .ensures .0, blank-skipped (s .args .greatest) (s .args .columns .now) (c .blank-start .result) (c .blank-start .ensures)))
     (λ c. omega arith)
     (λ c κs. (search needs, omega arith, c .if1 .taken))
     (λ c. let turn = c .before .before .before .before in
-    let a = turn .before .before .args in
+    let a = turn .before .before .before .args in
     scanned (a .greatest) (a .columns .now) (turn .loop .i) (turn .loop .inv .1) (c .after-spaces .ensures))
     (λ c. omega arith)
     (λ c. omega arith)
     (λ c. let turn = c .before .before .before in
-    let a = turn .before .before .args in
+    let a = turn .before .before .before .args in
     (omega arith, sym (first-space (a .greatest) (a .columns .now) (turn .loop .i) (c .before .before .loop-test .taken) (c .if1 .left)) ∙ turn .loop .inv .1))
     (λ c. let turn = c .before in
-    let a = turn .before .before .args in
+    let a = turn .before .before .before .args in
     no-number (a .greatest) (a .columns .now) (turn .loop .i) (turn .loop .inv .1) (c .loop-test .left)))

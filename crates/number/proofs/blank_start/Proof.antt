@@ -1,0 +1,20 @@
+-- Eight tests that all pass.
+use borrow.Author.Needs.{needs}
+use native.Mathlib.Omega.{arith}
+use Rattle.number.proofs.Leading.{eight-blank}
+use Rattle.number.proofs.blank_start.Statement.{statement}
+use Rattle.number.proofs.blank_start.Tie as tie
+
+pub blank-start-spec : {M : Type 1} → statement M
+blank-start-spec = tie.close (tie.spec
+    (λ c. search needs)
+    (λ c. search needs)
+    (λ c. search needs)
+    (λ c. search needs)
+    (λ c. search needs)
+    (λ c. search needs)
+    (λ c. search needs)
+    (λ c. search needs)
+    (λ c. search needs)
+    (λ c. eight-blank (c .before .before .before .before .before .before .before .before .before .before .args .columns .now) (omega arith) (c .if2 .taken))
+    (λ c. search needs))
