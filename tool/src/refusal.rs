@@ -102,12 +102,20 @@ fn not_a_row(source: &Source, place: usize) -> String {
     format!("`{}` isn't in the row form", columns_of(row))
 }
 
-/// What stands in a row's columns, without their spaces.
+/// What stands in a row's columns, without their spaces, on one line.
 pub fn columns_of(row: &[u8]) -> String {
+    let shown = |c: char| match c.is_control() {
+        true => c.escape_debug().to_string(),
+        false => c.to_string(),
+    };
     let columns = [0..4, 4..15, 15..26, 26..37];
     let words = columns.map(|columns| {
         let bytes = row.get(columns).unwrap_or(&[]);
-        String::from_utf8_lossy(bytes).trim().to_string()
+        let word = String::from_utf8_lossy(bytes);
+        word.trim_matches(' ')
+            .chars()
+            .map(shown)
+            .collect::<String>()
     });
     words.join(" ")
 }

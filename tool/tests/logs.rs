@@ -180,6 +180,7 @@ fn assert_told(source: &Source, bytes: &[u8], met: &mut BTreeMap<String, usize>)
         "{said}"
     );
     assert!(!said.contains("the library refuses"), "{said}");
+    assert_eq!(said.chars().filter(|c| c.is_control()).count(), 2, "{said}");
     match found.cause {
         Cause::Step { event, .. } => {
             let row = log.row(refusal.row).expect("a row 90");
