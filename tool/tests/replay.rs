@@ -2,7 +2,9 @@
 
 mod common;
 
-use common::{edited, file, read, run, text_of, Ran};
+use common::{edited, file, read, run, text_of};
+use compare::checks::accept;
+use compare::runs::simulate::simulate;
 use sifthorma::library::replay;
 use sifthorma::log::shape::Shapes;
 use sifthorma::log::Log;
@@ -88,26 +90,26 @@ fn row(tag: i64, a: i64, b: i64, c: i64) -> String {
     format!("{tag:>4}{a:>11}{b:>11}{c:>11}\n")
 }
 
+/// Runs of the models, found by the independent program, as rows and as texts.
 #[test]
-fn models_are_replayed() {
-    for (log, model, steps) in [
-        ("free_list", "free_list", 5),
-        ("double_release", "double_release", 5),
-    ] {
-        let ran = run(&[
-            "replay",
-            &format!("models/{model}.eb"),
-            &format!("models/{log}.log"),
-        ]);
-        let output = format!("models/{log}.log: accepted: {steps} steps\n");
-        let message = String::new();
-        let status = Some(0);
-        let expected = Ran {
-            output,
-            message,
-            status,
-        };
-        assert_eq!(ran, expected);
+fn runs_are_accepted() {
+    for name in ["counter", "free_list", "placing_head"] {
+        let model = format!("models/{name}.eb");
+        let table = accept(run(&["table", &model]).output.as_bytes()).expect("accepted");
+        for (steps, seed) in [(0, 1), (1, 2), (40, 3)] {
+            let log = simulate(&table, steps, seed).expect("a run");
+            let log = String::from_utf8(log).expect("rows");
+            let rows = file(&format!("{name}_{steps}.rows"), &log);
+            let rows = rows.to_str().expect("UTF-8");
+            let text = run(&["log", &model, rows]).output;
+            let text = file(&format!("{name}_{steps}.log"), &text);
+            for log in [rows, text.to_str().expect("UTF-8")] {
+                let ran = run(&["replay", &model, log]);
+                let s = if steps == 1 { "" } else { "s" };
+                let accepted = format!("{log}: accepted: {steps} step{s}\n");
+                assert_eq!((ran.output, ran.status), (accepted, Some(0)));
+            }
+        }
     }
 }
 
