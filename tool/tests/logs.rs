@@ -9,7 +9,7 @@ use compare::replay::machine::Machine;
 use compare::replay::{Cause as Compared, Role, Verdict as ComparedVerdict};
 use compare::runs::batch::{batch, batch_of, Batch};
 use compare::runs::family::whole_family;
-use sifthorma::library::{check, replay};
+use sifthorma::library::{check, replay, Refusal};
 use sifthorma::log::shape::Shapes;
 use sifthorma::log::write::write;
 use sifthorma::log::Log;
@@ -247,4 +247,69 @@ fn every_operator_has_its_reason() {
         }
     });
     assert!(met.len() >= 8, "{met:?}");
+}
+
+/// What is put into texts: words and signs, or values and rows.
+const WORDS: &str = "INITIALISATION take1 release1: : = , .. TRUE FALSE free taken1 n blocks 0 1 2 -1 − -2147483648 2147483648 \
+    99999999999999999999 // /* */ 90 91 90 4 0 0 91 2 3 0 91 0 0 0 -1 0 0 0 ; é ℤ ' \u{FEFF}";
+const VALUES: &str = " taken1 = 2, taken2 = TRUE, taken3 = -1, blocks = 4, free = 2147483648, head = −1, link1 = 0, n = 1,\
+    91 2 3 0, 91 0 0 0, 90 5 0 0, 90 0 0 0, 91 8 1 1, 0 0 0 0, .., take3:, sweep1:, INITIALISATION:,";
+
+/// A text with a few places changed: words, values or lines left out, doubled, put in or cut.
+fn damaged(text: &str, random: &mut Random) -> String {
+    let (between, put_in): (&[char], &str) =
+        random.pick(&[(&[' '], WORDS), (&[','], VALUES), (&['\n'], text)]);
+    let mut pieces: Vec<&str> = text.split_inclusive(between).collect();
+    let others: Vec<&str> = put_in.split_inclusive(between).collect();
+    for _ in 0..random.between(1, 3) {
+        let place = random.below(pieces.len());
+        match random.below(5) {
+            0 if pieces.len() > 1 => drop(pieces.remove(place)),
+            1 => pieces.insert(place, pieces[place]),
+            2 => pieces[place] = random.pick(&others),
+            3 if random.one_in(4) => pieces.truncate(place + 1),
+            _ => pieces.insert(place, random.pick(&others)),
+        }
+    }
+    pieces.concat()
+}
+
+/// A damaged text is a mistake with its place, or rows that the library judges, with a reason on a refusal.
+#[test]
+fn damaged_texts_are_told() {
+    let mut random = Random::new(11);
+    let source = Source::of("free_list.eb", &model("free_list.eb")).expect("a model");
+    let shapes = Shapes::of(&source.table, &source.names);
+    let text = String::from_utf8(model("free_list.log")).expect("UTF-8");
+    let (_, text) = text.split_once("\n\n").expect("steps behind a comment");
+    let (mut mistakes, mut met) = (0, BTreeMap::new());
+    for _ in 0..10_000 {
+        let text = damaged(text, &mut random);
+        match Log::of("l.txt", text.into_bytes(), &shapes) {
+            Err(mistake) => {
+                assert!(mistake.starts_with("l.txt:"), "{mistake}");
+                assert!(!mistake.contains(['\n', '\u{FEFF}']), "{mistake}");
+                mistakes += 1;
+            }
+            Ok(log) => assert_told(&source, &log.bytes, &mut met),
+        }
+    }
+    assert!(mistakes > 3000, "{mistakes}");
+    assert!(met.len() >= 8, "{met:?}");
+}
+
+/// Where the tool finds no reason for what the library says, it says number and row, and nothing else.
+#[test]
+fn without_a_reason_none_is_given() {
+    let source = Source::of("free_list.eb", &model("free_list.eb")).expect("a model");
+    let shapes = Shapes::of(&source.table, &source.names);
+    let log = Log::of("l.log", model("free_list.log"), &shapes).expect("a log");
+    assert_eq!(replay(&source.bytes, &log.bytes), Ok(5));
+    for number in 16..=18 {
+        for row in 0..=74 {
+            let said = report(&source, &shapes, &log, Refusal { number, row });
+            let plain = format!("), row {row}: the library refuses the log here\n");
+            assert!(said.contains(&plain), "{said}");
+        }
+    }
 }

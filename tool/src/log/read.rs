@@ -6,6 +6,7 @@ use super::{STEP, VALUE};
 use crate::notation::token::quoted;
 use crate::notation::Mistake;
 use crate::rows::{push_row, Row, ROW_BYTES};
+use std::collections::BTreeMap;
 
 type Read<T> = Result<T, Mistake>;
 
@@ -163,19 +164,17 @@ impl Reader<'_> {
 
     /// All that a step logs, in order: what is named, and the values logged last of the variables that aren't.
     fn completed(&self, shape: &Shape, entries: Vec<Entry>, at: usize) -> Read<Vec<Entry>> {
-        let mut named = vec![None; self.last.len()];
+        let mut named: BTreeMap<i64, i64> = BTreeMap::new();
         for entry in entries {
-            let place = entry.row.a as usize - 1;
-            if !entry.named || named[place].is_some() {
+            let once = entry.named && named.insert(entry.row.a, entry.row.b).is_none();
+            if !once {
                 let message = "`..` completes a step of named values, each named once";
                 return Err(Mistake::new(entry.at, message));
             }
-            named[place] = Some(entry.row.b);
         }
         let complete = |logged: &Logged| {
-            let place = logged.number as usize - 1;
-            let kept = self.last[place].filter(|_| logged.variable);
-            let Some(value) = named[place].or(kept) else {
+            let kept = self.last[logged.number as usize - 1].filter(|_| logged.variable);
+            let Some(value) = named.get(&logged.number).copied().or(kept) else {
                 let name = quoted(&logged.name);
                 let message = format!("{name} has no value that it could keep; it must be named");
                 return Err(Mistake::new(at, &message));

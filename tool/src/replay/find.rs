@@ -110,7 +110,7 @@ impl Search<'_> {
         self.shapes.of_event(self.log.row(row)?.a)
     }
 
-    /// How many steps begin before this row: the number of the step that it belongs to, if it begins one.
+    /// How many steps begin before this row; where it begins one, that one's number.
     fn steps_before(&self, row: usize) -> usize {
         let rows = self.log.bytes.chunks(ROW_BYTES).take(row.saturating_sub(1));
         rows.filter(|row| row.starts_with(b"  90")).count()
@@ -161,24 +161,28 @@ impl Search<'_> {
     /// What is wrong with a row by itself.
     fn wrong_row(&self, row: usize) -> Option<Found> {
         let (step, expected) = self.expected(row)?;
-        let bytes = self.log.row_bytes(row);
-        let wrong = match self.log.row(row) {
-            _ if bytes.len() < ROW_BYTES => Wrong::Torn(bytes.len()),
-            None => Wrong::Form,
-            Some(found) => match expected {
-                Expected::First => self.wrong_start(found, true)?,
-                Expected::Next { .. } => self.wrong_start(found, false)?,
-                Expected::Value { event, identifier } => {
-                    self.wrong_value(found, event, identifier)?
-                }
-            },
-        };
+        let wrong = self.wrong(row, expected)?;
         let cause = Cause::Row {
             row,
             expected,
             wrong,
         };
         Some(Found { step, cause })
+    }
+
+    /// How a row differs from the one that is expected, if it does.
+    fn wrong(&self, row: usize, expected: Expected) -> Option<Wrong> {
+        let found = match (self.log.row_bytes(row).len(), self.log.row(row)) {
+            (0, _) => return None,
+            (length @ 1..ROW_BYTES, _) => return Some(Wrong::Torn(length)),
+            (_, None) => return Some(Wrong::Form),
+            (_, Some(found)) => found,
+        };
+        match expected {
+            Expected::First => self.wrong_start(found, true),
+            Expected::Next { .. } => self.wrong_start(found, false),
+            Expected::Value { event, identifier } => self.wrong_value(found, event, identifier),
+        }
     }
 
     fn wrong_start(&self, found: Row, first: bool) -> Option<Wrong> {
@@ -206,6 +210,11 @@ impl Search<'_> {
 
     /// The first fault of the step that begins in this row.
     fn step(&self, row: usize) -> Option<Found> {
+        let (step, expected) = self.expected(row)?;
+        let begins = !matches!(expected, Expected::Value { .. });
+        if !begins || self.wrong(row, expected).is_some() {
+            return None;
+        }
         let event = self.shape(row)?.event;
         let mut state = State::new(self.shapes.identifiers);
         if let Some(before) = self.start_before(row) {
@@ -215,7 +224,6 @@ impl Search<'_> {
         }
         self.load(row, &mut state, true)?;
         let verdict = judge(self.table, self.shapes, event, &state)?;
-        let step = self.steps_before(row);
         let cause = Cause::Step {
             event,
             state,
