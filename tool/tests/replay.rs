@@ -297,6 +297,17 @@ fn rows_and_text() {
     assert_eq!((no_text.message, no_text.status), (message, Some(2)));
 }
 
+/// A parameter belongs to one step: the next has none to keep.
+#[test]
+fn a_parameter_is_not_kept() {
+    let source = read(TERMS).expect("a model");
+    let shapes = Shapes::of(&source.table, &source.names);
+    let text = format!("{START}part: d = 1, ..\npart: ..\n");
+    let log = Log::of("l.txt", text.into_bytes(), &shapes);
+    let mistake = "l.txt:3:7: `d` has no value that it could keep; it must be named";
+    assert_eq!(log.err().as_deref(), Some(mistake));
+}
+
 /// Mistakes of a text: the line, the column and what is wrong.
 #[test]
 fn mistakes() {
