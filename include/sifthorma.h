@@ -1,6 +1,6 @@
-/* Sifthorma: the sequents of an Event-B machine and its refinement.
+/* Sifthorma: the sequents of an Event-B machine and its refinement, and replays of its recorded runs.
  *
- * A table is rows of 38 bytes: a tag in 4 columns, three numbers in 11 columns each, byte 10 (docs/GUIDE.md).
+ * A table is rows of 38 bytes: a tag in 4 columns, three numbers in 11 columns each, byte 10 (docs/GUIDE.md). A log is such rows too.
  * Link with libsifthorma.a, which `rt staticlib sifthorma` writes to target/staticlib/. It is for x86-64.
  *
  * Replies. Every function returns 0, or the number of a refusal, and sets *value in either case:
@@ -22,24 +22,30 @@
  *   13       0                           sequent: k isn't from 1 to the count of sequents
  *   14       0                           entry: j isn't from 1 to the number of the sequent's entries
  *   15       0                           room: the buffer is shorter than the rows
+ *   16       row 90 of the step          outside: a term that is read leaves signed 64 bits
+ *   17       row 90 of the step          undefined: a term that is read divides by 0
+ *   18       row, or 0                   log: the row is bad, torn or not the one that is expected; or it is the row 90 of a step that isn't allowed; 0 where the log is empty or ends inside a step
  *
- * Rows are counted from 1. Checks run in the order of their numbers, each over the whole table, and the first row that
- * offends is named. Every input gets a reply; none is too damaged.
+ * Rows are counted from 1, those of 1 to 11 in the table, those of 16 to 18 in the log. Checks of the table run in the order of their
+ * numbers, each over the whole table, and the first row that offends is named; the log is read only where the table is accepted, and
+ * its first fault is named. Every input gets a reply; none is too damaged.
  *
  * Buffers. On a refusal no byte of `out` changes. On 0 the rows stand at the start of `out`, and every byte past them keeps
  * its value.
  *
  * Pointers. No pointer may be null, also where its length is 0: any other pointer then does (such as the address of a
- * variable), and nothing is read or written through it. `table` points to table_length readable bytes, `out` to out_length
- * writable ones, `value` to an aligned uint64_t. The three don't overlap. No length is above PTRDIFF_MAX.
+ * variable), and nothing is read or written through it. `table` points to table_length readable bytes, `run` to run_length readable
+ * ones, `out` to out_length writable ones, `value` to an aligned uint64_t. Those of one call don't overlap. No length is above
+ * PTRDIFF_MAX; a log may be as long as that.
  *
  * Lifetimes. Nothing is kept after the call: no pointer, no table, no state. Nothing is allocated. Calls from several threads
  * don't meet, as long as their buffers don't.
  *
  * Stack. A thread that calls is created with SIFTHORMA_STACK bytes of stack or more (pthread_attr_setstacksize); what its own
  * code and thread-local variables use comes on top. With less a call can run off the stack, which ends the program. Arrays have
- * fixed lengths, and recursion goes by rows or by nodes, whose numbers are limited, so no input needs more than the tables at
- * the limits. What these need was measured and a third added; it isn't proved (docs/MEASUREMENTS.md).
+ * fixed lengths, and recursion goes by rows of the table or by nodes, whose numbers are limited, so no input needs more than the
+ * tables at the limits, and a long log no more than a short one. What these need was measured and a third added; it isn't proved
+ * (docs/MEASUREMENTS.md).
  */
 #ifndef SIFTHORMA_H
 #define SIFTHORMA_H
@@ -73,7 +79,10 @@ enum {
     SIFTHORMA_MISSING = 12,
     SIFTHORMA_SEQUENT = 13,
     SIFTHORMA_ENTRY = 14,
-    SIFTHORMA_ROOM = 15
+    SIFTHORMA_ROOM = 15,
+    SIFTHORMA_OUTSIDE = 16,
+    SIFTHORMA_UNDEFINED = 17,
+    SIFTHORMA_LOG = 18
 };
 
 /* Checks the table. 0: it is accepted, and *value is the count of its sequents. Refusals 1 to 12. */
@@ -88,6 +97,14 @@ uint64_t sifthorma_write_sequent(const uint8_t *table, size_t table_length, uint
 /* Spells entry j of sequent k, both counted from 1: the hypotheses in the order of the rows 81, then the goal. Writes rows 83
  * (operator, identifier or literal or 0, 0) in prefix order. 0: *value is the number of rows written. Refusals 1 to 15. */
 uint64_t sifthorma_spell_entry(const uint8_t *table, size_t table_length, uint64_t k, uint64_t j, uint8_t *out, size_t out_length, uint64_t *value);
+
+/* Replays a recorded run: whether the log is a run of the table's refined machine, with no term on the way that leaves signed 64 bits.
+ * The log is a row 90 (event, 0, 0) for each step, the concrete initialisation first, each with rows 91 (identifier, value, 0; booleans 0
+ * or 1) behind it in the order of the identifiers: constants and all concrete and shared variables after the initialisation, else the
+ * event's parameters and those variables' after values. It is read once, step by step: the rows of a step, axioms at the initialisation,
+ * guards, then each variable, assigned or not, up to the first fault. Memory doesn't grow with the log.
+ * 0: it is a run, and *value is the number of its steps after the initialisation. Refusals 1 to 12, 16, 17 and 18. */
+uint64_t sifthorma_replay(const uint8_t *table, size_t table_length, const uint8_t *run, size_t run_length, uint64_t *value);
 
 #ifdef __cplusplus
 }

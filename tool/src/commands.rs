@@ -2,10 +2,13 @@
 
 use crate::discharge::{run, Plan};
 use crate::library::{self, Refusal};
+use crate::log::shape::Shapes;
+use crate::log::{self, Log};
 use crate::notation::write::write;
 use crate::provers::{Prover, HOW_TO_GET};
 use crate::refusal;
 use crate::refute::{search, shown, Found};
+use crate::replay::words;
 use crate::report::{is_discharged, report};
 use crate::rows::{read_rows, write_row, Row};
 use crate::sequents::{Answers, Sequent, Spelled, KINDS, RODIN_KINDS};
@@ -28,8 +31,12 @@ use: sifthorma COMMAND FILE ..
   discharge FILE [--prover z3|cvc5|COMMAND].. [--timeout SECONDS] [--jobs N]
                              runs provers on every sequent
   refute FILE [LOW HIGH]     looks for counterexamples with integers from LOW to HIGH (-2 to 4)
-FILE is a text in the notation (.eb), a text of rows (.txt) or a table; - is standard input. docs/GUIDE.md has the notation.
-Exit status: 0; 1 if the model is refused or a sequent isn't discharged; 2 if something can't be read, written or run.
+  replay FILE LOG            whether a recorded run is a run of the refinement, and how many steps it has; or which step isn't, and why
+  log FILE LOG               the log as a text: a line for each step, with what has changed
+  rows FILE LOG              the log as rows of 38 bytes, judged or not
+FILE is a text in the notation (.eb), a text of rows (.txt) or a table; - is standard input. LOG is a text
+or rows. docs/GUIDE.md has the notation, and the form of logs.
+Exit status: 0; 1 if the model or the log is refused or a sequent isn't discharged; 2 if something can't be read, written or run.
 ";
 
 /// How a command ends that doesn't simply give its output.
@@ -59,6 +66,12 @@ pub fn answer(words: &[&str]) -> Done<Vec<u8>> {
         ["discharge", file, options @ ..] => discharge(&read(file)?, options),
         ["refute", file] => refute(&read(file)?, -2..=4),
         ["refute", file, low, high] => refute(&read(file)?, range(low, high)?),
+        ["replay" | "log" | "rows", "-", "-"] => Err(cannot(
+            "standard input is the model or the log, not both".to_string(),
+        )),
+        ["replay", file, log] => replay(&read(file)?, log),
+        ["log", file, log] => log_text(&read(file)?, log),
+        ["rows", file, log] => Ok(recorded(&read(file)?, log)?.1.bytes),
         [] => Err(cannot(USAGE.to_string())),
         [first, ..] => Err(cannot(format!("{}\n{USAGE}", unknown(first)))),
     }
@@ -353,4 +366,34 @@ fn refute(source: &Source, integers: RangeInclusive<i128>) -> Done<Vec<u8>> {
         0 => Ok(text.into()),
         _ => Err(not_all(text)),
     }
+}
+
+/// A log for an accepted model.
+fn recorded(source: &Source, log: &str) -> Done<(Shapes, Log)> {
+    count(source)?;
+    let shapes = Shapes::of(&source.table, &source.names);
+    let log = Log::read(log, &shapes).map_err(cannot)?;
+    Ok((shapes, log))
+}
+
+/// The library's verdict on a log.
+fn replay(source: &Source, log: &str) -> Done<Vec<u8>> {
+    let (shapes, log) = recorded(source, log)?;
+    let file = &log.file;
+    match library::replay(&source.bytes, &log.bytes) {
+        Ok(1) => Ok(format!("{file}: accepted: 1 step\n").into()),
+        Ok(steps) => Ok(format!("{file}: accepted: {steps} steps\n").into()),
+        Err(refusal) => Err(not_all(words::report(source, &shapes, &log, refusal))),
+    }
+}
+
+fn log_text(source: &Source, log: &str) -> Done<Vec<u8>> {
+    let (shapes, log) = recorded(source, log)?;
+    let text = log::write::write(&log.bytes, &shapes);
+    let text = text.map_err(|row| {
+        let place = log.place(row);
+        let message = format!("{place}: row {row} isn't in the row form, so the log has no text");
+        cannot(message)
+    })?;
+    Ok(text.into())
 }

@@ -12,6 +12,17 @@ pub enum Value {
     Truth(bool),
 }
 
+impl Value {
+    /// A value as the notation has it.
+    pub fn shown(&self) -> String {
+        match self {
+            Value::Integer(integer) if *integer < 0 => format!("−{}", integer.unsigned_abs()),
+            Value::Integer(integer) => integer.to_string(),
+            Value::Truth(truth) => truth.to_string().to_uppercase(),
+        }
+    }
+}
+
 /// Why a formula has no value here.
 #[derive(Clone, Copy, Debug, PartialEq, Eq)]
 pub enum NoValue {

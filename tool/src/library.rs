@@ -1,4 +1,4 @@
-//! The proved library behind its C header: check, write sequent, spell entry.
+//! The proved library behind its C header: check, write sequent, spell entry, replay.
 
 use crate::rows::{read_rows, Row, ROW_BYTES};
 
@@ -21,6 +21,13 @@ extern "C" {
         out_length: usize,
         value: *mut u64,
     ) -> u64;
+    fn sifthorma_replay(
+        table: *const u8,
+        table_length: usize,
+        run: *const u8,
+        run_length: usize,
+        value: *mut u64,
+    ) -> u64;
 }
 
 /// A refusal: its number, and the row that is named or 0.
@@ -40,6 +47,16 @@ const ROOM_ROWS: usize = 256;
 pub fn check(table: &[u8]) -> Result<u64, Refusal> {
     let mut value = 0;
     let number = unsafe { sifthorma_check(table.as_ptr(), table.len(), &mut value) };
+    replied(number, value)
+}
+
+/// The number of steps after the initialisation, if the log is a run. The row of refusals 16 to 18 is the log's.
+pub fn replay(table: &[u8], log: &[u8]) -> Result<u64, Refusal> {
+    let mut value = 0;
+    let number = unsafe {
+        let (start, length) = (log.as_ptr(), log.len());
+        sifthorma_replay(table.as_ptr(), table.len(), start, length, &mut value)
+    };
     replied(number, value)
 }
 

@@ -8,8 +8,8 @@ use crate::rows::ROW_BYTES;
 use crate::source::Source;
 use crate::table::{kind, tag};
 
-/// The words of refusals 1 to 15.
-const WORDS: [&str; 15] = [
+/// The words of refusals 1 to 18; from 16 on they are of logs.
+const WORDS: [&str; 18] = [
     "frame",
     "column",
     "tag",
@@ -25,6 +25,9 @@ const WORDS: [&str; 15] = [
     "sequent",
     "entry",
     "room",
+    "outside",
+    "undefined",
+    "log",
 ];
 
 /// The word of a refusal.
@@ -93,15 +96,28 @@ fn without_row(source: &Source, number: u64) -> String {
     }
 }
 
-/// The row as the table has it, without the spaces of its columns.
+/// The row as the table has it.
 fn not_a_row(source: &Source, place: usize) -> String {
     let row = source.bytes.chunks(ROW_BYTES).nth(place).unwrap_or(&[]);
+    format!("`{}` isn't in the row form", columns_of(row))
+}
+
+/// What stands in a row's columns, without their spaces, on one line.
+pub fn columns_of(row: &[u8]) -> String {
+    let shown = |c: char| match c.is_control() {
+        true => c.escape_debug().to_string(),
+        false => c.to_string(),
+    };
     let columns = [0..4, 4..15, 15..26, 26..37];
     let words = columns.map(|columns| {
         let bytes = row.get(columns).unwrap_or(&[]);
-        String::from_utf8_lossy(bytes).trim().to_string()
+        let word = String::from_utf8_lossy(bytes);
+        word.trim_matches(' ')
+            .chars()
+            .map(shown)
+            .collect::<String>()
     });
-    format!("`{}` isn't in the row form", words.join(" "))
+    words.join(" ")
 }
 
 /// A row as the model's names have it.
@@ -146,7 +162,7 @@ pub fn described_mention(source: &Source, mention: Mention) -> String {
     }
 }
 
-fn kind_word(identifier_kind: i64) -> &'static str {
+pub fn kind_word(identifier_kind: i64) -> &'static str {
     match identifier_kind {
         kind::CONSTANT => "constant",
         kind::ABSTRACT_VARIABLE => "abstract variable",

@@ -95,12 +95,7 @@ pub fn shown(values: &Values, table: &Table, names: &Names) -> String {
 fn shown_value((mention, value): (&Mention, &Value), table: &Table, names: &Names) -> String {
     let name = names.identifier(mention.identifier, table);
     let prime = if mention.after { "'" } else { "" };
-    let value = match value {
-        Value::Integer(integer) if *integer < 0 => format!("−{}", integer.unsigned_abs()),
-        Value::Integer(integer) => integer.to_string(),
-        Value::Truth(truth) => truth.to_string().to_uppercase(),
-    };
-    format!("{name}{prime} = {value}")
+    format!("{name}{prime} = {}", value.shown())
 }
 
 impl Search<'_> {

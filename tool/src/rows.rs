@@ -1,5 +1,7 @@
 //! Rows of 38 bytes: a tag in 4 columns, three numbers in 11 columns each, then byte 10; and texts of four numbers a line.
 
+use std::io::Write;
+
 pub const ROW_BYTES: usize = 38;
 
 /// The widths of a row's columns.
@@ -20,7 +22,11 @@ pub fn read_rows(bytes: &[u8]) -> Option<Vec<Row>> {
     whole.then(|| bytes.chunks(ROW_BYTES).map(read_row).collect())?
 }
 
-fn read_row(bytes: &[u8]) -> Option<Row> {
+/// The row in these bytes, if they are in the row form.
+pub fn read_row(bytes: &[u8]) -> Option<Row> {
+    if bytes.len() != ROW_BYTES {
+        return None;
+    }
     let mut start = 0;
     let mut column = |width: usize| {
         let columns = std::str::from_utf8(&bytes[start..start + width]).ok()?;
@@ -42,6 +48,16 @@ fn read_row(bytes: &[u8]) -> Option<Row> {
 /// The bytes of a row.
 pub fn write_row(row: Row) -> Vec<u8> {
     row_of_words([row.tag, row.a, row.b, row.c].map(|number| number.to_string().into_bytes()))
+}
+
+/// Writes a row behind these bytes.
+pub fn push_row(bytes: &mut Vec<u8>, row: Row) {
+    let Row { tag, a, b, c } = row;
+    let fits = |number: i64| i32::try_from(number).is_ok();
+    match (-999..=9999).contains(&tag) && [a, b, c].into_iter().all(fits) {
+        true => writeln!(bytes, "{tag:>4}{a:>11}{b:>11}{c:>11}").expect("room"),
+        false => bytes.extend(write_row(row)),
+    }
 }
 
 /// A row of words as they stand; one that is wider than its column shows as `*`, so that the row keeps its 38 bytes.

@@ -42,16 +42,30 @@ impl Form {
     }
 }
 
+/// The bytes of a file, or of standard input for `-`.
+pub fn bytes_of(file: &str) -> Result<Vec<u8>, String> {
+    let mut bytes = Vec::new();
+    let read = match file {
+        "-" => std::io::stdin().read_to_end(&mut bytes).map(|_| ()),
+        _ => std::fs::read(file).map(|read| bytes = read),
+    };
+    read.map_err(|error| format!("{file}: cannot read it: {error}"))?;
+    Ok(bytes)
+}
+
+/// The text in these bytes; an error says where they are none.
+pub fn utf8<'a>(file: &str, bytes: &'a [u8]) -> Result<&'a str, String> {
+    std::str::from_utf8(bytes).map_err(|error| {
+        let before = String::from_utf8_lossy(&bytes[..error.valid_up_to()]);
+        let (line, column) = place(&before, before.len());
+        format!("{file}:{line}:{column}: the text isn't UTF-8 here")
+    })
+}
+
 impl Source {
     /// Reads a file, or standard input for `-`. An error says which file, where, and what was expected.
     pub fn read(file: &str) -> Result<Source, String> {
-        let mut bytes = Vec::new();
-        let read = match file {
-            "-" => std::io::stdin().read_to_end(&mut bytes).map(|_| ()),
-            _ => std::fs::read(file).map(|read| bytes = read),
-        };
-        read.map_err(|error| format!("{file}: cannot read it: {error}"))?;
-        Source::of(file, &bytes)
+        Source::of(file, &bytes_of(file)?)
     }
 
     /// The model in these bytes.
@@ -84,14 +98,7 @@ impl Source {
     }
 
     fn of_notation(file: String, bytes: &[u8]) -> Result<Source, String> {
-        let text = match std::str::from_utf8(bytes) {
-            Ok(text) => text,
-            Err(error) => {
-                let before = String::from_utf8_lossy(&bytes[..error.valid_up_to()]);
-                let (line, column) = place(&before, before.len());
-                return Err(format!("{file}:{line}:{column}: the text isn't UTF-8 here"));
-            }
-        };
+        let text = utf8(&file, bytes)?;
         let laid_out = parse::parse(text).and_then(|text| layout::lay_out(&text));
         let laid_out = laid_out.map_err(|mistake| {
             let (line, column) = place(text, mistake.at);

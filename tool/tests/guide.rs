@@ -1,7 +1,8 @@
 //! The examples of ../docs/GUIDE.md: what is shown after a `$` is what the program answers, and texts are those of the models.
 
-use std::fs::read_to_string;
-use std::path::Path;
+mod common;
+
+use common::{run, text_of};
 use std::process::Command;
 
 const GUIDE: &str = include_str!("../../docs/GUIDE.md");
@@ -21,16 +22,6 @@ fn blocks() -> Vec<Vec<&'static str>> {
     }
     blocks.retain(|block| !block.is_empty());
     blocks
-}
-
-/// What the program writes for these words, in the repository's root.
-fn answered(words: &[&str]) -> String {
-    let root = Path::new(env!("CARGO_MANIFEST_DIR")).join("..");
-    let run = Command::new(env!("CARGO_BIN_EXE_sifthorma"))
-        .args(words)
-        .current_dir(root)
-        .output();
-    String::from_utf8(run.expect("the program runs").stdout).expect("UTF-8")
 }
 
 fn is_installed(prover: &str) -> bool {
@@ -58,12 +49,12 @@ fn answers_are_those_shown() {
         if words[0] == "discharge" && !is_installed("z3") && !is_installed("cvc5") {
             continue;
         }
-        let answer = answered(&words);
+        let answer = run(&words).output;
         let lines: Vec<&str> = answer.lines().collect();
         assert!(is_shown(&lines, &block[1..]), "{command}:\n{answer}");
         compared += 1;
     }
-    assert!(compared >= 6, "{compared} commands");
+    assert!(compared >= 10, "{compared} commands");
 }
 
 /// A line without its comment.
@@ -82,10 +73,7 @@ fn lines_of(text: &str) -> Vec<&str> {
 /// Texts in the notation: the counter whole, parts of other models line by line.
 #[test]
 fn texts_are_those_of_the_models() {
-    let models = ["counter", "placing_head", "free_list"].map(|name| {
-        let path = format!("{}/../models/{name}.eb", env!("CARGO_MANIFEST_DIR"));
-        read_to_string(path).expect("a model")
-    });
+    let models = ["counter.eb", "placing_head.eb", "free_list.eb"].map(text_of);
     let is_text =
         |block: &&Vec<&str>| block[0].starts_with("context ") || block[0].starts_with("machine ");
     let blocks = blocks();
@@ -102,6 +90,20 @@ fn texts_are_those_of_the_models() {
             assert!(known.contains(&line), "{line}");
         }
     }
+}
+
+/// The log of the free list, whole.
+#[test]
+fn the_log_is_that_of_the_model() {
+    let blocks = blocks();
+    let is_log = |block: &&Vec<&str>| block[0].starts_with("INITIALISATION:");
+    let logs: Vec<String> = blocks
+        .iter()
+        .filter(is_log)
+        .map(|block| block.join("\n"))
+        .collect();
+    assert_eq!(logs.len(), 1);
+    assert_eq!(lines_of(&logs[0]), lines_of(&text_of("free_list.log")));
 }
 
 /// The table that shows a sequent as rows, as mathematics and in SMT-LIB.
@@ -122,13 +124,13 @@ fn one_sequent_is_shown_three_times() {
     let table: Vec<[String; 3]> = table.map(cells).collect();
     let column = |n: usize| table.iter().map(move |cells| cells[n].as_str());
     assert_eq!(column(0).collect::<Vec<_>>(), rows_of_sequent(29));
-    let shown = answered(&["show", "models/counter.eb", "29"]);
+    let shown = run(&["show", "models/counter.eb", "29"]).output;
     let entries = shown.lines().filter_map(|line| line.strip_prefix("    "));
     let entries = entries.map(|line| line.replacen("  ", ": ", 1));
     let goal = shown.lines().last().expect("a goal").trim().to_string();
     let mathematics: Vec<String> = entries.chain([goal]).collect();
     assert_eq!(column(1).skip(2).collect::<Vec<_>>(), mathematics);
-    let script = answered(&["smt", "models/counter.eb", "29"]);
+    let script = run(&["smt", "models/counter.eb", "29"]).output;
     let asserted = script.lines().filter(|line| line.starts_with("(assert"));
     let asserted: Vec<&str> = asserted
         .filter_map(|line| line.split(" ; ").next())
@@ -138,7 +140,7 @@ fn one_sequent_is_shown_three_times() {
 
 /// The rows of a sequent of the counter, with one space between their numbers.
 fn rows_of_sequent(k: usize) -> Vec<String> {
-    let printed = answered(&["print", "models/counter.eb"]);
+    let printed = run(&["print", "models/counter.eb"]).output;
     let rows = printed
         .lines()
         .map(|row| row.split_whitespace().collect::<Vec<_>>().join(" "));

@@ -68,6 +68,28 @@ fn stored_answers_are_given() {
     }
 }
 
+/// The logs with stored replays, and the models for which they are replayed.
+const REPLAYED: [(&str, &[&str]); 2] = [
+    ("double_release", &["free_list", "double_release"]),
+    ("free_list", &["free_list"]),
+];
+
+#[test]
+fn stored_replays_are_given() {
+    let stored = |end: &str| REPLAYED.map(|(name, _)| format!("{name}{end}"));
+    assert_eq!(models(".log"), stored(".log"));
+    assert_eq!(models(".replay"), stored(".replay"));
+    for (name, models) in REPLAYED {
+        let log = format!("models/{name}.log");
+        let replays = models.iter().map(|model| {
+            let model = format!("models/{model}.eb");
+            run(&["replay", &model, &log]).output
+        });
+        let stored = text_of(&format!("{name}.replay"));
+        assert_eq!(replays.collect::<String>(), stored, "{name}");
+    }
+}
+
 /// The labels of the sequents that values of this range refute; all of them are searched to the end.
 fn refuted(source: &Source, integers: RangeInclusive<i128>) -> Vec<String> {
     let label = |sequent: &Sequent| sequent.label(&source.table, &source.names);

@@ -358,6 +358,9 @@ smt FILE carry/inv9/INV → models/counter.eb: no sequent has the label `carry/i
 refute FILE 1 → `refute` takes other words than these
 refute FILE 1 x → expected a number, found `x`
 refute FILE 2 1 → no number lies between 2 and 1
+replay FILE → `replay` takes other words than these
+log FILE → `log` takes other words than these
+rows FILE → `rows` takes other words than these
 ",
     );
 }
@@ -376,6 +379,26 @@ discharge FILE --timeout 0 → expected a number from 1 to 1000000, found `0`
 discharge FILE --jobs x → expected a number, found `x`
 ",
     );
+}
+
+/// The lines of ../README.md that run the program. Provers are optional.
+#[test]
+fn what_the_readme_runs() {
+    let readme = include_str!("../../README.md");
+    let start = "    tool/target/release/sifthorma ";
+    let lines = readme.lines().filter_map(|line| line.strip_prefix(start));
+    let lines: Vec<&str> = lines
+        .filter(|line| !line.starts_with("discharge "))
+        .collect();
+    assert!(lines.len() >= 3, "{lines:?}");
+    for line in lines {
+        let ran = run(&line.split(' ').collect::<Vec<_>>());
+        assert_eq!(
+            (ran.message.as_str(), ran.status),
+            ("", Some(0)),
+            "{line}: {ran:?}"
+        );
+    }
 }
 
 /// A device that takes nothing, as a full disk.

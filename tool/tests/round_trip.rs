@@ -33,6 +33,14 @@ const WORDS: [&str; 12] = [
     "missing",
 ];
 
+/// Parts of reports that leave out what they are about.
+const SAYS_NOTHING: [&str; 4] = [
+    "it mentions ;",
+    ": , where",
+    "something isn't there",
+    "it is refused",
+];
+
 /// The text of an accepted model. Read again it is the same table, and written again the same text.
 fn round(source: &Source, what: &str) -> String {
     let text = write(&source.table, &source.names);
@@ -317,6 +325,9 @@ fn refused_tables_are_told() {
                 };
                 assert!(said.starts_with(&place), "seed {seed}: {said}");
                 assert!(said.contains(&head), "seed {seed}: {said}");
+                for empty in SAYS_NOTHING {
+                    assert!(!said.contains(empty), "seed {seed}: {said}");
+                }
                 met.insert(refusal.number);
             }
         }

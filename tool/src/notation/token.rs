@@ -95,7 +95,7 @@ pub fn tokens(text: &str) -> Result<Vec<Placed>, Mistake> {
 }
 
 /// The place after blanks, a byte order mark and comments.
-fn after_blanks(text: &str, start: usize) -> Result<usize, Mistake> {
+pub fn after_blanks(text: &str, start: usize) -> Result<usize, Mistake> {
     let mut at = start;
     loop {
         let rest = text[at..].trim_start_matches(|c: char| c.is_whitespace() || c == '\u{feff}');
@@ -114,9 +114,8 @@ fn after_blanks(text: &str, start: usize) -> Result<usize, Mistake> {
 /// The token that begins here, and its length.
 fn token(text: &str, at: usize, first: char) -> Result<(Token, usize), Mistake> {
     let rest = &text[at..];
-    // ℤ is a letter, but a sign here
-    if (first.is_alphabetic() || first == '_') && first != 'ℤ' {
-        let length = span(rest, |c| (c.is_alphanumeric() || c == '_') && c != 'ℤ');
+    let length = word_length(rest);
+    if length > 0 {
         let word = &rest[..length];
         let sign = WORDS.iter().find(|(typed, _)| *typed == word);
         let token = match sign {
@@ -144,6 +143,15 @@ fn token(text: &str, at: usize, first: char) -> Result<(Token, usize), Mistake> 
             at,
             &format!("{first:?} is no sign of the notation"),
         )),
+    }
+}
+
+/// The length of the word that a text begins with, 0 if it begins with none. ℤ is a letter, but a sign here.
+pub fn word_length(text: &str) -> usize {
+    let first = text.chars().next().unwrap_or(' ');
+    match (first.is_alphabetic() || first == '_') && first != 'ℤ' {
+        true => span(text, |c| (c.is_alphanumeric() || c == '_') && c != 'ℤ'),
+        false => 0,
     }
 }
 
