@@ -3,7 +3,7 @@
 use Prim.Native.Nat.{ℕ, zero, suc, _+_, _-_, _*_, _≤_, _<_}
 use mathlib.Core.Path.{_≡_, refl, sym, ap, ap₂, _∙_, subst, fun-ext}
 use mathlib.Core.Bool.{Bool, true, false, _&&_}
-use mathlib.Core.List.{List, [], _∷_, _++_, map, flatMap, map-id, map-append, append-assoc, append-nil}
+use mathlib.Core.List.{List, [], _∷_, _++_, map, flatMap, map-append, append-assoc, append-nil}
 use mathlib.Core.Logic.{⊎-elim}
 use native.Mathlib.Nat.{eq-or-lt-of-le, suc-mul}
 use native.Mathlib.Numerals.{add-one}
@@ -121,9 +121,6 @@ module _ {A : Type 0} where
   unfolding keep
   keep-none P [] h = refl
   keep-none P (x ∷ xs) h = rw (h x (here refl)) (keep-none P xs (λ y i. h y (there i)))
-
-  pub keep-flat : (P : A → Bool) (xs : List A) → keep P xs ≡ flatMap (λ x. pick (P x) (x ∷ []) []) xs
-  keep-flat P xs = sym (map-id (keep P xs)) ∙ flat-one (λ x. x) (keep P xs) ∙ flat-keep P (λ x. x ∷ []) xs
 
   -- a test that does not turn on the member
   pub map-when : {B : Type 0} (f : A → B) (b : Bool) (P : A → Bool) (xs : List A)

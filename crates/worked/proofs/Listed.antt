@@ -32,9 +32,6 @@ guarded4 = written 3 ∷ written 6 ∷ written 9 ∷ written 12 ∷ written 35 �
 abbrev pub guarded5 : List Entry
 guarded5 = written 3 ∷ written 6 ∷ written 9 ∷ written 12 ∷ written 52 ∷ []
 
-abbrev pub guarded6 : List Entry
-guarded6 = written 3 ∷ written 6 ∷ written 9 ∷ written 12 ∷ written 59 ∷ []
-
 abbrev pub moved1 : List Entry
 moved1 = written 3 ∷ moves 1 2 ∷ moves 1 3 ∷ []
 
