@@ -13,10 +13,18 @@ use crate::shrink::shrink;
 use std::fs::{remove_file, write, File};
 use std::path::{Path, PathBuf};
 use std::process::Command;
+use std::sync::atomic::{AtomicUsize, Ordering};
 use std::time::Duration;
 
 /// Time for making a table with a difference smaller.
 const SHRINKING: Duration = Duration::from_secs(60);
+
+/// The name of a temporary file that nothing else uses.
+fn own_file(word: &str) -> PathBuf {
+    static MADE: AtomicUsize = AtomicUsize::new(0);
+    let number = MADE.fetch_add(1, Ordering::Relaxed);
+    std::env::temp_dir().join(format!("compare-{}-{number}-{word}", std::process::id()))
+}
 
 /// A program with its words, and the file that it reads.
 pub struct Program {
@@ -27,12 +35,10 @@ pub struct Program {
 
 impl Program {
     pub fn new(path: &Path, words: &[&str]) -> Program {
-        let name = path.file_name().unwrap_or_default().to_string_lossy();
-        let input = format!("compare-{}-{name}", std::process::id());
         Program {
             path: path.to_path_buf(),
             words: words.iter().map(|word| word.to_string()).collect(),
-            input: std::env::temp_dir().join(input),
+            input: own_file("table"),
         }
     }
 

@@ -1,6 +1,6 @@
 //! Runs a program that replays a log of a table, each in a file, and compares what it prints.
 
-use super::{first_row, SHRINKING};
+use super::{first_row, own_file, SHRINKING};
 use crate::campaign::shown_table;
 use crate::replay::{replay, replayed};
 use crate::replays::{is_of_log, reply, shown_log};
@@ -8,7 +8,7 @@ use crate::runs::batch::{batch, Batch};
 use crate::shrink::shrink_pair;
 use std::fs::{remove_file, write};
 use std::path::{Path, PathBuf};
-use std::process::{id, Command};
+use std::process::Command;
 
 /// A program with its words, which the names of the two files follow.
 pub struct Replayer {
@@ -23,13 +23,11 @@ const LOGS: usize = 5;
 
 impl Replayer {
     pub fn new(path: &Path, words: &[&str]) -> Replayer {
-        let name = path.file_name().unwrap_or_default().to_string_lossy();
-        let file = |word: &str| std::env::temp_dir().join(format!("{word}-{}-{name}", id()));
         Replayer {
             path: path.to_path_buf(),
             words: words.iter().map(|word| word.to_string()).collect(),
-            table: file("compare-table"),
-            log: file("compare-log"),
+            table: own_file("table"),
+            log: own_file("log"),
         }
     }
 
