@@ -1,10 +1,10 @@
 // The services for C and Rust (include/sifthorma.h): each answers 0 or a refusal's number, and puts the count or the row into `value`.
 use log::Replay;
-use replay::replay;
 use reply::Reply;
 use rules::Verdict;
 use services::spell_entry;
 use services::write_sequent;
+use steps::replay;
 use verdict::check;
 ghost use mathlib.Core.Path.{_≡_};
 ghost use Rattle.rules.specs.Verdict.{verdict as verdictOf};

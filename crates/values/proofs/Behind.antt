@@ -1,11 +1,12 @@
 -- The numbers behind x, up to n, that pass a test: all behind 0, and one after another.
 use mathlib.Core.Path.{_≡_, ap, sym, _∙_}
-use mathlib.Core.Bool.{Bool}
+use mathlib.Core.Bool.{Bool, true, false}
 use mathlib.Core.List.{List, [], _∷_}
-use Prim.Native.Nat.{ℕ, suc, _+_, _-_, _≤_, _<_}
+use Prim.Native.Nat.{ℕ, zero, suc, _+_, _-_, _≤_, _<_}
 use native.Mathlib.Omega.{arith}
 use native.Mathlib.Numerals.{add-one}
 use native.Mathlib.Nat.{sub-zero}
+use lib.ListN.{length}
 use Rattle.lists.specs.Choice.{pick}
 use Rattle.lists.specs.Below.{numbers, keep}
 
@@ -26,3 +27,13 @@ module _ (P : ℕ → Bool) (n : ℕ) where
   pub behind-none : (x : ℕ) → n ≤ x → behind x ≡ []
   unfolding keep numbers
   behind-none x h = let m : n - x ≡ 0 = omega arith in ap (λ m. keep P (numbers m (x + 1))) m
+
+-- of m numbers at most m pass
+pub kept-within : (P : ℕ → Bool) (m i : ℕ) → length (keep P (numbers m i)) ≤ m
+unfolding keep numbers
+kept-within P zero i = omega arith
+kept-within P (suc m) i = go (P i) (kept-within P m (suc i))
+  where
+    go : (b : Bool) → length (keep P (numbers m (suc i))) ≤ m → length (pick b (i ∷ keep P (numbers m (suc i))) (keep P (numbers m (suc i)))) ≤ suc m
+    go true h = omega (arith, h)
+    go false h = omega (arith, h)

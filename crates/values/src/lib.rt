@@ -17,17 +17,18 @@ ghost use mathlib.Core.Bool.{_&&_};
 ghost use mathlib.Core.List.{[]};
 ghost use lib.Dec.{eqb};
 ghost use Rattle.table.specs.Names.{constantKind, concreteParameterKind};
-ghost use Prim.Native.Nat.{_+_};
+ghost use Prim.Native.Nat.{_+_, _*_, _≤_};
 ghost use lib.IntN.{pos};
 ghost use lib.ListN.{length, getD, set};
 ghost use Rattle.lists.specs.Below.{oneIf};
 ghost use Rattle.lists.specs.Choice.{pick};
+ghost use Rattle.row.specs.Row.{width, rowLength};
 ghost use Rattle.table.specs.Rows.{rowsOf};
 ghost use Rattle.table.specs.Counts.{countsOf};
 ghost use Rattle.log.specs.Rows.{isStateVariable, isInitial, isGiven, logged, isLogged, isValueRow};
 ghost use Rattle.log.specs.Replay.{storeBy, readValues, moved};
 ghost use Rattle.formula.specs.Values.{wholeNumber};
-ghost use Rattle.values.specs.Values.{valuesOf, linesAt, rowAt, isWanted, readOn, ReadsValue, ReadsIdentifier, Reaches};
+ghost use Rattle.values.specs.Values.{valuesOf, linesAt, rowAt, isWanted, ReadsValue, ReadsIdentifier, ReadsValues, Reaches};
 
 // Where reading goes on, or the row that is bad: 0 where the run ends.
 pub enum Reached {
@@ -139,7 +140,7 @@ fn read_value(
 ) -> Reached
     requires { ⌜ table ≡ countsOf (rowsOf (now words)) ⌝ }
     ensures { λ r. ⌜ ReadsValue (rowsOf (now (words .entry))) given x (now (run .entry)) (place .at) (valuesOf (now (present .entry)) (now (after .entry))) r (valuesOf (now (present .exit)) (now (after .exit))) ⌝ }
-    ensures { λ r. ⌜ Reaches r (rowAt (place .at) + 1) ⌝ }
+    ensures { λ r. ⌜ Reaches r (now (run .entry)) (place .at + rowLength width) ⌝ }
 {
     match next_row(place, run) {
         Read::End => Reached::Bad(0),
@@ -165,9 +166,9 @@ fn read_identifier(
     present: &mut [i64],
     after: &mut [i64],
 ) -> Reached
-    requires { ⌜ (table ≡ countsOf (rowsOf (now words))) × (initial ≡ isInitial (rowsOf (now words)) e) ⌝ }
+    requires { ⌜ (table ≡ countsOf (rowsOf (now words))) × (initial ≡ isInitial (rowsOf (now words)) e) × (place .at ≤ length (now run)) ⌝ }
     ensures { λ r. ⌜ ReadsIdentifier (rowsOf (now (words .entry))) e x (now (run .entry)) (place .at) (valuesOf (now (present .entry)) (now (after .entry))) r (valuesOf (now (present .exit)) (now (after .exit))) ⌝ }
-    ensures { λ r. ⌜ Reaches r (rowAt (place .at) + oneIf (isWanted (rowsOf (now (words .entry))) e x)) ⌝ }
+    ensures { λ r. ⌜ Reaches r (now (run .entry)) (place .at + rowLength width * oneIf (isWanted (rowsOf (now (words .entry))) e x)) ⌝ }
 {
     let kind = identifier_field(words, table, x, Table::KIND);
     let owner = identifier_field(words, table, x, Table::OWNER);
@@ -188,9 +189,9 @@ pub fn read_values(
     present: &mut [i64],
     after: &mut [i64],
 ) -> Reached
-    requires { ⌜ table ≡ countsOf (rowsOf (now words)) ⌝ }
-    ensures { λ r. ⌜ readOn (rowsOf (now (words .entry))) r e [] (now (run .entry)) (valuesOf (now (present .exit)) (now (after .exit))) ≡ readValues (rowsOf (now (words .entry))) e (logged (rowsOf (now (words .entry))) e) (rowAt (place .at)) (linesAt (now (run .entry)) (place .at)) (valuesOf (now (present .entry)) (now (after .entry))) ⌝ }
-    ensures { λ r. ⌜ Reaches r (rowAt (place .at) + length (logged (rowsOf (now (words .entry))) e)) ⌝ }
+    requires { ⌜ (table ≡ countsOf (rowsOf (now words))) × (place .at ≤ length (now run)) ⌝ }
+    ensures { λ r. ⌜ ReadsValues (rowsOf (now (words .entry))) e (now (run .entry)) (place .at) (valuesOf (now (present .entry)) (now (after .entry))) r (valuesOf (now (present .exit)) (now (after .exit))) ⌝ }
+    ensures { λ r. ⌜ Reaches r (now (run .entry)) (place .at + rowLength width * length (logged (rowsOf (now (words .entry))) e)) ⌝ }
 {
     let initial = is_initial(words, table, e);
     let mut place = place;

@@ -34,4 +34,4 @@ read-identifier-spec = tie.close (tie.spec
     let t = rowsOf (s .args .words .now) in
     let given = given-is t (s .args .e) (s .args .x) (test .is-given .ensures) (s .pre .1) (kind .identifier-field .ensures) (test .before .identifier-field2 .ensures) in
     identifier-skipped t (s .args .e) (s .args .x) (s .args .run .now) (ap₂ _||_ given (variable .is-variable-of .ensures ∙ ap (isVariableOf 3) (kind .identifier-field .ensures)))
-    (s .args .place) (valuesOf (s .args .present .now) (s .args .after .now)) (c .if1 .left)))
+    (s .args .place) (valuesOf (s .args .present .now) (s .args .after .now)) (s .pre .2) (c .if1 .left)))

@@ -1,14 +1,12 @@
 -- The loop's invariant: reading on for the identifiers behind x gives what reading for all of them gives.
-use Prim.Native.Nat.{_+_, _-_}
+use Prim.Native.Nat.{_-_}
 use mathlib.Core.Path.{_≡_, refl, _∙_}
 use native.Mathlib.Omega.{arith}
 use lib.ListN.{length}
 use borrow.Author.Needs.{needs}
 use Rattle.table.specs.Rows.{rowsOf}
 use Rattle.table.proofs.Counts.{counts-identifiers}
-use Rattle.log.specs.Rows.{logged}
-use Rattle.log.specs.Replay.{readValues}
-use Rattle.values.specs.Values.{valuesOf, linesAt, rowAt}
+use Rattle.values.specs.Values.{valuesOf}
 use Rattle.values.proofs.Reading.{Rest, rest-start, rest-next, rest-bad, rest-end}
 use Rattle.values.proofs.read_values.Statement.{statement}
 use Rattle.values.proofs.read_values.Tie as tie
@@ -16,8 +14,7 @@ use Rattle.values.proofs.read_values.Tie as tie
 abbrev Inv-loop : tie.InvT-loop
 Inv-loop words table run e present₀ after₀ initial place₀ x₀ present after place x =
     (length present ≡ length present₀) × (length after ≡ length after₀)
-    × Rest (rowsOf words) e run (readValues (rowsOf words) e (logged (rowsOf words) e) (rowAt (place₀ .at)) (linesAt run (place₀ .at)) (valuesOf present₀ after₀))
-    (rowAt (place₀ .at) + length (logged (rowsOf words) e)) x (place .at) (valuesOf present after)
+    × Rest (rowsOf words) e run (place₀ .at) (valuesOf present₀ after₀) x (place .at) (valuesOf present after)
 
 abbrev μ-loop : tie.MeasureT-loop
 μ-loop words table run e present₀ after₀ initial place₀ x₀ present after place x = table .identifiers - x
@@ -28,7 +25,7 @@ read-values-spec = tie.close (tie.spec
     μ-loop
     (λ c κs. search needs)
     (λ c. let s = c .before .before .before in
-    (refl, refl, rest-start (rowsOf (s .args .words .now)) (s .args .e) (s .args .run .now) (s .args .place .at) (valuesOf (s .args .present .now) (s .args .after .now))))
+    (refl, refl, rest-start (rowsOf (s .args .words .now)) (s .args .e) (s .args .run .now) (s .args .place .at) (valuesOf (s .args .present .now) (s .args .after .now)) (s .pre .1)))
     (λ c. omega arith)
     (λ c κs. search needs)
     (λ c. search needs)
@@ -42,7 +39,7 @@ read-values-spec = tie.close (tie.spec
     let inside = c .before .before .before .before .before .before .before .before .if1 .taken in (
       present ∙ turn .loop .inv .0,
       after ∙ turn .loop .inv .1,
-      rest-next t (s .args .e) (s .args .run .now) (turn .loop .x) (omega (arith, inside, counts-identifiers t (s .args .table) (s .pre))) (turn .loop .place .at) (valuesOf (turn .loop .present) (turn .loop .after)) (turn .loop .inv .2) _ _
+      rest-next t (s .args .e) (s .args .run .now) (turn .loop .x) (omega (arith, inside, counts-identifiers t (s .args .table) (s .pre .0))) (turn .loop .place .at) (valuesOf (turn .loop .present) (turn .loop .after)) (turn .loop .inv .2) _ _
           (read .read-identifier .ensures .0) (read .read-identifier .ensures .1) (c .before .next .given .0 .0) (c .before .next .given .1),
     ))
     (λ c. search needs)
@@ -59,7 +56,7 @@ read-values-spec = tie.close (tie.spec
     let s = turn .before .before .before .before in
     let t = rowsOf (s .args .words .now) in
     let inside = c .before .before .before .before .before .before .before .before .if1 .taken in (
-      rest-bad t (s .args .e) (s .args .run .now) (turn .loop .x) (omega (arith, inside, counts-identifiers t (s .args .table) (s .pre))) (turn .loop .place .at) (valuesOf (turn .loop .present) (turn .loop .after)) (turn .loop .inv .2) _ _
+      rest-bad t (s .args .e) (s .args .run .now) (turn .loop .x) (omega (arith, inside, counts-identifiers t (s .args .table) (s .pre .0))) (turn .loop .place .at) (valuesOf (turn .loop .present) (turn .loop .after)) (turn .loop .inv .2) _ _
           (read .read-identifier .ensures .0) (read .read-identifier .ensures .1) (c .before .row .given .0 .0) (c .before .row .given .1),
       tt,
     ))
@@ -68,5 +65,5 @@ read-values-spec = tie.close (tie.spec
     (λ c. let turn = c .before .before in
     let s = turn .before .before .before .before in
     let t = rowsOf (s .args .words .now) in
-    let past = counts-identifiers t (s .args .table) (s .pre) in
+    let past = counts-identifiers t (s .args .table) (s .pre .0) in
     rest-end t (s .args .e) (s .args .run .now) (turn .loop .x) (turn .loop .place) (valuesOf (turn .loop .present) (turn .loop .after)) (omega (arith, past, c .if1 .left)) (turn .loop .inv .2)))

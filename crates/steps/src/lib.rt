@@ -24,8 +24,9 @@ use verdict::judge_with;
 use verdict::load;
 ghost use mathlib.Core.Path.{_≡_};
 ghost use mathlib.Core.List.{[]};
-ghost use Prim.Native.Nat.{suc, _+_, _≤_};
+ghost use Prim.Native.Nat.{_+_, _^_, _≤_, _<_};
 ghost use lib.ListN.{length};
+ghost use Rattle.row.specs.Row.{width, rowLength};
 ghost use Rattle.table.specs.Rows.{rowsOf};
 ghost use Rattle.table.specs.Counts.{countsOf};
 ghost use Rattle.table.specs.Lookups.{mostWords};
@@ -36,7 +37,8 @@ ghost use Rattle.log.specs.Lines.{lines};
 ghost use Rattle.log.specs.Rows.{logged, isStepRow};
 ghost use Rattle.log.specs.Replay.{readValues, judged, replayFrom, replayLog, replayBy, noValues, replay as replayOf};
 ghost use Rattle.values.specs.Values.{valuesOf, linesAt, rowAt, Reaches};
-ghost use Rattle.replay.specs.Steps.{endedAfter, stepProgress, stepValues, TakesStep, ReplaysStep};
+ghost use Rattle.steps.specs.Steps.{endedAfter, stepProgress, stepValues, TakesStep, ReplaysStep, BeginsWithin};
+ghost use Rattle.steps.specs.Parts.{laterRow, replayRest, ReplaysPart, Stops};
 
 // What a step comes to: where the next one begins, the end of the run before it with the number of its steps, or a refusal's number and row.
 pub enum Progress {
@@ -104,8 +106,9 @@ fn take_step(
     present: &mut [i64],
     after: &mut [i64],
 ) -> Progress
-    requires { ⌜ (table ≡ countsOf (rowsOf (now words))) × Spanned (rowsOf (now words)) (now spans) ⌝ }
+    requires { ⌜ (table ≡ countsOf (rowsOf (now words))) × Spanned (rowsOf (now words)) (now spans) × (place .at ≤ length (now run)) ⌝ }
     ensures { λ r. ⌜ TakesStep (rowsOf (now (words .entry))) e row (now (run .entry)) (place .at) (valuesOf (now (present .entry)) (now (after .entry))) r (valuesOf (now (present .exit)) (now (after .exit))) ⌝ }
+    ensures { λ r. ⌜ BeginsWithin r (place .at) (length (now (run .entry))) ⌝ }
 {
     match read_values(words, table, run, e, place, present, after) {
         Reached::Bad(bad) => Progress::Refused(Replay::LOG, bad),
@@ -126,6 +129,7 @@ fn replay_step(
 ) -> Progress
     requires { ⌜ (table ≡ countsOf (rowsOf (now words))) × Spanned (rowsOf (now words)) (now spans) ⌝ }
     ensures { λ r. ⌜ ReplaysStep (rowsOf (now (words .entry))) n (now (run .entry)) (place .at) (valuesOf (now (present .entry)) (now (after .entry))) r (valuesOf (now (present .exit)) (now (after .exit))) ⌝ }
+    ensures { λ r. ⌜ BeginsWithin r (place .at + rowLength width) (length (now (run .entry))) ⌝ }
 {
     match next_row(place, run) {
         Read::End => ended(n),
@@ -141,6 +145,58 @@ fn replay_step(
     }
 }
 
+// What a part of a run comes to: so many steps taken and the place where the next one begins, of which more is needed; or the end of the run with the number of its
+// steps, or a refusal's number and row.
+pub enum Part {
+    More(u64, Place),
+    Ended(u64),
+    Refused(u64, u64),
+}
+
+// A row's number in a run, by its number in a part of it, before which so many rows were; 0 stands for the end of the run.
+fn later_row(before: u64, row: u64) -> u64
+    requires { ⌜ before + row < 2 ^ 64 ⌝ }
+    ensures { λ r. ⌜ r ≡ laterRow before row ⌝ }
+{
+    if row == 0 {
+        return 0;
+    }
+    before + row
+}
+
+// Replays the steps of a part of a run, before which n steps were allowed and so many rows read: all of them where it is the last part, else those whose rows are at hand in any case.
+pub fn replay_part(
+    words: &[u64],
+    table: Table,
+    spans: &[usize],
+    part: &[u8],
+    last: bool,
+    n: u64,
+    before: u64,
+    present: &mut [i64],
+    after: &mut [i64],
+) -> Part
+    requires { ⌜ (table ≡ countsOf (rowsOf (now words))) × Spanned (rowsOf (now words)) (now spans) × (n + length (now part) < 2 ^ 64) × (before + 1 + length (now part) < 2 ^ 64) ⌝ }
+    ensures { λ r. ⌜ ReplaysPart (rowsOf (now (words .entry))) n before (now (part .entry)) last (valuesOf (now (present .entry)) (now (after .entry))) r (valuesOf (now (present .exit)) (now (after .exit))) ⌝ }
+    ensures { λ r. ⌜ Stops r n (now (part .entry)) last ⌝ }
+{
+    let mut place = Place::start();
+    let mut n = n;
+    while last | (table.identifiers < ((part.len() - place.at) / Row::LENGTH) as u64) {
+        match replay_step(words, table, spans, part, n, place, present, after) {
+            Progress::Going(next) => {
+                place = next;
+            }
+            Progress::Ended(steps) => return Part::Ended(steps),
+            Progress::Refused(number, row) => {
+                return Part::Refused(number, later_row(before, row));
+            }
+        }
+        n += 1;
+    }
+    Part::More(n, place)
+}
+
 // Replays all steps of a run, with no values known before.
 fn replay_steps(
     words: &[u64],
@@ -151,21 +207,13 @@ fn replay_steps(
     after: &mut [i64],
 ) -> Replay
     requires { ⌜ (table ≡ countsOf (rowsOf (now words))) × Spanned (rowsOf (now words)) (now spans) ⌝ }
-    ensures { λ r. ⌜ r ≡ replayFrom (rowsOf (now (words .entry))) (suc (length (now (run .entry)))) 0 1 (lines (now (run .entry))) (valuesOf (now (present .entry)) (now (after .entry))) ⌝ }
+    ensures { λ r. ⌜ r ≡ replayRest (rowsOf (now (words .entry))) 0 1 (lines (now (run .entry))) (valuesOf (now (present .entry)) (now (after .entry))) ⌝ }
 {
-    let mut place = Place::start();
-    let mut n = 0;
-    while n <= run.len() as u64 {
-        match replay_step(words, table, spans, run, n, place, present, after) {
-            Progress::Going(next) => {
-                place = next;
-            }
-            Progress::Ended(steps) => return Replay::Steps(steps),
-            Progress::Refused(number, row) => return Replay::Refused(number, row),
-        }
-        n += 1;
+    match replay_part(words, table, spans, run, true, 0, 0, present, after) {
+        Part::More(n, place) => Replay::Refused(Replay::LOG, 0), // not of the last part
+        Part::Ended(steps) => Replay::Steps(steps),
+        Part::Refused(number, row) => Replay::Refused(number, row),
     }
-    Replay::Refused(Replay::LOG, 0)
 }
 
 // Replays a run of the table of these rows, which is accepted.

@@ -3,8 +3,8 @@ use mathlib.Core.Path.{ap, sym, _∙_}
 use borrow.Author.Needs.{needs}
 use Rattle.table.specs.Rows.{rowsOf}
 use Rattle.log.specs.Replay.{replayBy, replayLog}
-use Rattle.replay.proofs.replay_judged.Statement.{statement}
-use Rattle.replay.proofs.replay_judged.Tie as tie
+use Rattle.steps.proofs.replay_judged.Statement.{statement}
+use Rattle.steps.proofs.replay_judged.Tie as tie
 
 pub replay-judged-spec : {M : Type 1} → statement M
 replay-judged-spec = tie.close (tie.spec

@@ -2,9 +2,9 @@
 use borrow.Author.Needs.{needs}
 use Rattle.table.specs.Rows.{rowsOf}
 use Rattle.values.specs.Values.{valuesOf}
-use Rattle.replay.proofs.Steps.{step-refused, step-allowed}
-use Rattle.replay.proofs.judge_step.Statement.{statement}
-use Rattle.replay.proofs.judge_step.Tie as tie
+use Rattle.steps.proofs.Steps.{step-refused, step-allowed}
+use Rattle.steps.proofs.judge_step.Statement.{statement}
+use Rattle.steps.proofs.judge_step.Tie as tie
 
 pub judge-step-spec : {M : Type 1} → statement M
 judge-step-spec = tie.close (tie.spec

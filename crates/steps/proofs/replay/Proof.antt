@@ -7,9 +7,9 @@ use Rattle.rules.specs.Verdict.{judge}
 use Rattle.verdict.specs.Loaded.{judged}
 use Rattle.verdict.proofs.Filled.{verdict-judged, filled}
 use Rattle.log.specs.Replay.{replayBy, replayLog}
-use Rattle.replay.proofs.Steps.{replay-is}
-use Rattle.replay.proofs.replay.Statement.{statement}
-use Rattle.replay.proofs.replay.Tie as tie
+use Rattle.steps.proofs.Steps.{replay-is}
+use Rattle.steps.proofs.replay.Statement.{statement}
+use Rattle.steps.proofs.replay.Tie as tie
 
 pub replay-spec : {M : Type 1} → statement M
 replay-spec = tie.close (tie.spec

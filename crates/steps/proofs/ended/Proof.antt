@@ -5,9 +5,9 @@ use borrow.Author.Needs.{needs}
 use borrow.Author.Tests.{eq-eqb, ne-eqb}
 use Rattle.lists.specs.Choice.{pick}
 use Rattle.log.specs.Faults.{logFault}
-use Rattle.replay.specs.declared.Progress.the-variants.{Ended, Refused}
-use Rattle.replay.proofs.ended.Statement.{statement}
-use Rattle.replay.proofs.ended.Tie as tie
+use Rattle.steps.specs.declared.Progress.the-variants.{Ended, Refused}
+use Rattle.steps.proofs.ended.Statement.{statement}
+use Rattle.steps.proofs.ended.Tie as tie
 
 pub ended-spec : {M : Type 1} → statement M
 ended-spec = tie.close (tie.spec

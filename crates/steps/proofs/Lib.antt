@@ -1,0 +1,3 @@
+pub mod Later
+pub mod Parts
+pub mod Steps
