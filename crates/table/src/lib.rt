@@ -32,7 +32,7 @@ pub fn cell(words: &[u64], row: usize, column: usize) -> u64
     requires { ⌜ column < 4 ⌝ }
     ensures { λ r. ⌜ r ≡ getD (now (words .entry)) (4 * row + column) 0 ⌝ }
 {
-    if words.len() / 4 < row {
+    if words.len() < row {
         return 0;
     }
     let at = 4 * row + column;
@@ -84,7 +84,11 @@ pub fn field(words: &[u64], start: u64, x: u64, column: usize) -> u64
     if past == 0 {
         return cell(words, 0, column);
     }
-    cell(words, (past - 1) as usize, column)
+    let at = 4 * (past - 1) as usize + column;
+    if words.len() <= at {
+        return 0;
+    }
+    words[at]
 }
 
 // One where a test passes.
