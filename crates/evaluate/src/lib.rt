@@ -21,16 +21,16 @@ use signed::Found;
 use signed::equal;
 use signed::of_word;
 use table::Table;
-use table::identifier_field;
-use table::node_field;
+use table::field;
 use table::operand;
 use table::operator;
 use table::sort;
 ghost use mathlib.Core.Path.{_≡_};
+ghost use Prim.Native.Nat.{_+_, _*_, _<_};
 ghost use lib.IntN.{pos};
 ghost use lib.ListN.{getD};
-ghost use Rattle.table.specs.Rows.{rowsOf};
-ghost use Rattle.table.specs.Counts.{countsOf};
+ghost use Rattle.table.specs.Names.{identifierTag, nodeTag};
+ghost use Rattle.table.specs.Rows.{rowsOf, start, rowOf, typeOf};
 ghost use Rattle.formula.specs.Values.{wrap};
 ghost use Rattle.machine.specs.Operator.{operatorNumbered};
 ghost use Rattle.machine.specs.Described.{typeNumbered, treeOf, machineOf};
@@ -130,21 +130,41 @@ pub fn value_at(values: &[i64], x: u64) -> i64
     if i < values.len() { values[i] } else { 0 }
 }
 
+// A column of a node: 1 operator, 2 and 3 operands. Where the nodes and the identifiers start is handed on by itself, as every node's call takes it.
+fn node_column(words: &[u64], nodes: u64, n: u64, column: usize) -> u64
+    requires { ⌜ (nodes ≡ start (rowsOf (now words)) nodeTag) × (column < 4) ⌝ }
+    ensures { λ r. ⌜ r ≡ getD (now (words .entry)) (4 * rowOf (rowsOf (now (words .entry))) nodeTag n + column) 0 ⌝ }
+{
+    field(words, nodes, n, column)
+}
+
+// The type of an identifier.
+fn identifier_type(words: &[u64], identifiers: u64, x: u64) -> u64
+    requires { ⌜ identifiers ≡ start (rowsOf (now words)) identifierTag ⌝ }
+    ensures { λ r. ⌜ r ≡ typeOf (rowsOf (now (words .entry))) x ⌝ }
+{
+    field(words, identifiers, x, Table::TYPE)
+}
+
 // A leaf's answer. 01, Rows: "1 literal (b its value), 2 identifier (b), 3 after value of a variable (b), 4 TRUE, 5 FALSE", "30 ⊤, 31 ⊥".
-fn leaf(words: &[u64], table: Table, present: &[i64], after: &[i64], operator: u64, b: u64) -> Found
-    requires { ⌜ table ≡ countsOf (rowsOf (now words)) ⌝ }
+fn leaf(
+    words: &[u64],
+    identifiers: u64,
+    present: &[i64],
+    after: &[i64],
+    operator: u64,
+    b: u64,
+) -> Found
+    requires { ⌜ identifiers ≡ start (rowsOf (now words)) identifierTag ⌝ }
     ensures { λ r. ⌜ r ≡ foundOf (leafAnswer (storedEnv (machineOf (rowsOf (now (words .entry))) .type) (now (present .entry)) (now (after .entry))) (operatorNumbered operator) b) ⌝ }
 {
     match operator {
         operator::LITERAL => Found::Number(of_word(b)),
         operator::IDENTIFIER => stored_value(
-            identifier_field(words, table, b, Table::TYPE),
+            identifier_type(words, identifiers, b),
             value_at(present, b),
         ),
-        operator::AFTER => stored_value(
-            identifier_field(words, table, b, Table::TYPE),
-            value_at(after, b),
-        ),
+        operator::AFTER => stored_value(identifier_type(words, identifiers, b), value_at(after, b)),
         operator::TRUE => Found::Truth(true),
         operator::FALSE => Found::Truth(false),
         operator::TOP => Found::Truth(true),
@@ -154,71 +174,90 @@ fn leaf(words: &[u64], table: Table, present: &[i64], after: &[i64], operator: u
 }
 
 // The operator of node n; of node 0, which is none, that of ⊥.
-fn operator_at(words: &[u64], table: Table, n: u64) -> u64
-    requires { ⌜ table ≡ countsOf (rowsOf (now words)) ⌝ }
+fn operator_at(words: &[u64], nodes: u64, n: u64) -> u64
+    requires { ⌜ nodes ≡ start (rowsOf (now words)) nodeTag ⌝ }
     ensures { λ r. ⌜ r ≡ operatorAt (rowsOf (now (words .entry))) n ⌝ }
 {
     if n == 0 {
         return operator::BOTTOM;
     }
-    node_field(words, table, n, Table::OPERATOR)
+    node_column(words, nodes, n, Table::OPERATOR)
 }
 
-// The answer of node n, an expression. A predicate is handed on.
+// The answer of node n, an expression.
 pub fn evaluate_expression(
     words: &[u64],
-    table: Table,
+    nodes: u64,
+    identifiers: u64,
     present: &[i64],
     after: &[i64],
     n: u64,
 ) -> Found
-    requires { ⌜ table ≡ countsOf (rowsOf (now words)) ⌝ }
+    requires { ⌜ (nodes ≡ start (rowsOf (now words)) nodeTag) × (identifiers ≡ start (rowsOf (now words)) identifierTag) ⌝ }
     ensures { λ r. ⌜ r ≡ foundOf (answer (storedEnv (machineOf (rowsOf (now (words .entry))) .type) (now (present .entry)) (now (after .entry))) (treeOf (rowsOf (now (words .entry))) n)) ⌝ }
 {
-    let operator = operator_at(words, table, n);
-    let found = find_operator(operator);
-    if found.sort == sort::PREDICATE {
-        return evaluate_predicate(words, table, present, after, n);
-    }
-    evaluate_node(words, table, present, after, n, operator)
+    evaluate_node(words, nodes, identifiers, present, after, n)
 }
 
 // The answer of node n, a predicate.
 pub fn evaluate_predicate(
     words: &[u64],
-    table: Table,
+    nodes: u64,
+    identifiers: u64,
     present: &[i64],
     after: &[i64],
     n: u64,
 ) -> Found
-    requires { ⌜ table ≡ countsOf (rowsOf (now words)) ⌝ }
+    requires { ⌜ (nodes ≡ start (rowsOf (now words)) nodeTag) × (identifiers ≡ start (rowsOf (now words)) identifierTag) ⌝ }
     ensures { λ r. ⌜ r ≡ foundOf (answer (storedEnv (machineOf (rowsOf (now (words .entry))) .type) (now (present .entry)) (now (after .entry))) (treeOf (rowsOf (now (words .entry))) n)) ⌝ }
 {
-    let operator = operator_at(words, table, n);
-    evaluate_node(words, table, present, after, n, operator)
+    evaluate_node(words, nodes, identifiers, present, after, n)
 }
 
-// The answer of node n by its operator, from those of its operands, each begun as an expression. The right one is evaluated only where it is read.
+// The answer of node n, an operand of this operator: a predicate or an expression, as the operator takes it.
+fn evaluate_operand(
+    words: &[u64],
+    nodes: u64,
+    identifiers: u64,
+    present: &[i64],
+    after: &[i64],
+    operator: u64,
+    n: u64,
+) -> Found
+    requires { ⌜ (nodes ≡ start (rowsOf (now words)) nodeTag) × (identifiers ≡ start (rowsOf (now words)) identifierTag) ⌝ }
+    ensures { λ r. ⌜ r ≡ foundOf (answer (storedEnv (machineOf (rowsOf (now (words .entry))) .type) (now (present .entry)) (now (after .entry))) (treeOf (rowsOf (now (words .entry))) n)) ⌝ }
+{
+    let found = find_operator(operator);
+    if found.operands == sort::PREDICATE {
+        return evaluate_predicate(words, nodes, identifiers, present, after, n);
+    }
+    evaluate_expression(words, nodes, identifiers, present, after, n)
+}
+
+// The answer of node n by its operator, from those of its operands. The right one is evaluated only where it is read.
 fn evaluate_node(
     words: &[u64],
-    table: Table,
+    nodes: u64,
+    identifiers: u64,
     present: &[i64],
     after: &[i64],
     n: u64,
-    operator: u64,
 ) -> Found
-    requires { ⌜ (table ≡ countsOf (rowsOf (now words))) × (operator ≡ operatorAt (rowsOf (now words)) n) ⌝ }
+    requires { ⌜ (nodes ≡ start (rowsOf (now words)) nodeTag) × (identifiers ≡ start (rowsOf (now words)) identifierTag) ⌝ }
     ensures { λ r. ⌜ r ≡ foundOf (answer (storedEnv (machineOf (rowsOf (now (words .entry))) .type) (now (present .entry)) (now (after .entry))) (treeOf (rowsOf (now (words .entry))) n)) ⌝ }
 {
-    let b = node_field(words, table, n, Table::LEFT);
+    let operator = operator_at(words, nodes, n);
+    let b = node_column(words, nodes, n, Table::LEFT);
     if is_leaf(operator) {
-        return leaf(words, table, present, after, operator, b);
+        return leaf(words, identifiers, present, after, operator, b);
     }
-    let left = evaluate_expression(words, table, present, after, operand(n, b));
+    let x = operand(n, b);
+    let left = evaluate_operand(words, nodes, identifiers, present, after, operator, x);
     let mut right = left;
     if reads_right(operator, left) {
-        let c = node_field(words, table, n, Table::RIGHT);
-        right = evaluate_expression(words, table, present, after, operand(n, c));
+        let c = node_column(words, nodes, n, Table::RIGHT);
+        let y = operand(n, c);
+        right = evaluate_operand(words, nodes, identifiers, present, after, operator, y);
     }
     combine(operator, left, right)
 }

@@ -61,7 +61,14 @@ fn root_fault(words: &[u64], table: Table, present: &[i64], root: u64) -> u64
     requires { ⌜ table ≡ countsOf (rowsOf (now words)) ⌝ }
     ensures { λ r. ⌜ r ≡ rootFault (rowsOf (now (words .entry))) (now (present .entry)) root ⌝ }
 {
-    let found = evaluate_predicate(words, table, present, &present[..0], root);
+    let found = evaluate_predicate(
+        words,
+        table.nodes_start,
+        table.identifiers_start,
+        present,
+        &present[..0],
+        root,
+    );
     fault_of(Found::Truth(true), found)
 }
 
@@ -139,10 +146,24 @@ fn action_fault(
     }
     let root = c_at(words, i);
     if tag_at(words, i) == tag::BECOMES_EQUAL {
-        let found = evaluate_expression(words, table, present, after, root);
+        let found = evaluate_expression(
+            words,
+            table.nodes_start,
+            table.identifiers_start,
+            present,
+            after,
+            root,
+        );
         return fault_of(moved, found);
     }
-    let met = evaluate_predicate(words, table, present, after, root);
+    let met = evaluate_predicate(
+        words,
+        table.nodes_start,
+        table.identifiers_start,
+        present,
+        after,
+        root,
+    );
     fault_of(Found::Truth(true), met)
 }
 

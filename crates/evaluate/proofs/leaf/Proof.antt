@@ -35,7 +35,7 @@ leaf-spec =
     let after = a .after .now in
     let ρ = storedEnv (machineOf rows .type) present after in
     numbered-at (λ o. foundOf (leafAnswer ρ o (a .b))) 2 (c .before .before .before .match .keys2)
-    (identifier-leaf rows present after (a .b) _ _ (c .stored-value .ensures) (c .before .before .identifier-field .ensures)
+    (identifier-leaf rows present after (a .b) _ _ (c .stored-value .ensures) (c .before .before .identifier-type .ensures)
     (seen-is (c .before .value-at .result) (c .before .value-at .ok) (c .before .value-at .ensures))))
     (λ c. let a = c .before .before .before .before .before .args in
     let rows = rowsOf (a .words .now) in
@@ -43,7 +43,7 @@ leaf-spec =
     let after = a .after .now in
     let ρ = storedEnv (machineOf rows .type) present after in
     numbered-at (λ o. foundOf (leafAnswer ρ o (a .b))) 3 (c .before .before .before .match .keys3)
-    (after-leaf rows present after (a .b) _ _ (c .stored-value2 .ensures) (c .before .before .identifier-field2 .ensures)
+    (after-leaf rows present after (a .b) _ _ (c .stored-value2 .ensures) (c .before .before .identifier-type2 .ensures)
     (seen-is (c .before .value-at2 .result) (c .before .value-at2 .ok) (c .before .value-at2 .ensures))))
     (λ c. let a = c .before .before .args in
     let ρ = storedEnv (machineOf (rowsOf (a .words .now)) .type) (a .present .now) (a .after .now) in

@@ -14,4 +14,4 @@ operator-at-spec =
     (λ c. let a = c .before .before .args in sym (ap (λ b. pick b 31 (operatorOf (rowsOf (a .words .now)) (a .n))) (eq-eqb (a .n) 0 (c .if1 .taken))))
     (λ c κs. search needs)
     (λ c. let a = c .before .before .before .args in
-    c .node-field .ensures ∙ sym (ap (λ b. pick b 31 (operatorOf (rowsOf (a .words .now)) (a .n))) (ne-eqb (a .n) 0 (c .before .if1 .left)))))
+    c .node-column .ensures ∙ sym (ap (λ b. pick b 31 (operatorOf (rowsOf (a .words .now)) (a .n))) (ne-eqb (a .n) 0 (c .before .if1 .left)))))

@@ -7,6 +7,7 @@ use Rattle.formula.specs.Values.{truth}
 use Rattle.answer.specs.Answer.{answer}
 use Rattle.answer.specs.Stored.{storedEnv}
 use Rattle.table.specs.Rows.{rowsOf}
+use Rattle.table.proofs.Counts.{starts-nodes, starts-identifiers}
 use Rattle.machine.specs.Described.{treeOf, machineOf}
 use Rattle.signed.specs.Found.{answerOf}
 use Rattle.signed.proofs.Answers.{answer-found}
@@ -38,7 +39,11 @@ action-fault-spec = tie.close (tie.spec
     ∙ unassigned-fault t (s .args .e) (s .args .present .now) (s .args .after .now) (s .args .x) (row .action-row .result) (row .action-row .ensures) (omega (arith, found .size .ensures, c .before .before .before .if1 .taken)))
     (λ c κs. search needs)
     (λ c κs. search needs)
-    (λ c κs. search needs)
+    (λ c κs. let tag = c .before in
+    let sort = tag .before .before .before .before .before .before in
+    let s = sort .before .before .before .before in
+    let t = rowsOf (s .args .words .now) in
+    (starts-nodes t (s .args .table) (s .pre .0), starts-identifiers t (s .args .table) (s .pre .0)))
     (λ c κs. search needs)
     (λ c. let tag = c .before .before .before in
     let root = tag .before in
@@ -53,7 +58,11 @@ action-fault-spec = tie.close (tie.spec
     let w = ap answerOf (c .before .evaluate-expression .ensures) ∙ answer-found (answer ρ (treeOf t (root .c-at .result))) ∙ ap (λ n. answer ρ (treeOf t n)) (root .c-at .ensures) in
     c .fault-of2 .ensures ∙ ap₂ faultOf v w
     ∙ equal-fault t (s .args .e) (s .args .present .now) (s .args .after .now) (s .args .x) (row .action-row .result) (row .action-row .ensures) (omega (arith, found .size .ensures, root .before .if1 .left)) (sym (tag .tag-at .ensures) ∙ c .before .before .if2 .taken))
-    (λ c κs. search needs)
+    (λ c κs. let tag = c .before in
+    let sort = tag .before .before .before .before .before .before in
+    let s = sort .before .before .before .before in
+    let t = rowsOf (s .args .words .now) in
+    (starts-nodes t (s .args .table) (s .pre .0), starts-identifiers t (s .args .table) (s .pre .0)))
     (λ c κs. search needs)
     (λ c. let tag = c .before .before .before in
     let root = tag .before in

@@ -7,6 +7,7 @@ use Rattle.formula.specs.Values.{truth}
 use Rattle.answer.specs.Answer.{answer}
 use Rattle.answer.specs.Stored.{storedEnv}
 use Rattle.table.specs.Rows.{rowsOf}
+use Rattle.table.proofs.Counts.{starts-nodes, starts-identifiers}
 use Rattle.machine.specs.Described.{treeOf, machineOf}
 use Rattle.signed.specs.Found.{answerOf}
 use Rattle.signed.proofs.Answers.{answer-found}
@@ -18,7 +19,9 @@ use Rattle.judge.proofs.root_fault.Tie as tie
 pub root-fault-spec : {M : Type 1} → statement M
 root-fault-spec = tie.close (tie.spec
     (λ c. search needs)
-    (λ c κs. search needs)
+    (λ c κs. let s = c .before .before in
+    let t = rowsOf (s .args .words .now) in
+    (starts-nodes t (s .args .table) (s .pre), starts-identifiers t (s .args .table) (s .pre)))
     (λ c κs. search needs)
     (λ c. let found = c .before in
     let s = found .before .before .before in
