@@ -114,7 +114,21 @@ fn after_spaces(greatest: u64, columns: &[u8], at: usize) -> Number
     digits(greatest, false, columns, at)
 }
 
-// How many of the first columns are seen to be spaces at one glance: eight or none.
+// Two columns more than those that are seen to be spaces, where they are spaces too.
+fn blank_on(columns: &[u8], at: usize) -> usize
+    requires { ⌜ BlankTo at (now columns) ⌝ }
+    ensures { λ r. ⌜ BlankTo r (now (columns .entry)) ⌝ }
+{
+    if columns.len() - at < 2 {
+        return at;
+    }
+    if (columns[at] == SPACE) & (columns[at + 1] == SPACE) {
+        return at + 2;
+    }
+    at
+}
+
+// How many of the first columns are seen to be spaces at two glances: ten, eight or none.
 fn blank_start(columns: &[u8]) -> usize
     ensures { λ r. ⌜ BlankTo r (now (columns .entry)) ⌝ }
 {
@@ -130,7 +144,7 @@ fn blank_start(columns: &[u8]) -> usize
         & (columns[6] == SPACE)
         & (columns[7] == SPACE);
     if first & second {
-        return 8;
+        return blank_on(columns, 8);
     }
     0
 }

@@ -1,4 +1,4 @@
--- Eight tests that all pass.
+-- Eight tests that all pass, then two.
 use borrow.Author.Needs.{needs}
 use native.Mathlib.Omega.{arith}
 use Rattle.number.proofs.Leading.{eight-blank}
@@ -16,5 +16,6 @@ blank-start-spec = tie.close (tie.spec
     (λ c. search needs)
     (λ c. search needs)
     (λ c. search needs)
-    (λ c. eight-blank (c .before .before .before .before .before .before .before .before .before .before .args .columns .now) (omega arith) (c .if2 .taken))
+    (λ c κs. let s = c .before .before .before .before .before .before .before .before .before .before .before in eight-blank (s .args .columns .now) (omega arith) (c .if2 .taken))
+    (λ c. search needs)
     (λ c. search needs))
