@@ -5,7 +5,7 @@ use mathlib.Core.List.{List, [], _∷_, _++_, append-nil}
 use mathlib.Core.Logic.{inl, inr}
 use Prim.Native.Nat.{ℕ, _+_, _-_, _*_, _≤_, _<_}
 use native.Mathlib.Omega.{arith}
-use borrow.Author.Tests.{ltb-true, ltb-false, lt-ltb, le-ltb}
+use borrow.Author.Tests.{eq-eqb, ne-eqb, ltb-true, ltb-false, lt-ltb, le-ltb}
 use lib.Dec.{ltb, eqb}
 use lib.ListN.{length, take, drop, length-drop, length-append}
 use lib.Seq.{drop-drop, drop-append-le, take-append-le}
@@ -153,9 +153,21 @@ module _ (t : Rows) (given : Bool) (x : ℕ) (run : List ℕ) (at : ℕ) (vs : V
 -- ---- an identifier that may have no row 91
 
 -- whether it is given, by what was read of it
-pub given-is : (t : Rows) (e x : ℕ) {g i : Bool} {k o : ℕ} → g ≡ pick i (eqb k 1) (eqb k 5 && eqb o e) → i ≡ isInitial t e → k ≡ kindOf t x → o ≡ ownerOf t x → g ≡ isGiven t e x
-given-is t e x {o = n} h i k o =
-    h ∙ ap₂ (λ i k. pick i (eqb k 1) (eqb k 5 && eqb n e)) i k ∙ ap (λ o. pick (isInitial t e) (eqb (kindOf t x) 1) (eqb (kindOf t x) 5 && eqb o e)) o
+module _ (t : Rows) (e x : ℕ) {i : Bool} {k : ℕ} (is : i ≡ isInitial t e) (kind : k ≡ kindOf t x) where
+  abbrev given : Bool → Bool → Bool
+  given i parameter = pick i (eqb k 1) (parameter && eqb (ownerOf t x) e)
+
+  given-by : isGiven t e x ≡ given i (eqb k 5)
+  given-by = sym (ap₂ (λ i k. pick i (eqb k 1) (eqb k 5 && eqb (ownerOf t x) e)) is kind)
+
+  pub given-constant : i ≡ true → eqb k 1 ≡ isGiven t e x
+  given-constant h = sym (given-by ∙ ap (λ i. given i (eqb k 5)) h)
+
+  pub given-none : i ≡ false → (k ≡ 5 → ⊥) → false ≡ isGiven t e x
+  given-none h other = sym (given-by ∙ ap₂ given h (ne-eqb k 5 other))
+
+  pub given-owned : {o : ℕ} → i ≡ false → k ≡ 5 → o ≡ ownerOf t x → eqb o e ≡ isGiven t e x
+  given-owned h parameter o = ap (λ o. eqb o e) o ∙ sym (given-by ∙ ap₂ given h (eq-eqb k 5 parameter))
 
 module _ (t : Rows) (e x : ℕ) (run : List ℕ) {w : Bool} (is : w ≡ isWanted t e x) where
   pub identifier-read : (at : ℕ) (vs : Values) (given : Bool) (r : Reached) (ws : Values) → w ≡ true → given ≡ isGiven t e x → ReadsValue t given x run at vs r ws → Reaches r run (at + rowLength width)

@@ -13,17 +13,14 @@ use table::identifier;
 use table::identifier_field;
 use table::is_variable_of;
 ghost use mathlib.Core.Path.{_≡_};
-ghost use mathlib.Core.Bool.{_&&_};
 ghost use mathlib.Core.List.{[]};
-ghost use lib.Dec.{eqb};
-ghost use Rattle.table.specs.Names.{constantKind, concreteParameterKind};
 ghost use Prim.Native.Nat.{_+_, _*_, _≤_};
 ghost use lib.IntN.{pos};
 ghost use lib.ListN.{length, getD, set};
 ghost use Rattle.lists.specs.Below.{oneIf};
 ghost use Rattle.lists.specs.Choice.{pick};
 ghost use Rattle.row.specs.Row.{width, rowLength};
-ghost use Rattle.table.specs.Rows.{rowsOf};
+ghost use Rattle.table.specs.Rows.{rowsOf, kindOf};
 ghost use Rattle.table.specs.Counts.{countsOf};
 ghost use Rattle.log.specs.Rows.{isStateVariable, isInitial, isGiven, logged, isLogged, isValueRow};
 ghost use Rattle.log.specs.Replay.{storeBy, readValues, moved};
@@ -61,14 +58,18 @@ pub fn is_initial(words: &[u64], table: Table, e: u64) -> bool
     event_field(words, table, e, Table::CLASS) == event::INITIALISATION
 }
 
-// What is logged beside the variables: "constants .. after initialisation, else the event's parameters".
-fn is_given(initial: bool, kind: u64, owner: u64, e: u64) -> bool
-    ensures { λ r. ⌜ r ≡ pick initial (eqb kind constantKind) (eqb kind concreteParameterKind && eqb owner e) ⌝ }
+// What is logged beside the variables: "constants .. after initialisation, else the event's parameters". Only a parameter's owner is looked up.
+fn is_given(words: &[u64], table: Table, initial: bool, kind: u64, e: u64, x: u64) -> bool
+    requires { ⌜ (table ≡ countsOf (rowsOf (now words))) × (initial ≡ isInitial (rowsOf (now words)) e) × (kind ≡ kindOf (rowsOf (now words)) x) ⌝ }
+    ensures { λ r. ⌜ r ≡ isGiven (rowsOf (now (words .entry))) e x ⌝ }
 {
     if initial {
         return kind == identifier::CONSTANT;
     }
-    (kind == identifier::CONCRETE_PARAMETER) & (owner == e)
+    if kind != identifier::CONCRETE_PARAMETER {
+        return false;
+    }
+    identifier_field(words, table, x, Table::OWNER) == e
 }
 
 // "all concrete and shared variables"
@@ -171,8 +172,7 @@ fn read_identifier(
     ensures { λ r. ⌜ Reaches r (now (run .entry)) (place .at + rowLength width * oneIf (isWanted (rowsOf (now (words .entry))) e x)) ⌝ }
 {
     let kind = identifier_field(words, table, x, Table::KIND);
-    let owner = identifier_field(words, table, x, Table::OWNER);
-    let given = is_given(initial, kind, owner, e);
+    let given = is_given(words, table, initial, kind, e, x);
     if given | is_variable_of(identifier::CONCRETE_VARIABLE, kind) {
         return read_value(words, table, run, given, x, place, present, after);
     }
