@@ -1,13 +1,14 @@
 -- The steps of a part of a run, taken one after another: replaying on from the place that is reached gives what replaying from the part's first byte on gives.
-use mathlib.Core.Path.{_≡_, refl, sym, ap, subst, _∙_}
+use mathlib.Core.Path.{_≡_, refl, sym, ap, ap₂, subst, _∙_}
 use mathlib.Core.Bool.{Bool, true, false, _||_, true≢false}
-use mathlib.Core.List.{List, [], _++_, append-nil}
-use mathlib.Core.Logic.{_⊎_, inl, inr}
-use Prim.Native.Nat.{ℕ, suc, _+_, _-_, _*_, _/_, _≤_, _<_}
+use mathlib.Core.List.{List, [], _++_, append-nil, append-assoc}
+use mathlib.Core.Logic.{inl, inr}
+use Prim.Native.Nat.{ℕ, suc, _+_, _-_, _/_, _≤_, _<_}
 use native.Mathlib.Omega.{arith}
 use borrow.Author.Tests.{ltb-true}
 use lib.Dec.{ltb}
 use lib.ListN.{length, drop, length-drop}
+use lib.Seq.{drop-append-le}
 use Rattle.row.specs.Row.{width, rowLength}
 use Rattle.row.specs.declared.Place.{Place}
 use Rattle.table.specs.Rows.{Rows, count}
@@ -25,7 +26,7 @@ use Rattle.steps.specs.declared.Progress.the-variants as step
 use Rattle.steps.specs.declared.Part.{Part}
 use Rattle.steps.specs.declared.Part.the-variants.{More, Ended, Refused}
 use Rattle.steps.specs.Steps.{replayOn, ReplaysStep, BeginsWithin}
-use Rattle.steps.specs.Parts.{laterRow, replayRest, partOn, ReplaysPart, Stops}
+use Rattle.steps.specs.Parts.{laterRow, replayRest, partOn, ReplaysPart, isMore, Windows, stops, goes-on, Stops}
 use Rattle.steps.proofs.Later.{later, rest-later, rest-within}
 
 -- the test for going on, by the number of identifiers that was counted
@@ -160,3 +161,27 @@ module _ (t : Rows) (run : List ℕ) (us ws : Values) (r : Part) (reads : Replay
 pub replay-whole : (t : Rows) (run : List ℕ) → replayRest t 0 1 (lines run) noValues ≡ replayLog t run
 unfolding replayRest replayLog
 replay-whole t run = refl
+
+-- ---- windows
+module _ (t : Rows) where
+  -- a reply that is there doesn't turn on the bytes
+  reply-there : (before : ℕ) (r : Part) (run other : List ℕ) (ws : Values) → isMore t r ≡ false → partOn t before r run ws ≡ partOn t before r other ws
+  unfolding partOn
+  reply-there before (More n place) run other ws h = absurd (true≢false h)
+  reply-there before (Ended steps) run other ws h = refl
+  reply-there before (Refused number row) run other ws h = refl
+
+  -- Windows that are replayed one after another give the reply of the run that they are made of.
+  pub windows-replay : {n before : ℕ} {window unread : List ℕ} {vs : Values} {reply : Replay} → Windows t n before window vs unread reply → reply ≡ replayRest t n (before + 1) (lines (window ++ unread)) vs
+  unfolding partOn
+  windows-replay {before = before} {window = window} {unread = unread} (stops last r ws follows there reads) = reply-there before r window (window ++ unread) ws there ∙ reads unread follows
+  windows-replay {before = before} {window = window} (goes-on {unread = unread} next last m place ws follows within reads rest) =
+      let at = place .at in
+      let row : before + at / 38 + 1 ≡ before + rowAt at = omega arith in
+      windows-replay rest
+      ∙ ap₂ (λ i bytes. replayRest t m i (lines bytes) ws) row (append-assoc (drop at window) next unread ∙ sym (drop-append-le at window (next ++ unread) within))
+      ∙ reads (next ++ unread) follows
+
+  -- from the first window on
+  pub windows-whole : {window unread : List ℕ} {reply : Replay} → Windows t 0 0 window noValues unread reply → reply ≡ replayLog t (window ++ unread)
+  windows-whole {window} {unread} w = windows-replay w ∙ replay-whole t (window ++ unread)
