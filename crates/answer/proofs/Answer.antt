@@ -8,14 +8,14 @@ use lib.Dec.{T}
 use lib.IntN.{ℤ, pos}
 use Rattle.lists.specs.Choice.{pick}
 use Rattle.formula.specs.Values.{ValueType, AnyValue, number, truth, wrap, asTruth}
-use Rattle.formula.specs.Tree.{Constant, Unary, bool, negation, logicalNot, Binary, plus, minus, times, equal, less, atMost, iff, Division, Connective}
+use Rattle.formula.specs.Tree.{Constant, Unary, Binary, plus, minus, times, equal, less, atMost, iff, Division, Connective}
 use Rattle.formula.specs.Tree.{Tree, constant, identifier, after, unary, binary, division, connective}
 use Rattle.formula.specs.Evaluate.{Env, readTree, constantValue, unaryValue, binaryValue, divisionDefined, divisionValue, connectiveValue, readsRight}
 use Rattle.formula.specs.Evaluate.{andThen, readDivision, readConnective}
 use Rattle.formula.proofs.Truth.{test-true, true-test}
-use Rattle.answer.specs.Answer.{Answer, value, outside, undefined, fits, fitsValue, within, valueThen, rightThen, operands, always, inOrder}
+use Rattle.answer.specs.Answer.{Answer, value, outside, undefined, fits, fitsValue, within, valueThen, operands, always}
 use Rattle.answer.specs.Answer.{binaryAnswer, divisionAnswer, rightOf, connectiveAnswer, unaryAnswer, answer}
-use Rattle.answer.specs.Met.{Met, met-itself, met-operand, met-left, met-right, met-dividend, met-divisor, met-first, met-second, NoneLeaves}
+use Rattle.answer.specs.Met.{met-itself, met-operand, met-left, met-right, met-dividend, met-divisor, met-first, met-second, NoneLeaves}
 
 -- ---- answers apart
 

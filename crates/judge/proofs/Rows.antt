@@ -1,6 +1,6 @@
 -- The rows of axioms and guards, of which none outside the span of their tag has a fault; and the variables.
-use mathlib.Core.Path.{_≡_, refl, sym, ap, subst, _∙_}
-use mathlib.Core.Bool.{Bool, true, false, _&&_, _||_}
+use mathlib.Core.Path.{_≡_, sym, ap, subst, _∙_}
+use mathlib.Core.Bool.{false, _&&_, _||_}
 use mathlib.Core.List.{List}
 use Prim.Native.Nat.{ℕ, _+_, _≤_, _<_}
 use native.Mathlib.Omega.{arith}
@@ -14,7 +14,7 @@ use Rattle.scan.specs.declared.Span.{Span}
 use Rattle.scan.specs.Spans.{ofTag, tagSpan}
 use Rattle.scan.proofs.Spans.{tag-spans}
 use Rattle.log.specs.Faults.{noFault}
-use Rattle.judge.specs.Judge.{isJudged, judgedRoot, rootFault, rowFault, firstUntrue, variableFault, firstNotAllowed}
+use Rattle.judge.specs.Judge.{judgedRoot, rootFault, rowFault, firstUntrue, variableFault, firstNotAllowed}
 use Rattle.judge.proofs.Faults.{NoneFrom, first-none, first-found}
 
 module _ (t : Rows) (present : List ℤ) (tag e : ℕ) (small : tag ≤ 50) where

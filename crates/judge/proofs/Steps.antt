@@ -1,36 +1,27 @@
 -- The faults of a step, as the code goes through them: those of the axioms and guards row by row, those of the variables identifier by identifier.
 use mathlib.Core.Path.{_≡_, refl, sym, ap, ap₂, _∙_}
 use mathlib.Core.Bool.{Bool, true, false, _&&_}
-use mathlib.Core.List.{List, [], _∷_, _++_, map}
+use mathlib.Core.List.{List, [], map, map-map}
 use Prim.Native.Nat.{ℕ, suc, _≤_}
-use native.Mathlib.Omega.{arith}
 use lib.Dec.{eqb, ltb}
 use lib.IntN.{ℤ, pos}
 use lib.ListN.{getD}
 use borrow.Author.Tests.{le-ltb, lt-ltb, eq-eqb, ne-eqb}
 use Rattle.lists.specs.Choice.{pick}
-use Rattle.lists.specs.All.{In}
-use Rattle.lists.specs.Below.{first, numbers, keep}
+use Rattle.lists.specs.Below.{first, numbers}
+use Rattle.lists.proofs.All.{map-same}
 use Rattle.lists.proofs.Flat.{keep-keep}
 use Rattle.formula.specs.Values.{AnyValue, truth, wrap}
 use Rattle.formula.specs.Evaluate.{Env}
-use Rattle.answer.specs.Answer.{value, answer}
+use Rattle.answer.specs.Answer.{answer}
 use Rattle.answer.specs.Stored.{storedValue, stored, storedEnv}
 use Rattle.table.specs.Rows.{Rows, tagged, section, typeOf}
 use Rattle.machine.specs.Machine.{Action, unassigned, becomesEqual, becomesSuchThat, Machine}
 use Rattle.machine.specs.Described.{typeNumbered, treeOf, sets, actionOf, belonging, variablesOf, machineOf}
 use Rattle.log.specs.Rows.{isInitial}
 use Rattle.log.specs.Faults.{noFault, firstFault, untrue, notAllowed, stepFault, faultOf, differs}
-use Rattle.judge.specs.Judge.{faultOr, isJudged, judgedRoot, rootFault, rowFault, firstUntrue, actionFault, variableFault, firstNotAllowed}
+use Rattle.judge.specs.Judge.{faultOr, rootFault, rowFault, firstUntrue, actionFault, firstNotAllowed}
 use Rattle.judge.proofs.Faults.{first-join, first-keep}
-
-map-map : {A B C : Type 0} (f : B → C) (g : A → B) (xs : List A) → map f (map g xs) ≡ map (λ x. f (g x)) xs
-map-map f g [] = refl
-map-map f g (x ∷ xs) = ap (λ ys. f (g x) ∷ ys) (map-map f g xs)
-
-map-ext : {A B : Type 0} (f g : A → B) (xs : List A) → ((x : A) → f x ≡ g x) → map f xs ≡ map g xs
-map-ext f g [] h = refl
-map-ext f g (x ∷ xs) h = ap₂ _∷_ (h x) (map-ext f g xs h)
 
 and-true : (b : Bool) → (b && true) ≡ b
 and-true true = refl
@@ -52,7 +43,7 @@ module _ (t : Rows) (e : ℕ) (present after : List ℤ) where
   unfolding machineOf section firstUntrue
   axioms-first =
       ap firstFault (map-map root (t .a) (section t 30)) ∙ first-keep (tagged t 30) (λ i. root (t .a i)) (numbers (t .size) 0)
-      ∙ ap firstFault (map-ext (λ i. pick (tagged t 30 i) (root (t .a i)) noFault) (rowFault t present 30 e) (numbers (t .size) 0) (λ i. ap (λ b. pick b (root (t .a i)) noFault) (sym (and-true (tagged t 30 i)))))
+      ∙ ap firstFault (map-same (λ i. pick (tagged t 30 i) (root (t .a i)) noFault) (rowFault t present 30 e) (numbers (t .size) 0) (λ i j. ap (λ b. pick b (root (t .a i)) noFault) (sym (and-true (tagged t 30 i)))))
 
   guards-first : firstFault (map root (machine .guards e)) ≡ firstUntrue t present 50 e
   unfolding machineOf section belonging firstUntrue

@@ -24,7 +24,6 @@ use table::tag_at;
 ghost use mathlib.Core.Path.{_≡_};
 ghost use Prim.Native.Nat.{_≤_};
 ghost use Rattle.lists.specs.Choice.{pick};
-ghost use Rattle.table.specs.Names.{variantTag};
 ghost use Rattle.table.specs.Rows.{rowsOf};
 ghost use Rattle.table.specs.Counts.{countsOf};
 ghost use Rattle.scan.specs.Spans.{Spanned};

@@ -1,5 +1,5 @@
 -- How "every member" and membership go through ++, map and flatMap, each by recursion on the list or on the derivation.
-use mathlib.Core.Path.{_≡_, refl, sym, ap, subst}
+use mathlib.Core.Path.{_≡_, refl, sym, ap, ap₂, subst}
 use mathlib.Core.List.{List, [], _∷_, _++_, map, flatMap}
 use mathlib.Core.Logic.{_⊎_, inl, inr}
 use Prim.Native.Nat.{ℕ}
@@ -90,6 +90,11 @@ module _ {A B : Type 0} (f : A → B) where
   pub in-map : {x : A} {xs : List A} → In x xs → In (f x) (map f xs)
   in-map (here e) = here (ap f e)
   in-map (there i) = there (in-map i)
+
+  -- by functions that agree on the members
+  pub map-same : (g : A → B) (xs : List A) → ((x : A) → In x xs → f x ≡ g x) → map f xs ≡ map g xs
+  map-same g [] h = refl
+  map-same g (x ∷ xs) h = ap₂ _∷_ (h x (here refl)) (map-same g xs (λ y i. h y (there i)))
 
   pub in-unmap : {b : B} (xs : List A) → In b (map f xs) → (x : A) × In x xs × (b ≡ f x)
   in-unmap [] i = absurd (in-nil i)

@@ -1,6 +1,6 @@
 -- How many steps a replay may take doesn't count where it is more than the log has rows: each step has a row of its own.
 use Prim.Native.Nat.{ℕ, zero, suc, _+_, _≤_, _<_}
-use mathlib.Core.Path.{_≡_, refl, sym, ap, _∙_}
+use mathlib.Core.Path.{_≡_, refl, ap}
 use mathlib.Core.Bool.{Bool, true, false}
 use mathlib.Core.List.{List, [], _∷_}
 use native.Mathlib.Omega.{arith}
@@ -9,17 +9,16 @@ use lib.ListN.{length, take, drop}
 use Rattle.lists.specs.Choice.{pick}
 use Rattle.row.specs.Row.{greatest, width, rowLength}
 use Rattle.row.specs.Reading.{lineAt}
-use Rattle.row.specs.declared.Row.{Row}
 use Rattle.row.specs.declared.Line.{Line}
 use Rattle.row.specs.declared.Line.the-variants.{Whole, Malformed}
 use Rattle.formula.specs.Values.{wholeNumber}
 use Rattle.table.specs.Rows.{Rows}
 use Rattle.log.specs.declared.Replay.{Replay}
-use Rattle.log.specs.declared.Replay.the-variants.{Steps, Refused}
+use Rattle.log.specs.declared.Replay.the-variants.{Refused}
 use Rattle.log.specs.Rows.{logged, isStepRow}
 use Rattle.log.specs.Lines.{linesTo, lines}
 use Rattle.log.specs.Faults.{noFault, logFault, stepFault}
-use Rattle.log.specs.Replay.{Values, Found, found, bad, store, readValues, moved, judged, replayFrom, noValues, replayLog}
+use Rattle.log.specs.Replay.{Values, Found, found, bad, store, readValues, moved, judged, replayFrom}
 use Rattle.log.proofs.Values.{read-first}
 
 -- at most a row a byte
@@ -41,13 +40,13 @@ unfolding lines
 lines-few bytes = to-few (length bytes) bytes
 
 module _ (t : Rows) where
-  -- reading a step's rows leaves no more rows
-  read-shorter : (e : ℕ) (xs : List ℕ) (i : ℕ) (ls : List Line) (vs ws : Values) (rest : List Line) → readValues t e xs i ls vs ≡ found ws rest → length rest ≤ length ls
+  -- a row is read for each identifier
+  pub read-count : (e : ℕ) (xs : List ℕ) (i : ℕ) (ls : List Line) (vs ws : Values) (rest : List Line) → readValues t e xs i ls vs ≡ found ws rest → length xs + length rest ≡ length ls
   unfolding readValues
-  read-shorter e [] i ls vs ws rest h = let z : length ls ≡ length rest = ap (λ (f : Found). elim f [ found us ls ↦ length ls | bad i ↦ 0 ]) h in omega arith
-  read-shorter e (x ∷ xs) i ls vs ws rest h =
+  read-count e [] i ls vs ws rest h = let z : length ls ≡ length rest = ap (λ (f : Found). elim f [ found us ls ↦ length ls | bad i ↦ 0 ]) h in omega (arith, z)
+  read-count e (x ∷ xs) i ls vs ws rest h =
       let f = read-first t e x xs i ls vs ws rest h in
-      let k = read-shorter e xs (i + 1) (f .others) (store t e x (wholeNumber (f .row .b)) vs) ws rest (f .then) in
+      let k = read-count e xs (i + 1) (f .others) (store t e x (wholeNumber (f .row .b)) vs) ws rest (f .then) in
       let l = ap length (f .lines) in
       omega (arith, k, l)
 
@@ -66,10 +65,5 @@ module _ (t : Rows) where
   replay-enough (suc f) (suc g) n i (Whole r ∷ ls) vs h k =
       ap (λ s. pick (isStepRow t (eqb n 0) r) s (Refused logFault i))
       (judged-same i (r .a) (readValues t (r .a) (logged t (r .a)) (i + 1) ls vs) _ _ (λ ws rest q.
-      let s = read-shorter (r .a) (logged t (r .a)) (i + 1) ls vs ws rest q in
+      let s = read-count (r .a) (logged t (r .a)) (i + 1) ls vs ws rest q in
       replay-enough f g (n + 1) (i + 1 + length (logged t (r .a))) rest (moved t ws) (omega (arith, s, h)) (omega (arith, s, k))))
-
-  -- as many steps as there are bytes are enough
-  pub replay-bytes : (run : List ℕ) → replayFrom t (suc (length run)) 0 1 (lines run) noValues ≡ replayLog t run
-  unfolding replayLog
-  replay-bytes run = let l = lines-few run in replay-enough (suc (length run)) (suc (length (lines run))) 0 1 (lines run) noValues (omega (arith, l)) (omega arith)

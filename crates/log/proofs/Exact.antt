@@ -17,12 +17,11 @@ use Rattle.rules.specs.Offence.{machine}
 use Rattle.rules.proofs.Obeys.{Obeys}
 use Rattle.rules.proofs.Accepted.{accepted-none, none-obeys}
 use Rattle.run.proofs.SafeRun.{safe-run}
-use Rattle.log.specs.declared.Replay.{Replay}
 use Rattle.log.specs.declared.Replay.the-variants.{Steps, Refused}
 use Rattle.log.specs.Lines.{lines}
 use Rattle.log.specs.Faults.{logFault}
 use Rattle.log.specs.Replay.{replayBy, replayLog, replay}
-use Rattle.log.specs.Recorded.{Recorded, Inside}
+use Rattle.log.specs.Recorded.{Recorded}
 use Rattle.log.specs.Replayed.{SafeLog}
 use Rattle.log.proofs.Runs.{steps-never, RunOf, replay-recorded, recorded-replay}
 use Rattle.log.proofs.Refusals.{refused-number, refused-row, RefusalOf, refusal-exact}

@@ -1,20 +1,17 @@
 -- A step has no fault exactly where each formula that is judged has the value that it has to have: of a list of faults, of one formula, of one variable.
-use mathlib.Core.Path.{_≡_, refl, sym, ap, _∙_, subst}
+use mathlib.Core.Path.{_≡_, refl, sym, ap, _∙_}
 use mathlib.Core.Bool.{Bool, true, false, true≢false}
-use mathlib.Core.List.{List, [], _∷_, _++_}
+use mathlib.Core.List.{List, [], _∷_}
 use Prim.Native.Nat.{ℕ}
 use native.Mathlib.Omega.{arith}
-use lib.Dec.{T, eqb}
+use lib.Dec.{eqb}
 use borrow.Author.Tests.{eqb-true, eq-eqb}
 use Rattle.lists.specs.Choice.{pick}
 use Rattle.lists.specs.All.{All, all-nil, all-cons}
-use Rattle.lists.proofs.All.{all-head, all-tail}
-use Rattle.formula.specs.Values.{ValueType, AnyValue, truth, wrap, equalValue}
-use Rattle.formula.specs.Tree.{Tree}
-use Rattle.formula.specs.Evaluate.{Env}
+use Rattle.formula.specs.Values.{AnyValue, equalValue}
 use Rattle.formula.proofs.Truth.{test-true, true-test}
-use Rattle.formula.proofs.Values.{wrap-injective, equal-value-eq, eq-equal-value}
-use Rattle.answer.specs.Answer.{Answer, value, outside, undefined, answer}
+use Rattle.formula.proofs.Values.{equal-value-eq, eq-equal-value}
+use Rattle.answer.specs.Answer.{Answer, value, outside, undefined}
 use Rattle.log.specs.Faults.{noFault, logFault, differs, faultOf, firstFault}
 
 -- no number of a list is a fault

@@ -1,29 +1,28 @@
 -- A formula has no fault where it is evaluated from the stored values exactly where a run reads it as it has to be and no term met leaves 64 bits; so of the formulas of
 -- a list and of the actions of a list of variables. The stored values and those of the run only have to agree on what the formulas mention.
 use Prim.Native.Nat.{ℕ}
-use mathlib.Core.Path.{_≡_, refl, sym, ap, ap₂, _∙_, subst}
-use mathlib.Core.Bool.{Bool, true, false}
+use mathlib.Core.Path.{_≡_, sym, ap, _∙_, subst}
+use mathlib.Core.Bool.{Bool, true}
 use mathlib.Core.List.{List, map}
 use mathlib.Core.Option.{some}
-use lib.Dec.{T, eqb, eqb→eq, eqb-refl}
-use Rattle.lists.specs.All.{All, In}
+use lib.Dec.{T, eqb, eqb→eq}
+use Rattle.lists.specs.All.{All}
 use Rattle.lists.proofs.All.{all-in, all-at, all-map, all-unmap}
 use Rattle.formula.specs.Values.{ValueType, AnyValue, truth, wrap}
 use Rattle.formula.specs.Tree.{Tree}
 use Rattle.formula.specs.Evaluate.{Env, readTree}
 use Rattle.formula.specs.Mentions.{mentions}
-use Rattle.formula.proofs.Truth.{true-test}
 use Rattle.formula.proofs.Values.{wrap-injective}
 use Rattle.formula.proofs.Mentions.{Agree}
-use Rattle.answer.specs.Answer.{value, answer}
+use Rattle.answer.specs.Answer.{answer}
 use Rattle.answer.specs.Met.{NoneLeaves}
 use Rattle.answer.proofs.Answer.{answer-reads, reads-answer}
 use Rattle.answer.proofs.Mentions.{answer-agree}
 use Rattle.table.specs.Rows.{Rows}
 use Rattle.machine.specs.Machine.{Action, unassigned, becomesEqual, becomesSuchThat, Machine}
-use Rattle.machine.specs.Described.{treeOf, machineOf}
+use Rattle.machine.specs.Described.{machineOf}
 use Rattle.run.specs.Run.{ReadsTrue, Allows}
-use Rattle.log.specs.Faults.{noFault, differs, faultOf, untrue, notAllowed}
+use Rattle.log.specs.Faults.{noFault, faultOf, untrue, notAllowed}
 use Rattle.log.specs.Recorded.{ActionInside}
 use Rattle.log.proofs.Faults.{differs-none, none-differs, fault-none, none-fault}
 use Rattle.log.proofs.Sight.{never, ActionSeen}

@@ -6,10 +6,9 @@ use mathlib.Core.Bool.{Bool, true, false, true≢false}
 use mathlib.Core.List.{List, [], _∷_, _++_, map, flatMap, append-assoc, append-nil}
 use native.Mathlib.Omega.{arith}
 use borrow.Author.Tests.{eqb-true, eqb-false, ltb-true, ltb-false, eq-eqb, ne-eqb, lt-ltb, le-ltb}
-use lib.Dec.{T, ltb, eqb}
+use lib.Dec.{ltb, eqb}
 use lib.ListN.{length, getD, take, drop, length-drop, length-append, length-take, take-append-drop, drop-of-length-le}
 use lib.Seq.{take-at, drop-at}
-use Rattle.lists.specs.Choice.{pick}
 use Rattle.lists.specs.All.{All, all-nil, all-cons}
 use Rattle.lists.proofs.All.{all-head, all-tail}
 use Rattle.row.specs.Row.{greatest, width, rowLength, rowBytes, Writable}

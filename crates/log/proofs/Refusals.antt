@@ -3,15 +3,15 @@
 use Prim.Native.Nat.{ℕ, zero, suc, _+_, _-_, _<_}
 use mathlib.Core.Path.{_≡_, refl, sym, ap, _∙_, subst}
 use mathlib.Core.Bool.{Bool, true, false, not}
-use mathlib.Core.List.{List, [], _∷_, _++_, map, append-nil}
+use mathlib.Core.List.{List, [], _∷_, _++_, map, map-map, append-nil}
 use mathlib.Core.Logic.{inl, inr, _↔_}
 use native.Mathlib.Omega.{arith}
 use lib.Dec.{T, eqb}
-use lib.ListN.{length, length-append}
+use lib.ListN.{length, length-append, length-map}
 use borrow.Author.Tests.{eqb-true, eqb-false, eq-eqb, ne-eqb}
 use Rattle.lists.specs.Choice.{pick}
 use Rattle.lists.specs.All.{All, In}
-use Rattle.lists.proofs.All.{all-tail, all-left, all-unmap}
+use Rattle.lists.proofs.All.{all-tail, all-left, all-unmap, map-same}
 use Rattle.lists.proofs.Distinct.{Distinct, pairwise-left}
 use Rattle.row.specs.declared.Row.{Row}
 use Rattle.row.specs.declared.Line.{Line}
@@ -38,7 +38,7 @@ use Rattle.log.proofs.Values.{LineFormed, Sized, valueAt, read-size, re
 use Rattle.log.proofs.Lines.{lines-none, lines-nothing, lines-formed, lines-open, open-lines}
 use Rattle.log.proofs.Steps.{Ready, LoggedAre, stored-logged, held-first, held-later, ready-next, logged-distinct, logged-small}
 use Rattle.log.proofs.BadRows.{Bad, BadBytes, bad-malformed, bad-whole, whole-bad, bad-bytes, bytes-bad, Stops, Stopped, read-stops, stops-read}
-use Rattle.log.proofs.Runs.{steps-never, map-same, map-map, map-length, StepRow, step-row, no-values}
+use Rattle.log.proofs.Runs.{steps-never, StepRow, step-row, no-values}
 
 pub refused-number : {m n i j : ℕ} → Refused m i ≡ Refused n j → m ≡ n
 refused-number {m} e = ap (λ (r : Replay). elim r [ Steps n ↦ m | Refused number row ↦ number ]) e
@@ -96,7 +96,7 @@ module _ (t : Rows) where
   pub begun-length : {first : Bool} {e : ℕ} {xs : List ℕ} {v : State machine} {more bytes : List ℕ} → Begun t first e xs v more bytes
       → length (lines bytes) ≡ suc (length xs + length (lines more))
   begun-length {xs = xs} {v = v} {more = more} b =
-      ap length (begun-lines b) ∙ ap suc (length-append (map (λ x. Whole (valueRow t x (v x))) xs) (lines more) ∙ ap (λ n. n + length (lines more)) (map-length _ xs))
+      ap length (begun-lines b) ∙ ap suc (length-append (map (λ x. Whole (valueRow t x (v x))) xs) (lines more) ∙ ap (λ n. n + length (lines more)) (length-map xs _))
 
   -- ---- the values at hand where a step begins: those of the constants and of the state before it, at the initialisation any
   abbrev At : Bool → Values → State machine → State machine → Type 0

@@ -2,22 +2,21 @@
 -- induction on the steps, one step at a time.
 use Prim.Native.Nat.{ℕ, zero, suc, _+_, _-_, _≤_, _<_}
 use mathlib.Core.Path.{_≡_, refl, sym, ap, ap₂, _∙_, subst}
-use mathlib.Core.Bool.{Bool, true, false, true≢false, not, _&&_, _||_, Bool·beq}
-use mathlib.Core.List.{List, [], _∷_, _++_, map, flatMap, append-assoc}
+use mathlib.Core.Bool.{Bool, true, false, true≢false, not, _&&_, Bool·beq}
+use mathlib.Core.List.{List, [], _∷_, _++_, map, flatMap, map-map, map-append}
 use native.Mathlib.Omega.{arith}
-use lib.Dec.{T, eqb, eqb→eq, not-T}
+use lib.Dec.{T, eqb, eqb→eq}
 use lib.IntN.{pos}
-use lib.ListN.{length, getD, replicate, length-append, length-replicate}
+use lib.ListN.{length, length-append, length-map, length-replicate}
 use borrow.Author.Tests.{eq-eqb, ne-eqb}
 use Rattle.lists.specs.Choice.{pick}
-use Rattle.lists.specs.All.{All, all-nil, In, here, there}
-use Rattle.lists.proofs.All.{all-in, all-at, all-head, all-tail, all-left, all-right, all-unmap}
-use Rattle.row.specs.Row.{greatest, width, rowBytes, Writable}
+use Rattle.lists.specs.All.{All, In}
+use Rattle.lists.proofs.All.{all-tail, all-left, all-right, all-unmap, map-same}
+use Rattle.row.specs.Row.{greatest, width, Writable}
 use Rattle.row.specs.declared.Row.{Row}
 use Rattle.row.specs.declared.Line.{Line}
 use Rattle.row.specs.declared.Line.the-variants.{Whole, Malformed}
-use Rattle.formula.specs.Values.{Value}
-use Rattle.formula.proofs.Truth.{and-split, and-join, true-test, test-true, eq→eqb, test-false}
+use Rattle.formula.proofs.Truth.{and-split, and-join, true-test, test-true, eq→eqb}
 use Rattle.answer.specs.Stored.{stored}
 use Rattle.table.specs.Rows.{Rows, named, machineNumber, classOf, refinedBy}
 use Rattle.machine.specs.Machine.{Role, abstractInitialisation, abstractOrdinary, concreteInitialisation, refining, convergent, anticipated, Machine}
@@ -44,22 +43,6 @@ steps-never e = true≢false (ap (λ (r : Replay). elim r [ Steps n ↦ false | 
 
 steps-are : {m n : ℕ} → Steps m ≡ Steps n → m ≡ n
 steps-are {m} e = ap (λ (r : Replay). elim r [ Steps n ↦ n | Refused number row ↦ m ]) e
-
-pub map-same : {A B : Type 0} (f g : A → B) (xs : List A) → ((x : A) → In x xs → f x ≡ g x) → map f xs ≡ map g xs
-map-same f g [] h = refl
-map-same f g (x ∷ xs) h = ap₂ _∷_ (h x (here refl)) (map-same f g xs (λ y i. h y (there i)))
-
-pub map-map : {A B C : Type 0} (f : B → C) (g : A → B) (xs : List A) → map f (map g xs) ≡ map (λ x. f (g x)) xs
-map-map f g [] = refl
-map-map f g (x ∷ xs) = ap (λ ys. f (g x) ∷ ys) (map-map f g xs)
-
-map-join : {A B : Type 0} (f : A → B) (xs ys : List A) → map f (xs ++ ys) ≡ map f xs ++ map f ys
-map-join f [] ys = refl
-map-join f (x ∷ xs) ys = ap (λ zs. f x ∷ zs) (map-join f xs ys)
-
-pub map-length : {A B : Type 0} (f : A → B) (xs : List A) → length (map f xs) ≡ length xs
-map-length f [] = refl
-map-length f (x ∷ xs) = ap suc (map-length f xs)
 
 beq-is : (a b : Bool) → T (Bool·beq a b) → a ≡ b
 beq-is true true h = refl
@@ -230,7 +213,7 @@ module _ (t : Rows) where
     passed-rows : (c q k : State machine) → LoggedAre t event (p .values) c q k → (rs : List Row) → p .rest ≡ map Whole rs → Whole r ∷ ls ≡ map Whole (stepRows t event c q k ++ rs)
     passed-rows c q k are rs h =
         ap₂ (λ r ls. Whole r ∷ ls) (passed-row .isRow)
-        (passed-lines ∙ ap₂ _++_ (value-lines event (p .values) c q k are) h ∙ sym (map-join Whole (map (λ x. valueRow t x (loggedValue t c q k x)) (logged t event)) rs))
+        (passed-lines ∙ ap₂ _++_ (value-lines event (p .values) c q k are) h ∙ sym (map-append Whole (map (λ x. valueRow t x (loggedValue t c q k x)) (logged t event)) rs))
 
   -- ---- the steps after the initialisation
   record Rest (c s : State machine) (ls : List Line) (n total : ℕ) : Type 0 where
@@ -276,7 +259,7 @@ module _ (t : Rows) where
       → map Whole (stepRows t e c q k ++ rs) ≡ Whole (stepRow e) ∷ (map (λ x. Whole (valueRow t x (loggedValue t c q k x))) (logged t e) ++ map Whole rs)
   step-lines e c q k rs =
       ap (λ ls. Whole (stepRow e) ∷ ls)
-      (map-join Whole (map (λ x. valueRow t x (loggedValue t c q k x)) (logged t e)) rs
+      (map-append Whole (map (λ x. valueRow t x (loggedValue t c q k x)) (logged t e)) rs
       ∙ ap (λ ls. ls ++ map Whole rs) (map-map Whole (λ x. valueRow t x (loggedValue t c q k x)) (logged t e)))
 
   module _ (ok : Obeys t) (i e : ℕ) (vs : Values) (c q k : State machine) (rs : List Row) (size : Sized vs) (writable : All (Writable greatest width) (stepRows t e c q k ++ rs)) where
@@ -398,7 +381,7 @@ module _ (t : Rows) where
   rows-length : (e : ℕ) (c q k : State machine) (rs : List Row) → suc (length rs) ≤ length (map Whole (stepRows t e c q k ++ rs))
   rows-length e c q k rs =
       let values : List Row = map (λ x. valueRow t x (loggedValue t c q k x)) (logged t e) in
-      let m = map-length Whole (stepRows t e c q k ++ rs) in
+      let m = length-map (stepRows t e c q k ++ rs) Whole in
       let a = length-append values rs in
       omega (arith, m, a)
 

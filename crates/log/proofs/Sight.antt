@@ -5,18 +5,18 @@ use mathlib.Core.Path.{_≡_, sym, _∙_, subst}
 use mathlib.Core.Bool.{Bool, false, not, _&&_, _||_}
 use mathlib.Core.List.{map}
 use lib.Dec.{T, eqb, eqb→eq, not-T}
-use Rattle.lists.specs.All.{All, In}
+use Rattle.lists.specs.All.{All}
 use Rattle.lists.proofs.All.{all-in, all-map}
 use Rattle.lists.proofs.Below.{some-found}
 use Rattle.formula.specs.Tree.{Tree}
 use Rattle.formula.specs.Mentions.{mentions}
 use Rattle.formula.proofs.Truth.{eq→eqb, and-split, and-join, or-right}
 use Rattle.formula.proofs.Mentions.{mentions-imp}
-use Rattle.table.specs.Rows.{Rows, named, section, kindOf, machineNumber, classOf}
+use Rattle.table.specs.Rows.{Rows, named, section, machineNumber, classOf}
 use Rattle.table.proofs.Sections.{section-row}
 use Rattle.machine.specs.Machine.{Action, unassigned, becomesEqual, becomesSuchThat}
 use Rattle.machine.specs.Described.{treeOf, sets, actionOf, belonging}
-use Rattle.machine.proofs.Described.{SetBy, action-row, belonging-row}
+use Rattle.machine.proofs.Described.{action-row, belonging-row}
 use Rattle.rules.specs.Sight.{hasKind, hasVariableKind, ownParameter, presentVariable, eventSees}
 use Rattle.rules.specs.Rules.{namedVariable}
 use Rattle.rules.proofs.Obeys.{Obeys}

@@ -2,34 +2,31 @@
 use Prim.Native.Nat.{ℕ, _+_}
 use mathlib.Core.Path.{_≡_, refl, sym, ap, _∙_, subst}
 use mathlib.Core.Bool.{Bool, true, false, not, _&&_, _||_}
-use mathlib.Core.List.{List, [], _∷_, _++_, map}
+use mathlib.Core.List.{List, [], _++_, map}
 use native.Mathlib.Omega.{arith}
 use lib.Dec.{T, eqb, eqb→eq}
 use lib.IntN.{ℤ}
 use Rattle.lists.specs.Choice.{pick}
 use Rattle.lists.specs.All.{All, all-nil, In}
 use Rattle.lists.proofs.All.{all-in, all-at, all-left, all-right, all-join, all-map, all-unmap}
-use Rattle.formula.specs.Tree.{Tree}
 use Rattle.formula.specs.Evaluate.{Env}
 use Rattle.formula.specs.Mentions.{mentions}
-use Rattle.formula.proofs.Truth.{and-split, and-join, or-cases, true-test, test-true}
+use Rattle.formula.proofs.Truth.{and-split, and-join, or-cases, test-true}
 use Rattle.formula.proofs.Mentions.{Agree}
-use Rattle.answer.specs.Met.{NoneLeaves}
 use Rattle.answer.specs.Stored.{stored, storedEnv}
 use Rattle.table.specs.Names.{isVariableOf}
 use Rattle.table.specs.Rows.{Rows, named, kindOf, ownerOf, machineNumber, classOf, refinedBy}
-use Rattle.machine.specs.Machine.{Action, Role, abstractInitialisation, abstractOrdinary, concreteInitialisation, refining, convergent, anticipated, Machine}
+use Rattle.machine.specs.Machine.{Role, abstractInitialisation, abstractOrdinary, concreteInitialisation, refining, convergent, anticipated, Machine}
 use Rattle.machine.specs.Described.{kindNumbered, roleNumbered, machineOf}
-use Rattle.machine.proofs.Described.{variable-named, named-variable}
+use Rattle.machine.proofs.Described.{variable-named}
 use Rattle.machine.proofs.Roles.{RoleSays}
-use Rattle.sequent.specs.Required.{ownVariables}
 use Rattle.rules.specs.Sight.{hasKind, hasVariableKind, ownParameter, presentVariable, eventSees}
 use Rattle.rules.proofs.Obeys.{Obeys}
 use Rattle.rules.proofs.Events.{event-says}
 use Rattle.rules.proofs.Identifiers.{parameter-owner}
-use Rattle.run.specs.Run.{byKind, State, blank, world, view, ReadsTrue, AllReadTrue, Allows, Step}
+use Rattle.run.specs.Run.{byKind, State, blank, world, AllReadTrue, Allows, Step}
 use Rattle.log.specs.Rows.{isInitial, isStateVariable}
-use Rattle.log.specs.Faults.{noFault, firstFault, untrue, notAllowed, stepFault}
+use Rattle.log.specs.Faults.{noFault, untrue, notAllowed, stepFault}
 use Rattle.log.specs.Recorded.{ActionInside, AllInside, StepInside, constantsAlone}
 use Rattle.log.proofs.Faults.{first-none, none-first}
 use Rattle.log.proofs.Sight.{never, sees, aConstant, ActionSeen, axioms-seen, guards-seen, action-seen}

@@ -1,43 +1,38 @@
 -- One step of a replay, both ways: a step that is read and has no fault is a step of the run with the values of its rows, and the rows of a step of the run are read
 -- and have no fault. The values at hand stay those of the constants and of the state that the last step left.
-use Prim.Native.Nat.{ℕ, suc, _+_, _≤_, _<_}
-use mathlib.Core.Path.{_≡_, refl, sym, ap, ap₂, _∙_, subst}
-use mathlib.Core.Bool.{Bool, true, false, true≢false, not, _&&_, _||_, Bool·beq}
-use mathlib.Core.List.{List, [], _∷_, _++_, map}
-use mathlib.Core.Logic.{_⊎_, inl, inr}
+use Prim.Native.Nat.{ℕ, _<_}
+use mathlib.Core.Path.{_≡_, refl, sym, ap, _∙_, subst}
+use mathlib.Core.Bool.{Bool, true, false, not, _&&_, _||_}
+use mathlib.Core.List.{List}
 use native.Mathlib.Omega.{arith}
-use lib.Dec.{T, eqb, eqb→eq, not-T}
-use lib.IntN.{ℤ, pos}
-use lib.ListN.{length, getD}
+use lib.Dec.{T, eqb, eqb→eq}
+use lib.IntN.{pos}
+use lib.ListN.{getD}
 use Rattle.lists.specs.Choice.{pick}
-use Rattle.lists.specs.All.{All, In, here, there}
-use Rattle.lists.specs.Below.{numbers, keep}
-use Rattle.lists.proofs.All.{all-in, all-at, all-right}
+use Rattle.lists.specs.All.{All, In}
+use Rattle.lists.specs.Below.{numbers}
+use Rattle.lists.proofs.All.{all-in}
 use Rattle.lists.proofs.Below.{keep-in, in-keep, numbers-in, in-numbers}
 use Rattle.lists.proofs.Distinct.{Distinct, pairwise-keep, numbers-distinct}
-use Rattle.row.specs.Row.{greatest, width, Writable}
-use Rattle.row.specs.declared.Row.{Row}
 use Rattle.row.specs.declared.Line.{Line}
-use Rattle.row.specs.declared.Line.the-variants.{Whole, Malformed}
-use Rattle.formula.specs.Values.{Value}
 use Rattle.formula.proofs.Truth.{and-split, and-join, or-cases, or-left, or-right, test-true, true-test, eq→eqb}
 use Rattle.answer.specs.Stored.{storedValue, stored}
 use Rattle.table.specs.Names.{isVariableOf}
-use Rattle.table.specs.Rows.{Rows, count, named, kindOf, ownerOf, machineNumber, classOf, refinedBy}
+use Rattle.table.specs.Rows.{Rows, count, named, kindOf, ownerOf}
 use Rattle.table.proofs.Sections.{named-bounds, bounds-named}
 use Rattle.machine.specs.Machine.{Machine}
 use Rattle.machine.specs.Described.{kindNumbered, machineOf}
-use Rattle.machine.proofs.Described.{variable-named, named-variable, event-named, named-event}
+use Rattle.machine.proofs.Described.{variable-named, named-variable}
 use Rattle.rules.specs.Sight.{ownParameter}
 use Rattle.rules.proofs.Obeys.{Obeys}
 use Rattle.rules.proofs.Full.{few-identifiers}
 use Rattle.rules.proofs.Identifiers.{parameter-owner}
 use Rattle.run.specs.Run.{byKind, State, blank}
-use Rattle.log.specs.Rows.{isStateVariable, isInitial, isGiven, logged, isStepRow}
-use Rattle.log.specs.Replay.{Values, Found, found, bad, readValues, moved}
-use Rattle.log.specs.Recorded.{valueRow, loggedValue, stepRows}
+use Rattle.log.specs.Rows.{isStateVariable, isInitial, isGiven, logged}
+use Rattle.log.specs.Replay.{Values, found, readValues, moved}
+use Rattle.log.specs.Recorded.{loggedValue}
 use Rattle.log.proofs.Step.{Held}
-use Rattle.log.proofs.Values.{LineFormed, Sized, valueAt, read-size, read-present, read-rows, Reads, rows-read, Moved, move-moved}
+use Rattle.log.proofs.Values.{Sized, valueAt, read-present, move-moved}
 
 -- ---- kinds: a variable isn't given, a constant is at the initialisation alone, a parameter at its event
 variable-not-given : (k : ℕ) (initial own : Bool) → T (isVariableOf 3 k) → pick initial (eqb k 1) (eqb k 5 && own) ≡ false

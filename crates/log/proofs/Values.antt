@@ -1,6 +1,6 @@
 -- Reading the rows 91 of a step: it finds values exactly where the rows are those of these values, and then each is stored in its place and nothing else changes.
 -- By induction on the identifiers.
-use Prim.Native.Nat.{ℕ, suc, _+_, _<_, _^_}
+use Prim.Native.Nat.{ℕ, _+_, _<_}
 use mathlib.Core.Path.{_≡_, refl, sym, ap, ap₂, _∙_, subst}
 use mathlib.Core.Bool.{Bool, true, false, true≢false, _&&_}
 use mathlib.Core.List.{List, [], _∷_, _++_, map}
@@ -9,10 +9,8 @@ use lib.Dec.{T, eqb, eqb→eq}
 use lib.IntN.{ℤ, pos}
 use lib.ListN.{length, getD, set, length-set}
 use lib.Seq.{getD-set-same, getD-set-other}
-use native.Mathlib.Decide.{ℕ-discrete}
 use Rattle.lists.specs.Choice.{pick}
-use Rattle.lists.specs.All.{All, all-nil, all-cons, In, here, there}
-use Rattle.lists.specs.Pairwise.{Pairwise}
+use Rattle.lists.specs.All.{All, In, here, there}
 use Rattle.lists.proofs.All.{all-head, all-tail, all-at, in-nil, in-cons, in-dec}
 use Rattle.lists.proofs.Distinct.{Distinct, pairwise-head, pairwise-tail}
 use Rattle.row.specs.Row.{greatest, width, Writable}
@@ -24,7 +22,7 @@ use Rattle.formula.proofs.Truth.{and-split, and-join, test-true, true-test, eq�
 use Rattle.answer.specs.Stored.{storedValue}
 use Rattle.table.specs.Rows.{Rows, typeOf}
 use Rattle.machine.specs.Machine.{Machine}
-use Rattle.machine.specs.Described.{typeNumbered, machineOf}
+use Rattle.machine.specs.Described.{machineOf}
 use Rattle.log.specs.Rows.{isGiven, isLogged, isValueRow}
 use Rattle.log.specs.Replay.{Values, Found, found, bad, storeBy, store, readValues, move}
 use Rattle.log.specs.Recorded.{loggedWord, valueRow}

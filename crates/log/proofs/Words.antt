@@ -1,14 +1,13 @@
 -- A logged value and its word: each gives the other back.
 use Prim.Native.Nat.{ℕ, zero, suc, _-_, _≤_, _<_, _^_}
-use mathlib.Core.Path.{_≡_, refl, sym, ap, _∙_}
+use mathlib.Core.Path.{_≡_, refl, ap, _∙_}
 use mathlib.Core.Bool.{Bool, true, false, not, _||_}
 use native.Mathlib.Omega.{arith}
 use lib.Dec.{T, ltb, leb, eqb}
 use lib.IntN.{ℤ, pos, negsuc, negℤ}
-use borrow.Author.Tests.{ltb-true, ltb-false, leb-true, lt-ltb, le-ltb, le-leb}
+use borrow.Author.Tests.{ltb-true, ltb-false, leb-true, lt-ltb, le-ltb}
 use Rattle.lists.specs.Choice.{pick}
 use Rattle.lists.specs.Below.{oneIf}
-use Rattle.number.specs.Number.{InRange}
 use Rattle.formula.specs.Values.{ValueType, integer, boolean, Value, wholeNumber, equalℤ}
 use Rattle.formula.proofs.Truth.{test-true}
 use Rattle.answer.specs.Stored.{storedValue}

@@ -1,6 +1,6 @@
 -- 02, request 5: what is wrong with a step whose values are known: "axioms at the initialisation, then guards, then each variable (assigned or not) in order,
 -- stopping at the first fault".
-use mathlib.Core.Bool.{Bool, true}
+use mathlib.Core.Bool.{true}
 use mathlib.Core.List.{List, [], _∷_, _++_, map}
 use Prim.Native.Nat.{ℕ}
 use lib.Dec.{eqb}

@@ -6,11 +6,10 @@ use mathlib.Core.List.{List, [], _∷_, _++_, map, flatMap}
 use Prim.Native.Nat.{ℕ, _+_}
 use lib.Dec.{T}
 use lib.ListN.{length}
-use Rattle.lists.specs.All.{All, In}
+use Rattle.lists.specs.All.{All}
 use Rattle.row.specs.Row.{greatest, width, rowBytes, Writable}
 use Rattle.row.specs.declared.Row.{Row}
 use Rattle.formula.specs.Values.{AnyValue, truth, wrap}
-use Rattle.formula.specs.Tree.{Tree}
 use Rattle.formula.specs.Evaluate.{Env}
 use Rattle.answer.specs.Answer.{value, outside, undefined, answer}
 use Rattle.answer.specs.Met.{NoneLeaves}
@@ -21,7 +20,7 @@ use Rattle.sequent.specs.Required.{ownVariables}
 use Rattle.run.specs.Run.{State, blank, view, ReadsTrue, AllReadTrue, Allows, Step}
 use Rattle.log.specs.Rows.{stepTag, isInitial, logged, isStepRow, isValueRow}
 use Rattle.log.specs.Faults.{outsideFault, undefinedFault, logFault}
-use Rattle.log.specs.Recorded.{valueRow, loggedValue, stepRows, constantsAlone, ActionInside, AllInside, StepInside}
+use Rattle.log.specs.Recorded.{valueRow, loggedValue, constantsAlone, ActionInside, AllInside, StepInside}
 
 -- "stopping at the first fault": of the members of a list, each of which is fine or has a fault
 pub data First {A : Type 0} (Fine : A → Type 0) (Fault : A → ℕ → Type 0) : List A → ℕ → Type 0 where

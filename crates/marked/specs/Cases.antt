@@ -1,7 +1,6 @@
 -- 01, Table L and marked cases: P1 to P10 as rows of one table: what the definitions give, and what 01 says, P1 to P3 as 02's request 4 has them; then replays of logs,
 -- and what 02's request 5 says. One proof computes them all.
 use Prim.Native.Nat.{ℕ, zero, suc, _-_}
-use mathlib.Core.Path.{_≡_, refl}
 use mathlib.Core.Bool.{Bool, true, false, _&&_}
 use mathlib.Core.List.{List, [], _∷_, _++_}
 use mathlib.Core.Option.{Option, none, some}

@@ -1,6 +1,6 @@
 -- Rows counted behind so many others: the same reply, with a later row. And a refusal's row is at most one behind the last.
 use Prim.Native.Nat.{ℕ, zero, suc, _+_, _-_, _≤_}
-use mathlib.Core.Path.{_≡_, refl, sym, ap, ap₂, subst, _∙_}
+use mathlib.Core.Path.{_≡_, refl, sym, ap, _∙_}
 use mathlib.Core.Bool.{Bool, true, false}
 use mathlib.Core.List.{List, [], _∷_}
 use native.Mathlib.Omega.{arith}
@@ -8,7 +8,6 @@ use borrow.Author.Tests.{ne-eqb}
 use lib.Dec.{eqb}
 use lib.ListN.{length}
 use Rattle.lists.specs.Choice.{pick}
-use Rattle.row.specs.declared.Row.{Row}
 use Rattle.row.specs.declared.Line.{Line}
 use Rattle.row.specs.declared.Line.the-variants.{Whole, Malformed}
 use Rattle.formula.specs.Values.{wholeNumber}
@@ -18,7 +17,7 @@ use Rattle.log.specs.declared.Replay.the-variants.{Steps, Refused}
 use Rattle.log.specs.Rows.{logged, isStepRow, isValueRow}
 use Rattle.log.specs.Faults.{noFault, logFault, stepFault}
 use Rattle.log.specs.Replay.{Values, Found, found, bad, store, readValues, moved, judged, replayFrom}
-use Rattle.log.proofs.Values.{read-first}
+use Rattle.log.proofs.Enough.{read-count}
 use Rattle.steps.specs.Parts.{laterRow, replayRest}
 
 -- ---- a later row
@@ -140,16 +139,6 @@ module _ (t : Rows) where
       go true = later vs ls refl
       go false = h
 
-  -- a row read for each identifier
-  read-rows : (e : ℕ) (xs : List ℕ) (i : ℕ) (ls : List Line) (vs ws : Values) (rest : List Line) → readValues t e xs i ls vs ≡ found ws rest → length xs + length rest ≡ length ls
-  unfolding readValues
-  read-rows e [] i ls vs ws rest h = let z : length ls ≡ length rest = ap (λ (f : Found). elim f [ found us ls ↦ length ls | bad i ↦ 0 ]) h in omega (arith, z)
-  read-rows e (x ∷ xs) i ls vs ws rest h =
-      let f = read-first t e x xs i ls vs ws rest h in
-      let k = read-rows e xs (i + 1) (f .others) (store t e x (wholeNumber (f .row .b)) vs) ws rest (f .then) in
-      let l = ap length (f .lines) in
-      omega (arith, k, l)
-
   from-within : (f n i : ℕ) (ls : List Line) (vs : Values) → row-of (replayFrom t f n i ls vs) ≤ i + length ls
   unfolding replayFrom row-of
   from-within zero n i ls vs = omega arith
@@ -176,7 +165,7 @@ module _ (t : Rows) where
           (let h = bad-within e (logged t e) (i + 1) ls vs in omega (arith, h))
           (λ ws rest q.
           let h = next rest (moved t ws) in
-          let l = read-rows e (logged t e) (i + 1) ls vs ws rest q in
+          let l = read-count t e (logged t e) (i + 1) ls vs ws rest q in
           omega (arith, h, l))
       go next false = omega arith
 

@@ -1,9 +1,9 @@
 -- One step of the replay as the code takes it: what its rows and its judgement come to is what the definition gives, and replaying on from there gives the rest.
 use mathlib.Core.Path.{_≡_, refl, sym, ap, ap₂, subst, _∙_}
 use mathlib.Core.Bool.{Bool, true, false}
-use mathlib.Core.List.{List, [], _∷_, _++_, append-nil}
+use mathlib.Core.List.{List, [], _++_}
 use mathlib.Core.Logic.{inl, inr}
-use Prim.Native.Nat.{ℕ, suc, _+_, _-_, _*_, _≤_, _<_}
+use Prim.Native.Nat.{ℕ, suc, _+_, _-_, _*_, _≤_}
 use native.Mathlib.Omega.{arith}
 use borrow.Author.Tests.{eq-eqb, ne-eqb}
 use lib.Dec.{eqb}
@@ -23,7 +23,7 @@ use Rattle.log.specs.declared.Replay.{Replay}
 use Rattle.log.specs.declared.Replay.the-variants as reply
 use Rattle.log.specs.Rows.{logged, isStepRow}
 use Rattle.log.specs.Faults.{noFault, logFault, stepFault}
-use Rattle.log.specs.Replay.{Values, Found, found, bad, readValues, moved, judged, replayFrom, replayLog, replayBy, replay}
+use Rattle.log.specs.Replay.{Values, Found, readValues, moved, judged, replayFrom, replayLog, replayBy, replay}
 use Rattle.values.specs.declared.Reached.{Reached}
 use Rattle.values.specs.declared.Reached.the-variants.{Next, Bad}
 use Rattle.values.specs.Values.{linesAt, rowAt, AtHand, readOn, ReadsValues, Reaches}

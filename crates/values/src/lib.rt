@@ -13,7 +13,6 @@ use table::identifier;
 use table::identifier_field;
 use table::is_variable_of;
 ghost use mathlib.Core.Path.{_≡_};
-ghost use mathlib.Core.List.{[]};
 ghost use Prim.Native.Nat.{_+_, _*_, _≤_};
 ghost use lib.IntN.{pos};
 ghost use lib.ListN.{length, getD, set};
@@ -23,9 +22,9 @@ ghost use Rattle.row.specs.Row.{width, rowLength};
 ghost use Rattle.table.specs.Rows.{rowsOf, kindOf};
 ghost use Rattle.table.specs.Counts.{countsOf};
 ghost use Rattle.log.specs.Rows.{isStateVariable, isInitial, isGiven, logged, isLogged, isValueRow};
-ghost use Rattle.log.specs.Replay.{storeBy, readValues, moved};
+ghost use Rattle.log.specs.Replay.{storeBy, moved};
 ghost use Rattle.formula.specs.Values.{wholeNumber};
-ghost use Rattle.values.specs.Values.{valuesOf, linesAt, rowAt, isWanted, ReadsValue, ReadsIdentifier, ReadsValues, Reaches};
+ghost use Rattle.values.specs.Values.{valuesOf, rowAt, isWanted, ReadsValue, ReadsIdentifier, ReadsValues, Reaches};
 
 // Where reading goes on, or the row that is bad: 0 where the run ends.
 pub enum Reached {
