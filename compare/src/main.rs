@@ -243,11 +243,14 @@ fn against_program(program: &str, count: u64, first: u64) -> Result<Vec<u8>, Str
     Ok(same.into_bytes())
 }
 
-/// Compares a program that replays a log of a table, each in a file, with this one on so many generated logs.
+/// Compares a program that replays a log of a table, each in a file, with this one on so many generated logs, then on the
+/// long ones.
 fn against_program_replay(program: &str, logs: u64, first: u64) -> Result<Vec<u8>, String> {
     let program = Replayer::new(Path::new(program), &[]);
     let same = program::replay::compare(&program, first, logs)?;
-    Ok(same.into_bytes())
+    let counts = program::long::compare(|table, log| program.output(table, log))?;
+    let long = counts.report() + "no difference\n";
+    Ok((same + &long).into_bytes())
 }
 
 /// Holds what a program prints for the models in these files and for the timed tables against the library's sequents: a line

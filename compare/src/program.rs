@@ -1,5 +1,6 @@
 //! Runs a program that reads a table from standard input and prints, and compares what it prints.
 
+pub mod long;
 pub mod replay;
 
 use crate::against::Services;
