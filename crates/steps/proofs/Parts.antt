@@ -165,7 +165,7 @@ replay-whole t run = refl
 -- ---- windows
 module _ (t : Rows) where
   -- a reply that is there doesn't turn on the bytes
-  reply-there : (before : ℕ) (r : Part) (run other : List ℕ) (ws : Values) → isMore t r ≡ false → partOn t before r run ws ≡ partOn t before r other ws
+  reply-there : (before : ℕ) (r : Part) (run other : List ℕ) (ws : Values) → isMore r ≡ false → partOn t before r run ws ≡ partOn t before r other ws
   unfolding partOn
   reply-there before (More n place) run other ws h = absurd (true≢false h)
   reply-there before (Ended steps) run other ws h = refl

@@ -22,6 +22,12 @@ use Rattle.steps.specs.declared.Part.the-variants.{More, Ended, Refused}
 abbrev pub laterRow : ℕ → ℕ → ℕ
 laterRow before row = pick (eqb row 0) 0 (before + row)
 
+-- whether more of the run is needed
+abbrev pub isMore : Part → Bool
+isMore (More n place) = true
+isMore (Ended steps) = false
+isMore (Refused number row) = false
+
 module _ (t : Rows) where
   -- replaying on after n steps, the next row being row i, with no bound on the steps: there are no more than rows
   unfoldable pub replayRest : ℕ → ℕ → List Line → Values → Replay
@@ -36,12 +42,6 @@ module _ (t : Rows) where
   -- a part of a run, its last one or one that more bytes follow, after n steps and so many rows, and replaying on
   abbrev pub ReplaysPart : ℕ → ℕ → List ℕ → Bool → Values → Part → Values → Type 0
   ReplaysPart n before part last vs r ws = (more : List ℕ) → (last ≡ true → more ≡ []) → partOn before r (part ++ more) ws ≡ replayRest n (before + 1) (lines (part ++ more)) vs
-
-  -- a part that isn't the whole of what is asked for
-  abbrev pub isMore : Part → Bool
-  isMore (More n place) = true
-  isMore (Ended steps) = false
-  isMore (Refused number row) = false
 
   -- How a program goes on, window by window: after n steps and so many rows, with a window of the run at hand and other bytes unread. It replays the window, which is the last one only
   -- where nothing is unread; where more is needed, the next window begins with what is left of this one.
