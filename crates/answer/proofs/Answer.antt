@@ -145,9 +145,6 @@ division-some o a b v e = go (divisionDefined o a b) e
 some-division : (o : Division) (a b : AnyValue) → divisionDefined o a b ≡ true → readDivision o a b ≡ some (divisionValue o a b)
 some-division o a b d = ap (λ x. pick x (some (divisionValue o a b)) none) d
 
-truth-never : {b : Bool} {z : ℤ} → truth b ≡ number z → ⊥
-truth-never e = true≢false (ap (λ (v : AnyValue). elim v [ number z ↦ false | truth b ↦ true ]) e)
-
 right-some : {C : Type 0} (o : Connective) (a : AnyValue) (r : Option AnyValue) (v : AnyValue) → readConnective o a r ≡ some v
     → (readsRight o (asTruth a) ≡ true → (b : AnyValue) → r ≡ some b → joined o a b ≡ v → C) → (readsRight o (asTruth a) ≡ false → decided o a ≡ v → C) → C
 right-some {C} o a r v e f g = go (readsRight o (asTruth a)) refl e

@@ -27,10 +27,6 @@ use Rattle.log.specs.Recorded.{ActionInside}
 use Rattle.log.proofs.Faults.{differs-none, none-differs, fault-none, none-fault}
 use Rattle.log.proofs.Sight.{never, ActionSeen}
 
--- two properties of every member
-pub all-both : {A : Type 0} {P Q : A → Type 0} (xs : List A) → All P xs → All Q xs → All (λ x. P x × Q x) xs
-all-both xs p q = all-in xs (λ x i. (all-at p i, all-at q i))
-
 -- fewer after values count: none, or that of one variable
 module _ {type : ℕ → ValueType} {P Q : ℕ → Bool} {ρ σ : Env type} (h : Agree P Q ρ σ) where
   pub agree-less : Agree P never ρ σ
