@@ -1,0 +1,4 @@
+pub mod State
+pub mod Choice
+pub mod Press
+pub mod Pressed
