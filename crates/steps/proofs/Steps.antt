@@ -26,8 +26,8 @@ use Rattle.log.specs.Faults.{noFault, logFault, stepFault}
 use Rattle.log.specs.Replay.{Values, Found, readValues, moved, judged, replayFrom, replayLog, replayBy, replay}
 use Rattle.values.specs.declared.Reached.{Reached}
 use Rattle.values.specs.declared.Reached.the-variants.{Next, Bad}
-use Rattle.values.specs.Values.{linesAt, rowAt, AtHand, readOn, ReadsValues, Reaches}
-use Rattle.values.proofs.Reading.{end-lines, malformed-lines, row-lines, next-place, logged-within}
+use Rattle.values.specs.Values.{wanted, linesAt, rowAt, AtHand, readOn, ReadsValues, Reaches}
+use Rattle.values.proofs.Reading.{end-lines, malformed-lines, row-lines, next-place, wanted-within, wanted-logged}
 use Rattle.steps.specs.declared.Progress.{Progress}
 use Rattle.steps.specs.declared.Progress.the-variants.{Going, Ended, Refused}
 use Rattle.steps.specs.Steps.{endedAfter, stepProgress, stepValues, replayOn, TakesStep, ReplaysStep, BeginsWithin}
@@ -49,7 +49,14 @@ module _ (t : Rows) where
         (sym (ap (λ b. pick b (Going next) (Refused fault i)) z), m ∙ sym (ap (λ b. pick b (moved t vs) vs) z))
 
   -- ---- a step whose rows are read
-  module _ (e i : ℕ) (run : List ℕ) (at : ℕ) (vs us : Values) (r : Reached) (reads : ReadsValues t e run at vs r us) (last : Reaches r run (at + rowLength width * length (logged t e))) where
+  module _ (e i : ℕ) (run : List ℕ) (at : ℕ) (vs us : Values) (r : Reached) (told : ReadsValues t e (wanted t false e) run at vs r us)
+      (end : Reaches r run (at + rowLength width * length (wanted t false e))) where
+    reads : ReadsValues t e (logged t e) run at vs r us
+    reads = subst (λ xs. ReadsValues t e xs run at vs r us) (wanted-logged t e) told
+
+    last : Reaches r run (at + rowLength width * length (logged t e))
+    last = subst (λ xs. Reaches r run (at + rowLength width * length xs)) (wanted-logged t e) end
+
     abbrev onward : ℕ → ℕ → List Line → Values → Replay
     onward most n rest us = replayFrom t most (n + 1) (rowAt at + length (logged t e)) rest us
 
@@ -135,7 +142,7 @@ module _ (t : Rows) where
         rows-at-hand = go hand
           where
             go : AtHand run at (1 + count t 10) more → AtHand run (p .at) (length (logged t (r .a))) more
-            go (inl h) = inl (omega (arith, h, place, logged-within t (r .a)))
+            go (inl h) = inl (let few = subst (λ xs. length xs ≤ count t 10) (wanted-logged t (r .a)) (wanted-within t false (r .a)) in omega (arith, h, place, few))
             go (inr h) = inr h
 
       pub row-within : p .at ≤ length run

@@ -109,7 +109,7 @@ fn take_step(
     ensures { λ r. ⌜ TakesStep (rowsOf (now (words .entry))) e row (now (run .entry)) (place .at) (valuesOf (now (present .entry)) (now (after .entry))) r (valuesOf (now (present .exit)) (now (after .exit))) ⌝ }
     ensures { λ r. ⌜ BeginsWithin r (place .at) (length (now (run .entry))) ⌝ }
 {
-    match read_values(words, table, run, e, place, present, after) {
+    match read_values(words, table, spans, false, run, e, place, present, after) {
         Reached::Bad(bad) => Progress::Refused(Replay::LOG, bad),
         Reached::Next(next) => judge_step(words, table, spans, e, row, next, present, after),
     }

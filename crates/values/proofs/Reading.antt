@@ -1,6 +1,6 @@
 -- What one row of a run makes of the reading: by what the reader finds at the place.
 use mathlib.Core.Path.{_≡_, refl, sym, ap, ap₂, subst, _∙_}
-use mathlib.Core.Bool.{Bool, true, false, _&&_}
+use mathlib.Core.Bool.{Bool, true, false, not, _&&_, _||_}
 use mathlib.Core.List.{List, [], _∷_, _++_, append-nil}
 use mathlib.Core.Logic.{inl, inr}
 use Prim.Native.Nat.{ℕ, _+_, _-_, _*_, _≤_, _<_}
@@ -10,7 +10,7 @@ use lib.Dec.{ltb, eqb}
 use lib.ListN.{length, take, drop, length-drop, length-append}
 use lib.Seq.{drop-drop, drop-append-le, take-append-le}
 use Rattle.lists.specs.Choice.{pick}
-use Rattle.lists.specs.Below.{oneIf}
+use Rattle.lists.specs.Below.{oneIf, first}
 use Rattle.row.specs.Row.{greatest, width, rowLength, part}
 use Rattle.row.specs.Reading.{lineAt, foundAt, readAt}
 use Rattle.row.specs.declared.Row.{Row}
@@ -20,14 +20,18 @@ use Rattle.row.specs.declared.Line.the-variants as line
 use Rattle.row.specs.declared.Read.{Read}
 use Rattle.row.specs.declared.Read.the-variants as read
 use Rattle.formula.specs.Values.{wholeNumber}
+use Rattle.table.specs.Names.{isVariableOf}
 use Rattle.table.specs.Rows.{Rows, count, kindOf, ownerOf}
+use Rattle.machine.specs.Machine.{unassigned, becomesEqual, becomesSuchThat}
+use Rattle.machine.specs.Described.{sets, actionOf}
 use Rattle.log.specs.Rows.{isInitial, isGiven, isValueRow, logged}
 use Rattle.log.specs.Replay.{Values, Found, bad, storeBy, readValues}
 use Rattle.log.specs.Lines.{lines}
 use Rattle.log.proofs.Lines.{lines-none, lines-torn, lines-whole}
+use Rattle.bench.specs.Choice.{isSuchThat, asked}
 use Rattle.values.specs.declared.Reached.{Reached}
 use Rattle.values.specs.declared.Reached.the-variants.{Next, Bad}
-use Rattle.values.specs.Values.{linesAt, rowAt, AtHand, isWanted, readOn, ReadsValue, ReadsIdentifier, ReadsValues, Reaches}
+use Rattle.values.specs.Values.{linesAt, rowAt, AtHand, isTold, isWanted, wanted, readOn, ReadsValue, ReadsIdentifier, ReadsValues, Reaches}
 use Rattle.values.proofs.Behind.{behind, behind-all, behind-next, behind-none, kept-within}
 
 -- a row that is stored, and one that isn't
@@ -169,46 +173,79 @@ module _ (t : Rows) (e x : ℕ) {i : Bool} {k : ℕ} (is : i ≡ isInitial t e) 
   pub given-owned : {o : ℕ} → i ≡ false → k ≡ 5 → o ≡ ownerOf t x → eqb o e ≡ isGiven t e x
   given-owned h parameter o = ap (λ o. eqb o e) o ∙ sym (given-by ∙ ap₂ given h (eq-eqb k 5 parameter))
 
-module _ (t : Rows) (e x : ℕ) (run : List ℕ) {w : Bool} (is : w ≡ isWanted t e x) where
+module _ (t : Rows) (pressing : Bool) (e x : ℕ) (run : List ℕ) {w : Bool} (is : w ≡ isWanted t pressing e x) where
   pub identifier-read : (at : ℕ) (vs : Values) (given : Bool) (r : Reached) (ws : Values) → w ≡ true → given ≡ isGiven t e x → ReadsValue t given x run at vs r ws → Reaches r run (at + rowLength width)
-      → ReadsIdentifier t e x run at vs r ws × Reaches r run (at + rowLength width * oneIf (isWanted t e x))
+      → ReadsIdentifier t pressing e x run at vs r ws × Reaches r run (at + rowLength width * oneIf (isWanted t pressing e x))
   identifier-read at vs given r ws h g reads next =
-      let wanted : isWanted t e x ≡ true = sym is ∙ h in (
-        λ more hand ys. reads more (subst (λ b. AtHand run at (oneIf b) more) wanted hand) e g ys
-            ∙ sym (ap (λ b. readValues t e (pick b (x ∷ ys) ys) (rowAt at) (linesAt (run ++ more) at) vs) wanted),
-        subst (λ b. Reaches r run (at + rowLength width * oneIf b)) (sym wanted) next,
+      let has : isWanted t pressing e x ≡ true = sym is ∙ h in (
+        λ more hand ys. reads more (subst (λ b. AtHand run at (oneIf b) more) has hand) e g ys
+            ∙ sym (ap (λ b. readValues t e (pick b (x ∷ ys) ys) (rowAt at) (linesAt (run ++ more) at) vs) has),
+        subst (λ b. Reaches r run (at + rowLength width * oneIf b)) (sym has) next,
       )
 
-  pub identifier-skipped : (p : Place) (vs : Values) → p .at ≤ length run → w ≡ false → ReadsIdentifier t e x run (p .at) vs (Next p) vs × Reaches (Next p) run (p .at + rowLength width * oneIf (isWanted t e x))
+  pub identifier-skipped : (p : Place) (vs : Values) → p .at ≤ length run → w ≡ false → ReadsIdentifier t pressing e x run (p .at) vs (Next p) vs × Reaches (Next p) run (p .at + rowLength width * oneIf (isWanted t pressing e x))
   unfolding readOn
   identifier-skipped p vs within h =
-      let wanted : isWanted t e x ≡ false = sym is ∙ h in (
-        λ more hand ys. sym (ap (λ b. readValues t e (pick b (x ∷ ys) ys) (rowAt (p .at)) (linesAt (run ++ more) (p .at)) vs) wanted),
-        (omega arith ∙ sym (ap (λ b. p .at + rowLength width * oneIf b) wanted), within),
+      let has : isWanted t pressing e x ≡ false = sym is ∙ h in (
+        λ more hand ys. sym (ap (λ b. readValues t e (pick b (x ∷ ys) ys) (rowAt (p .at)) (linesAt (run ++ more) (p .at)) vs) has),
+        (omega arith ∙ sym (ap (λ b. p .at + rowLength width * oneIf b) has), within),
       )
 
+-- what rows tell: a log of each variable, a choice of those of 52 actions
+pub wanted-logged : (t : Rows) (e : ℕ) → wanted t false e ≡ logged t e
+unfolding wanted logged
+wanted-logged t e = refl
+
+pub wanted-asked : (t : Rows) (e : ℕ) → wanted t true e ≡ asked t e
+unfolding wanted asked
+wanted-asked t e = refl
+
+-- a 52 is an action that isn't a 51
+pub such-that : (t : Rows) (e x : ℕ) {i n tag : ℕ} → i ≡ first (sets t e x) (t .size) 0 → n ≡ t .size → tag ≡ t .tag i → ltb i n && not (eqb tag 51) ≡ isSuchThat (actionOf t e x)
+unfolding actionOf
+such-that t e x {i} {n} {tag} p q r = ap₂ (λ n tag. ltb i n && not (eqb tag 51)) q r ∙ ap (λ i. ltb i (t .size) && not (eqb (t .tag i) 51)) p ∙ go (ltb k (t .size)) (eqb (t .tag k) 51)
+  where
+    k : ℕ
+    k = first (sets t e x) (t .size) 0
+
+    go : (a b : Bool) → (a && not b) ≡ isSuchThat (pick a (pick b (becomesEqual (t .c k)) (becomesSuchThat (t .c k))) unassigned)
+    go true true = refl
+    go true false = refl
+    go false b = refl
+
+-- whose after values rows tell
+module _ (t : Rows) (pressing : Bool) (e x : ℕ) {v : Bool} {k : ℕ} (variable : v ≡ isVariableOf 3 k) (kind : k ≡ kindOf t x) where
+  abbrev told : Bool → Bool
+  told pressing = (not pressing || isSuchThat (actionOf t e x)) && isVariableOf 3 (kindOf t x)
+
+  pub told-choice : {s : Bool} → pressing ≡ true → s ≡ isSuchThat (actionOf t e x) → (s && v) ≡ isTold t pressing e x
+  told-choice h s = ap₂ _&&_ s (variable ∙ ap (isVariableOf 3) kind) ∙ sym (ap told h)
+
+  pub told-log : pressing ≡ false → v ≡ isTold t pressing e x
+  told-log h = variable ∙ ap (isVariableOf 3) kind ∙ sym (ap told h)
+
 -- ---- the identifiers behind x
-module _ (t : Rows) (e : ℕ) where
+module _ (t : Rows) (pressing : Bool) (e : ℕ) where
   abbrev pub wantedFrom : ℕ → List ℕ
-  wantedFrom x = behind (isWanted t e) (count t 10) x
+  wantedFrom x = behind (isWanted t pressing e) (count t 10) x
 
   -- at most one row for each identifier
-  pub logged-within : length (logged t e) ≤ count t 10
-  unfolding logged
-  logged-within = kept-within (isWanted t e) (count t 10) 1
+  pub wanted-within : length (wanted t pressing e) ≤ count t 10
+  unfolding wanted
+  wanted-within = kept-within (isWanted t pressing e) (count t 10) 1
 
-  wanted-all : wantedFrom 0 ≡ logged t e
-  unfolding logged
-  wanted-all = behind-all (isWanted t e) (count t 10)
+  wanted-all : wantedFrom 0 ≡ wanted t pressing e
+  unfolding wanted
+  wanted-all = behind-all (isWanted t pressing e) (count t 10)
 
   -- what reading for all identifiers from a place on finds
   abbrev pub readsAll : List ℕ → ℕ → Values → List ℕ → Found
-  readsAll run at vs more = readValues t e (logged t e) (rowAt at) (linesAt (run ++ more) at) vs
+  readsAll run at vs more = readValues t e (wanted t pressing e) (rowAt at) (linesAt (run ++ more) at) vs
 
   -- reading on for those behind x gives that
   pub record Rest (run : List ℕ) (start : ℕ) (us : Values) (x at : ℕ) (vs : Values) : Type 0 where
-    pub reads : (more : List ℕ) → AtHand run start (length (logged t e)) more → readValues t e (wantedFrom x) (rowAt at) (linesAt (run ++ more) at) vs ≡ readsAll run start us more
-    pub place : at + rowLength width * length (wantedFrom x) ≡ start + rowLength width * length (logged t e)
+    pub reads : (more : List ℕ) → AtHand run start (length (wanted t pressing e)) more → readValues t e (wantedFrom x) (rowAt at) (linesAt (run ++ more) at) vs ≡ readsAll run start us more
+    pub place : at + rowLength width * length (wantedFrom x) ≡ start + rowLength width * length (wanted t pressing e)
     pub within : at ≤ length run
 
   module _ (run : List ℕ) where
@@ -220,41 +257,41 @@ module _ (t : Rows) (e : ℕ) where
     }
 
     module _ {start : ℕ} {us : Values} (x : ℕ) (h : x < count t 10) (at : ℕ) (vs : Values) (rest : Rest run start us x at vs) (r : Reached) (ws : Values)
-        (reads : ReadsIdentifier t e (x + 1) run at vs r ws) (next : Reaches r run (at + rowLength width * oneIf (isWanted t e (x + 1)))) where
-      rows-left : length (wantedFrom x) ≡ oneIf (isWanted t e (x + 1)) + length (wantedFrom (x + 1))
-      rows-left = ap length (behind-next (isWanted t e) (count t 10) x h) ∙ go (isWanted t e (x + 1))
+        (reads : ReadsIdentifier t pressing e (x + 1) run at vs r ws) (next : Reaches r run (at + rowLength width * oneIf (isWanted t pressing e (x + 1)))) where
+      rows-left : length (wantedFrom x) ≡ oneIf (isWanted t pressing e (x + 1)) + length (wantedFrom (x + 1))
+      rows-left = ap length (behind-next (isWanted t pressing e) (count t 10) x h) ∙ go (isWanted t pressing e (x + 1))
         where
           go : (b : Bool) → length (pick b ((x + 1) ∷ wantedFrom (x + 1)) (wantedFrom (x + 1))) ≡ oneIf b + length (wantedFrom (x + 1))
           go true = omega arith
           go false = omega arith
 
-      at-hand : (more : List ℕ) → AtHand run start (length (logged t e)) more → AtHand run at (oneIf (isWanted t e (x + 1))) more
+      at-hand : (more : List ℕ) → AtHand run start (length (wanted t pressing e)) more → AtHand run at (oneIf (isWanted t pressing e (x + 1))) more
       at-hand more (inl k) = inl (omega (arith, k, rows-left, rest .place))
       at-hand more (inr k) = inr k
 
-      whole : (more : List ℕ) → AtHand run start (length (logged t e)) more → readOn t r e (wantedFrom (x + 1)) (run ++ more) ws ≡ readsAll run start us more
+      whole : (more : List ℕ) → AtHand run start (length (wanted t pressing e)) more → readOn t r e (wantedFrom (x + 1)) (run ++ more) ws ≡ readsAll run start us more
       whole more hand =
           reads more (at-hand more hand) (wantedFrom (x + 1))
-          ∙ sym (ap (λ xs. readValues t e xs (rowAt at) (linesAt (run ++ more) at) vs) (behind-next (isWanted t e) (count t 10) x h)) ∙ rest .reads more hand
+          ∙ sym (ap (λ xs. readValues t e xs (rowAt at) (linesAt (run ++ more) at) vs) (behind-next (isWanted t pressing e) (count t 10) x h)) ∙ rest .reads more hand
 
       pub rest-next : (p : Place) → r ≡ Next p → Rest run start us (x + 1) (p .at) ws
       unfolding readOn
       rest-next p q =
-          let k = subst (λ r. Reaches r run (at + rowLength width * oneIf (isWanted t e (x + 1)))) q next in
+          let k = subst (λ r. Reaches r run (at + rowLength width * oneIf (isWanted t pressing e (x + 1)))) q next in
           record {
             reads = λ more hand. ap (λ r. readOn t r e (wantedFrom (x + 1)) (run ++ more) ws) (sym q) ∙ whole more hand;
             place = (let e = k .0 in omega (arith, e, rows-left, rest .place));
             within = k .1;
           }
 
-      pub rest-bad : (row : ℕ) → r ≡ Bad row → ReadsValues t e run start us (Bad row) ws
+      pub rest-bad : (row : ℕ) → r ≡ Bad row → ReadsValues t e (wanted t pressing e) run start us (Bad row) ws
       unfolding readOn
       rest-bad row q more hand = ap (λ r. readOn t r e (wantedFrom (x + 1)) (run ++ more) ws) (sym q) ∙ whole more hand
 
     pub rest-end : {start : ℕ} {us : Values} (x : ℕ) (p : Place) (vs : Values) → count t 10 ≤ x → Rest run start us x (p .at) vs
-        → ReadsValues t e run start us (Next p) vs × Reaches (Next p) run (start + rowLength width * length (logged t e))
+        → ReadsValues t e (wanted t pressing e) run start us (Next p) vs × Reaches (Next p) run (start + rowLength width * length (wanted t pressing e))
     unfolding readOn
     rest-end x p vs h rest = (
-      λ more hand. ap (λ xs. readValues t e xs (rowAt (p .at)) (linesAt (run ++ more) (p .at)) vs) (sym (behind-none (isWanted t e) (count t 10) x h)) ∙ rest .reads more hand,
-      (let z = ap length (behind-none (isWanted t e) (count t 10) x h) in (omega (arith, z, rest .place), rest .within)),
+      λ more hand. ap (λ xs. readValues t e xs (rowAt (p .at)) (linesAt (run ++ more) (p .at)) vs) (sym (behind-none (isWanted t pressing e) (count t 10) x h)) ∙ rest .reads more hand,
+      (let z = ap length (behind-none (isWanted t pressing e) (count t 10) x h) in (omega (arith, z, rest .place), rest .within)),
     )

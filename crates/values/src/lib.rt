@@ -5,6 +5,7 @@ use reader::next_row;
 use row::Place;
 use row::Read;
 use row::Row;
+use scan::action_row;
 use signed::of_word;
 use table::Table;
 use table::event;
@@ -12,6 +13,9 @@ use table::event_field;
 use table::identifier;
 use table::identifier_field;
 use table::is_variable_of;
+use table::size;
+use table::tag;
+use table::tag_at;
 ghost use mathlib.Core.Path.{_≡_};
 ghost use Prim.Native.Nat.{_+_, _*_, _≤_};
 ghost use lib.IntN.{pos};
@@ -21,10 +25,13 @@ ghost use Rattle.lists.specs.Choice.{pick};
 ghost use Rattle.row.specs.Row.{width, rowLength};
 ghost use Rattle.table.specs.Rows.{rowsOf, kindOf};
 ghost use Rattle.table.specs.Counts.{countsOf};
-ghost use Rattle.log.specs.Rows.{isStateVariable, isInitial, isGiven, logged, isLogged, isValueRow};
+ghost use Rattle.scan.specs.Spans.{Spanned};
+ghost use Rattle.machine.specs.Described.{actionOf};
+ghost use Rattle.log.specs.Rows.{isStateVariable, isInitial, isGiven, isLogged, isValueRow};
 ghost use Rattle.log.specs.Replay.{storeBy, moved};
 ghost use Rattle.formula.specs.Values.{wholeNumber};
-ghost use Rattle.values.specs.Values.{valuesOf, rowAt, isWanted, ReadsValue, ReadsIdentifier, ReadsValues, Reaches};
+ghost use Rattle.bench.specs.Choice.{isSuchThat};
+ghost use Rattle.values.specs.Values.{valuesOf, rowAt, isTold, isWanted, wanted, ReadsValue, ReadsIdentifier, ReadsValues, Reaches};
 
 // Where reading goes on, or the row that is bad: 0 where the run ends.
 pub enum Reached {
@@ -154,10 +161,33 @@ fn read_value(
     }
 }
 
+// Whether the action of the event e for the identifier x is a 52.
+fn is_such_that(words: &[u64], spans: &[usize], e: u64, x: u64) -> bool
+    requires { ⌜ Spanned (rowsOf (now words)) (now spans) ⌝ }
+    ensures { λ r. ⌜ r ≡ isSuchThat (actionOf (rowsOf (now (words .entry))) e x) ⌝ }
+{
+    let i = action_row(words, spans, e, x);
+    (i < size(words)) & !(tag_at(words, i) == tag::BECOMES_EQUAL)
+}
+
+// Whether the rows tell the after value of an identifier of this kind: a log that of each variable, a choice for a press that of a 52 alone.
+fn is_told(words: &[u64], spans: &[usize], pressing: bool, kind: u64, e: u64, x: u64) -> bool
+    requires { ⌜ Spanned (rowsOf (now words)) (now spans) × (kind ≡ kindOf (rowsOf (now words)) x) ⌝ }
+    ensures { λ r. ⌜ r ≡ isTold (rowsOf (now (words .entry))) pressing e x ⌝ }
+{
+    let variable = is_variable_of(identifier::CONCRETE_VARIABLE, kind);
+    if pressing {
+        return is_such_that(words, spans, e, x) & variable;
+    }
+    variable
+}
+
 // The same of an identifier that may have none.
 fn read_identifier(
     words: &[u64],
     table: Table,
+    spans: &[usize],
+    pressing: bool,
     run: &[u8],
     initial: bool,
     e: u64,
@@ -166,38 +196,52 @@ fn read_identifier(
     present: &mut [i64],
     after: &mut [i64],
 ) -> Reached
-    requires { ⌜ (table ≡ countsOf (rowsOf (now words))) × (initial ≡ isInitial (rowsOf (now words)) e) × (place .at ≤ length (now run)) ⌝ }
-    ensures { λ r. ⌜ ReadsIdentifier (rowsOf (now (words .entry))) e x (now (run .entry)) (place .at) (valuesOf (now (present .entry)) (now (after .entry))) r (valuesOf (now (present .exit)) (now (after .exit))) ⌝ }
-    ensures { λ r. ⌜ Reaches r (now (run .entry)) (place .at + rowLength width * oneIf (isWanted (rowsOf (now (words .entry))) e x)) ⌝ }
+    requires { ⌜ (table ≡ countsOf (rowsOf (now words))) × Spanned (rowsOf (now words)) (now spans) × (initial ≡ isInitial (rowsOf (now words)) e) × (place .at ≤ length (now run)) ⌝ }
+    ensures { λ r. ⌜ ReadsIdentifier (rowsOf (now (words .entry))) pressing e x (now (run .entry)) (place .at) (valuesOf (now (present .entry)) (now (after .entry))) r (valuesOf (now (present .exit)) (now (after .exit))) ⌝ }
+    ensures { λ r. ⌜ Reaches r (now (run .entry)) (place .at + rowLength width * oneIf (isWanted (rowsOf (now (words .entry))) pressing e x)) ⌝ }
 {
     let kind = identifier_field(words, table, x, Table::KIND);
     let given = is_given(words, table, initial, kind, e, x);
-    if given | is_variable_of(identifier::CONCRETE_VARIABLE, kind) {
+    if given | is_told(words, spans, pressing, kind, e, x) {
         return read_value(words, table, run, given, x, place, present, after);
     }
     Reached::Next(place)
 }
 
-// Reads the rows 91 of a step of the event e, "in identifier order".
+// Reads the rows 91 of a step of the event e, "in identifier order": those of a log, or those of a choice for a press.
 pub fn read_values(
     words: &[u64],
     table: Table,
+    spans: &[usize],
+    pressing: bool,
     run: &[u8],
     e: u64,
     place: Place,
     present: &mut [i64],
     after: &mut [i64],
 ) -> Reached
-    requires { ⌜ (table ≡ countsOf (rowsOf (now words))) × (place .at ≤ length (now run)) ⌝ }
-    ensures { λ r. ⌜ ReadsValues (rowsOf (now (words .entry))) e (now (run .entry)) (place .at) (valuesOf (now (present .entry)) (now (after .entry))) r (valuesOf (now (present .exit)) (now (after .exit))) ⌝ }
-    ensures { λ r. ⌜ Reaches r (now (run .entry)) (place .at + rowLength width * length (logged (rowsOf (now (words .entry))) e)) ⌝ }
+    requires { ⌜ (table ≡ countsOf (rowsOf (now words))) × Spanned (rowsOf (now words)) (now spans) × (place .at ≤ length (now run)) ⌝ }
+    ensures { λ r. ⌜ ReadsValues (rowsOf (now (words .entry))) e (wanted (rowsOf (now (words .entry))) pressing e) (now (run .entry)) (place .at) (valuesOf (now (present .entry)) (now (after .entry))) r (valuesOf (now (present .exit)) (now (after .exit))) ⌝ }
+    ensures { λ r. ⌜ Reaches r (now (run .entry)) (place .at + rowLength width * length (wanted (rowsOf (now (words .entry))) pressing e)) ⌝ }
 {
     let initial = is_initial(words, table, e);
     let mut place = place;
     let mut x = 0;
     while x < table.identifiers {
         x += 1;
-        match read_identifier(words, table, run, initial, e, x, place, present, after) {
+        match read_identifier(
+            words,
+            table,
+            spans,
+            pressing,
+            run,
+            initial,
+            e,
+            x,
+            place,
+            present,
+            after,
+        ) {
             Reached::Next(next) => {
                 place = next;
             }
