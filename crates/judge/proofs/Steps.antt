@@ -1,12 +1,12 @@
 -- The faults of a step, as the code goes through them: those of the axioms and guards row by row, those of the variables identifier by identifier.
 use mathlib.Core.Path.{_≡_, refl, sym, ap, ap₂, _∙_}
 use mathlib.Core.Bool.{Bool, true, false, _&&_}
-use mathlib.Core.List.{List, [], map, map-map}
+use mathlib.Core.List.{List, [], _∷_, map, map-map}
 use Prim.Native.Nat.{ℕ, suc, _≤_}
 use lib.Dec.{eqb, ltb}
 use lib.IntN.{ℤ, pos}
 use lib.ListN.{getD}
-use borrow.Author.Tests.{le-ltb, lt-ltb, eq-eqb, ne-eqb}
+use borrow.Author.Tests.{le-ltb, lt-ltb, eq-eqb, ne-eqb, eqb-true}
 use Rattle.lists.specs.Choice.{pick}
 use Rattle.lists.specs.Below.{first, numbers}
 use Rattle.lists.proofs.All.{map-same}
@@ -20,12 +20,20 @@ use Rattle.machine.specs.Machine.{Action, unassigned, becomesEqual, becomesSuch
 use Rattle.machine.specs.Described.{typeNumbered, treeOf, sets, actionOf, belonging, variablesOf, machineOf}
 use Rattle.log.specs.Rows.{isInitial}
 use Rattle.log.specs.Faults.{noFault, firstFault, untrue, notAllowed, stepFault, faultOf, differs}
+use Rattle.bench.specs.Press.{pressFault}
 use Rattle.judge.specs.Judge.{faultOr, rootFault, rowFault, firstUntrue, actionFault, firstNotAllowed}
 use Rattle.judge.proofs.Faults.{first-join, first-keep}
 
 and-true : (b : Bool) → (b && true) ≡ b
 and-true true = refl
 and-true false = refl
+
+alone : (f : ℕ) → faultOr f noFault ≡ f
+alone f = go (eqb f noFault) refl
+  where
+    go : (b : Bool) → eqb f noFault ≡ b → pick b noFault f ≡ f
+    go true h = sym (eqb-true f noFault h)
+    go false h = refl
 
 -- an axiom or a guard
 pub root-fault-is : (t : Rows) (present : List ℤ) (r : ℕ) → faultOf (truth true) (answer (storedEnv (machineOf t .type) present []) (treeOf t r)) ≡ rootFault t present r
@@ -65,6 +73,10 @@ module _ (t : Rows) (e : ℕ) (present after : List ℤ) where
       initially true = axioms-first
       initially false = refl
 
+  pub press-faults : pressFault t e present after ≡ faultOr (firstUntrue t present 30 e) (stepFault t e present after)
+  unfolding pressFault firstFault
+  press-faults = first-join (map root (machine .axioms)) (stepFault t e present after ∷ []) ∙ ap₂ faultOr axioms-first (alone (stepFault t e present after))
+
   -- ---- a variable's action, from the row that was found
   module _ (x i : ℕ) (found : i ≡ first (sets t e x) (t .size) 0) where
     abbrev typed : ℤ → AnyValue
@@ -93,14 +105,21 @@ module _ (t : Rows) (e : ℕ) (present after : List ℤ) where
     unfolding actionFault notAllowed untrue machineOf
     such-fault h k = sym (ap fault (of-row true false (lt-ltb i (t .size) h) (ne-eqb (t .tag i) 51 k)))
 
--- of three faults, the first that is one
+-- of two faults, the first that is one
+module _ {x a : ℕ} (b : ℕ) (p : x ≡ a) where
+  pub former : (x ≡ 0 → ⊥) → x ≡ faultOr a b
+  former h = p ∙ sym (ap (λ t. pick t b a) (ne-eqb a 0 (λ z. h (p ∙ z))))
+
+  pub latter : x ≡ 0 → b ≡ faultOr a b
+  latter z = sym (ap (λ t. pick t b a) (eq-eqb a 0 (sym p ∙ z)))
+
+-- of three
 module _ {x a : ℕ} (c : ℕ) (p : x ≡ a) where
   pub first-of : (b : ℕ) → (x ≡ 0 → ⊥) → x ≡ faultOr a (faultOr b c)
-  first-of b h = p ∙ sym (ap (λ t. pick t (faultOr b c) a) (ne-eqb a 0 (λ z. h (p ∙ z))))
+  first-of b h = former (faultOr b c) p h
 
   pub second-of : {y b : ℕ} → x ≡ 0 → y ≡ b → (y ≡ 0 → ⊥) → y ≡ faultOr a (faultOr b c)
-  second-of {b = b} z q h =
-      q ∙ sym (ap (λ t. pick t (faultOr b c) a) (eq-eqb a 0 (sym p ∙ z)) ∙ ap (λ t. pick t c b) (ne-eqb b 0 (λ w. h (q ∙ w))))
+  second-of {b = b} z q h = former c q h ∙ latter (faultOr b c) p z
 
   pub third-of : {y b : ℕ} → x ≡ 0 → y ≡ b → y ≡ 0 → c ≡ faultOr a (faultOr b c)
-  third-of {b = b} z q w = sym (ap (λ t. pick t (faultOr b c) a) (eq-eqb a 0 (sym p ∙ z)) ∙ ap (λ t. pick t c b) (eq-eqb b 0 (sym q ∙ w)))
+  third-of {b = b} z q w = latter c q w ∙ latter (faultOr b c) p z

@@ -31,6 +31,7 @@ ghost use Rattle.signed.specs.Found.{answerOf};
 ghost use Rattle.operands.specs.Operands.{valueOf};
 ghost use Rattle.log.specs.Rows.{isInitial};
 ghost use Rattle.log.specs.Faults.{differs, faultOf, stepFault};
+ghost use Rattle.bench.specs.Press.{pressFault};
 ghost use Rattle.judge.specs.Judge.{isJudged, judgedRoot, rootFault, rowFault, firstUntrue, actionFault, variableFault, firstNotAllowed};
 
 // Values that have to be equal.
@@ -242,4 +243,23 @@ pub fn step_fault(
         return guard;
     }
     first_not_allowed(words, table, spans, present, after, e)
+}
+
+// The first fault of a step of the event e that is pressed: "by replay's rules, axioms read first each time".
+pub fn press_fault(
+    words: &[u64],
+    table: Table,
+    spans: &[usize],
+    present: &[i64],
+    after: &[i64],
+    e: u64,
+) -> u64
+    requires { ⌜ (table ≡ countsOf (rowsOf (now words))) × Spanned (rowsOf (now words)) (now spans) ⌝ }
+    ensures { λ r. ⌜ r ≡ pressFault (rowsOf (now (words .entry))) e (now (present .entry)) (now (after .entry)) ⌝ }
+{
+    let axiom = first_untrue(words, table, spans, present, tag::AXIOM, e);
+    if axiom != 0 {
+        return axiom;
+    }
+    step_fault(words, table, spans, present, after, e)
 }

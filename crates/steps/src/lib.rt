@@ -2,7 +2,6 @@
 // definition and no term met leaves signed 64 bits."
 use judge::step_fault;
 use log::Replay;
-use log::tags;
 use nodes::fill_notes;
 use reader::next_row;
 use row::Place;
@@ -11,11 +10,8 @@ use row::Row;
 use rules::Verdict;
 use scan::Span;
 use table::Table;
-use table::event;
-use table::event_field;
-use table::named_event;
 use values::Reached;
-use values::is_initial;
+use values::is_step_row;
 use values::move_values;
 use values::read_values;
 use values::row_number;
@@ -33,7 +29,6 @@ ghost use Rattle.scan.specs.Spans.{Spanned};
 ghost use Rattle.nodes.specs.Notes.{Noted};
 ghost use Rattle.rules.specs.Verdict.{judge as judgeOf};
 ghost use Rattle.log.specs.Lines.{lines};
-ghost use Rattle.log.specs.Rows.{isStepRow};
 ghost use Rattle.log.specs.Replay.{replayLog, replayBy, replay as replayOf};
 ghost use Rattle.values.specs.Values.{valuesOf};
 ghost use Rattle.steps.specs.Steps.{endedAfter, stepProgress, stepValues, TakesStep, ReplaysStep, BeginsWithin};
@@ -44,20 +39,6 @@ pub enum Progress {
     Going(Place),
     Ended(u64),
     Refused(u64, u64),
-}
-
-// Whether a row is the row 90 of a step: the concrete initialisation first, then concrete events that are none.
-fn is_step_row(words: &[u64], table: Table, first: bool, row: Row) -> bool
-    requires { ⌜ table ≡ countsOf (rowsOf (now words)) ⌝ }
-    ensures { λ r. ⌜ r ≡ isStepRow (rowsOf (now (words .entry))) first row ⌝ }
-{
-    let e = row.a;
-    let named = named_event(words, table, e);
-    let machine = event_field(words, table, e, Table::MACHINE);
-    let initial = is_initial(words, table, e);
-    (row.tag == tags::STEP)
-        & ((named & ((machine == event::CONCRETE) & (initial == first)))
-            & ((row.b == 0) & (row.c == 0)))
 }
 
 // The end of the run after n steps, the initialisation among them.

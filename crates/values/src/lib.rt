@@ -1,4 +1,5 @@
-// 02, request 5: the values of a step, "rows 91 (identifier, value; booleans 0 or 1) .. in identifier order", read from a run and stored by identifier.
+// 02, request 5: the rows of a step: row 90, and its values, "rows 91 (identifier, value; booleans 0 or 1) .. in identifier order", read from a run and stored by
+// identifier.
 use evaluate::value_at;
 use log::tags;
 use reader::next_row;
@@ -13,6 +14,7 @@ use table::event_field;
 use table::identifier;
 use table::identifier_field;
 use table::is_variable_of;
+use table::named_event;
 use table::size;
 use table::tag;
 use table::tag_at;
@@ -27,7 +29,7 @@ ghost use Rattle.table.specs.Rows.{rowsOf, kindOf};
 ghost use Rattle.table.specs.Counts.{countsOf};
 ghost use Rattle.scan.specs.Spans.{Spanned};
 ghost use Rattle.machine.specs.Described.{actionOf};
-ghost use Rattle.log.specs.Rows.{isStateVariable, isInitial, isGiven, isLogged, isValueRow};
+ghost use Rattle.log.specs.Rows.{isStateVariable, isInitial, isGiven, isLogged, isStepRow, isValueRow};
 ghost use Rattle.log.specs.Replay.{storeBy, moved};
 ghost use Rattle.formula.specs.Values.{wholeNumber};
 ghost use Rattle.bench.specs.Choice.{isSuchThat};
@@ -57,11 +59,25 @@ fn put(values: &mut [i64], x: u64, value: i64)
 }
 
 // Whether an event is an initialisation.
-pub fn is_initial(words: &[u64], table: Table, e: u64) -> bool
+fn is_initial(words: &[u64], table: Table, e: u64) -> bool
     requires { ⌜ table ≡ countsOf (rowsOf (now words)) ⌝ }
     ensures { λ r. ⌜ r ≡ isInitial (rowsOf (now (words .entry))) e ⌝ }
 {
     event_field(words, table, e, Table::CLASS) == event::INITIALISATION
+}
+
+// Whether a row is the row 90 of a step: the concrete initialisation first, then concrete events that are none.
+pub fn is_step_row(words: &[u64], table: Table, first: bool, row: Row) -> bool
+    requires { ⌜ table ≡ countsOf (rowsOf (now words)) ⌝ }
+    ensures { λ r. ⌜ r ≡ isStepRow (rowsOf (now (words .entry))) first row ⌝ }
+{
+    let e = row.a;
+    let named = named_event(words, table, e);
+    let machine = event_field(words, table, e, Table::MACHINE);
+    let initial = is_initial(words, table, e);
+    (row.tag == tags::STEP)
+        & ((named & ((machine == event::CONCRETE) & (initial == first)))
+            & ((row.b == 0) & (row.c == 0)))
 }
 
 // What is logged beside the variables: "constants .. after initialisation, else the event's parameters". Only a parameter's owner is looked up.

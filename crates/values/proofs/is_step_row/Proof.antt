@@ -4,8 +4,8 @@ use mathlib.Core.Bool.{_&&_, Bool·beq}
 use lib.Dec.{eqb}
 use borrow.Author.Needs.{needs}
 use Rattle.table.specs.Rows.{rowsOf, named}
-use Rattle.steps.proofs.is_step_row.Statement.{statement}
-use Rattle.steps.proofs.is_step_row.Tie as tie
+use Rattle.values.proofs.is_step_row.Statement.{statement}
+use Rattle.values.proofs.is_step_row.Tie as tie
 
 pub is-step-row-spec : {M : Type 1} → statement M
 is-step-row-spec = tie.close (tie.spec
