@@ -1,11 +1,11 @@
 -- 02, request 6: "The state is a lent list of records, one for each identifier, with value (signed 64 bits) and type." The value of identifier x stands in place x − 1 of
 -- the list of values, its type in that of the types.
 use mathlib.Core.Bool.{Bool, not, _&&_, _||_}
-use mathlib.Core.List.{List, [], _∷_, map}
+use mathlib.Core.List.{List, [], _∷_, _++_, map}
 use Prim.Native.Nat.{ℕ, _-_}
 use lib.Dec.{eqb}
 use lib.IntN.{ℤ, pos}
-use lib.ListN.{length, getD}
+use lib.ListN.{length, getD, take, drop, replicate}
 use Rattle.lists.specs.Choice.{pick}
 use Rattle.lists.specs.Below.{numbers}
 use Rattle.lists.specs.Different.{someOf}
@@ -25,9 +25,13 @@ typesIn rs = map (λ r. r .sort) rs
 abbrev pub valueOf : List ℤ → ℕ → ℤ
 valueOf zs x = getD zs (x - 1) (pos 0)
 
+-- values in the first places of a list, as many as it has
+unfoldable pub laid : List ℤ → List ℤ → List ℤ
+laid zs ms = take (length ms) zs ++ drop (length zs) ms
+
 -- the same values with a place for each identifier that a table may have, 0 to 64: the value of x stands in place x
 unfoldable pub placed : List ℤ → List ℤ
-placed zs = pos 0 ∷ map (λ i. getD zs i (pos 0)) (numbers 64 0)
+placed zs = pos 0 ∷ laid zs (replicate 64 (pos 0))
 
 -- "booleans 0 or 1"
 abbrev pub isOfType : ℕ → ℤ → Bool

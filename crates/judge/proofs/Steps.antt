@@ -16,8 +16,9 @@ use Rattle.formula.specs.Evaluate.{Env}
 use Rattle.answer.specs.Answer.{answer}
 use Rattle.answer.specs.Stored.{storedValue, stored, storedEnv}
 use Rattle.table.specs.Rows.{Rows, tagged, section, typeOf}
-use Rattle.machine.specs.Machine.{Action, unassigned, becomesEqual, becomesSuchThat, Machine}
-use Rattle.machine.specs.Described.{typeNumbered, treeOf, sets, actionOf, belonging, variablesOf, machineOf}
+use Rattle.machine.specs.Machine.{Action, Machine}
+use Rattle.machine.specs.Described.{typeNumbered, treeOf, sets, belonging, variablesOf, machineOf}
+use Rattle.machine.proofs.Described.{action-by-row}
 use Rattle.log.specs.Rows.{isInitial}
 use Rattle.log.specs.Faults.{noFault, firstFault, untrue, notAllowed, stepFault, faultOf, differs}
 use Rattle.bench.specs.Press.{pressFault}
@@ -85,25 +86,20 @@ module _ (t : Rows) (e : ℕ) (present after : List ℤ) where
     abbrev both : Env (machine .type)
     both = storedEnv (machine .type) present after
 
-    of-row : (b c : Bool) → ltb i (t .size) ≡ b → tagged t 51 i ≡ c → actionOf t e x ≡ pick b (pick c (becomesEqual (t .c i)) (becomesSuchThat (t .c i))) unassigned
-    unfolding actionOf
-    of-row b c p q = ap (λ i. pick (ltb i (t .size)) (pick (tagged t 51 i) (becomesEqual (t .c i)) (becomesSuchThat (t .c i))) unassigned) (sym found)
-        ∙ ap₂ (λ b c. pick b (pick c (becomesEqual (t .c i)) (becomesSuchThat (t .c i))) unassigned) p q
-
     abbrev fault : Action → ℕ
     fault a = notAllowed both (machine .tree) x a
 
     pub unassigned-fault : t .size ≤ i → differs (typed (getD after x (pos 0))) (typed (getD present x (pos 0))) ≡ actionFault t present after e x
     unfolding actionFault notAllowed machineOf stored
-    unassigned-fault h = sym (ap fault (of-row false (tagged t 51 i) (le-ltb i (t .size) h) refl))
+    unassigned-fault h = sym (ap fault (action-by-row t e x i found false (tagged t 51 i) (le-ltb i (t .size) h) refl))
 
     pub equal-fault : suc i ≤ t .size → t .tag i ≡ 51 → faultOf (typed (getD after x (pos 0))) (answer both (treeOf t (t .c i))) ≡ actionFault t present after e x
     unfolding actionFault notAllowed machineOf stored
-    equal-fault h k = sym (ap fault (of-row true true (lt-ltb i (t .size) h) (eq-eqb (t .tag i) 51 k)))
+    equal-fault h k = sym (ap fault (action-by-row t e x i found true true (lt-ltb i (t .size) h) (eq-eqb (t .tag i) 51 k)))
 
     pub such-fault : suc i ≤ t .size → (t .tag i ≡ 51 → ⊥) → faultOf (truth true) (answer both (treeOf t (t .c i))) ≡ actionFault t present after e x
     unfolding actionFault notAllowed untrue machineOf
-    such-fault h k = sym (ap fault (of-row true false (lt-ltb i (t .size) h) (ne-eqb (t .tag i) 51 k)))
+    such-fault h k = sym (ap fault (action-by-row t e x i found true false (lt-ltb i (t .size) h) (ne-eqb (t .tag i) 51 k)))
 
 -- of two faults, the first that is one
 module _ {x a : ℕ} (b : ℕ) (p : x ≡ a) where

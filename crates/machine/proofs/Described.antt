@@ -1,7 +1,7 @@
 -- How the machines of a table stand to its rows: members of the lists by their rows, the row that an action comes from, and the tree of a node from the
 -- trees of its operands, by recursion on the depth.
 use Prim.Native.Nat.{ℕ, zero, suc, _≤_, _<_}
-use mathlib.Core.Path.{_≡_, refl, sym, ap₂, _∙_, subst}
+use mathlib.Core.Path.{_≡_, refl, sym, ap, ap₂, _∙_, subst}
 use mathlib.Core.Bool.{Bool, true, false, true≢false, _||_}
 use native.Mathlib.Omega.{arith}
 use lib.Dec.{T, ltb, eqb, ltb→lt, eqb→eq}
@@ -22,6 +22,14 @@ use Rattle.machine.specs.Machine.{Action, unassigned, becomesEqual, beco
 use Rattle.machine.specs.Operator.{Operator, literalOf, identifierOf, afterOf, constantOf, unaryOf, binaryOf, divisionOf, connectiveOf}
 use Rattle.machine.specs.Operator.{unknown, operatorNumbered}
 use Rattle.machine.specs.Described.{node, earlier, treeTo, treeOf, sets, actionOf, belonging, variablesOf}
+
+-- the action that stands in the first row that sets a variable, if there is one: by whether it is there and whether it is a 51
+pub action-by-row : (t : Rows) (e x i : ℕ) → i ≡ first (sets t e x) (t .size) 0 → (b c : Bool) → ltb i (t .size) ≡ b → tagged t 51 i ≡ c
+    → actionOf t e x ≡ pick b (pick c (becomesEqual (t .c i)) (becomesSuchThat (t .c i))) unassigned
+unfolding actionOf
+action-by-row t e x i found b c p q =
+    ap (λ i. pick (ltb i (t .size)) (pick (tagged t 51 i) (becomesEqual (t .c i)) (becomesSuchThat (t .c i))) unassigned) (sym found)
+    ∙ ap₂ (λ b c. pick b (pick c (becomesEqual (t .c i)) (becomesSuchThat (t .c i))) unassigned) p q
 
 -- how many trees of operands a node has
 abbrev pub operandsOf : Operator → ℕ

@@ -24,6 +24,7 @@ use Rattle.table.specs.Names.{isVariableOf}
 use Rattle.table.specs.Rows.{Rows, count, kindOf, ownerOf}
 use Rattle.machine.specs.Machine.{unassigned, becomesEqual, becomesSuchThat}
 use Rattle.machine.specs.Described.{sets, actionOf}
+use Rattle.machine.proofs.Described.{action-by-row}
 use Rattle.log.specs.Rows.{isInitial, isGiven, isValueRow, logged}
 use Rattle.log.specs.Replay.{Values, Found, bad, storeBy, readValues}
 use Rattle.log.specs.Lines.{lines}
@@ -202,13 +203,11 @@ wanted-asked t e = refl
 
 -- a 52 is an action that isn't a 51
 pub such-that : (t : Rows) (e x : ℕ) {i n tag : ℕ} → i ≡ first (sets t e x) (t .size) 0 → n ≡ t .size → tag ≡ t .tag i → ltb i n && not (eqb tag 51) ≡ isSuchThat (actionOf t e x)
-unfolding actionOf
-such-that t e x {i} {n} {tag} p q r = ap₂ (λ n tag. ltb i n && not (eqb tag 51)) q r ∙ ap (λ i. ltb i (t .size) && not (eqb (t .tag i) 51)) p ∙ go (ltb k (t .size)) (eqb (t .tag k) 51)
+such-that t e x {i} p q r =
+    ap₂ (λ n tag. ltb i n && not (eqb tag 51)) q r ∙ go (ltb i (t .size)) (eqb (t .tag i) 51)
+    ∙ sym (ap isSuchThat (action-by-row t e x i p (ltb i (t .size)) (eqb (t .tag i) 51) refl refl))
   where
-    k : ℕ
-    k = first (sets t e x) (t .size) 0
-
-    go : (a b : Bool) → (a && not b) ≡ isSuchThat (pick a (pick b (becomesEqual (t .c k)) (becomesSuchThat (t .c k))) unassigned)
+    go : (a b : Bool) → (a && not b) ≡ isSuchThat (pick a (pick b (becomesEqual (t .c i)) (becomesSuchThat (t .c i))) unassigned)
     go true true = refl
     go true false = refl
     go false b = refl

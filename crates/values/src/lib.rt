@@ -49,7 +49,7 @@ pub fn row_number(place: Place) -> u64
 }
 
 // Stores a value in a place of a list; past its end there is none.
-fn put(values: &mut [i64], x: u64, value: i64)
+pub fn put(values: &mut [i64], x: u64, value: i64)
     ensures { λ _. ⌜ now (values .exit) ≡ set (now (values .entry)) x value ⌝ }
 {
     let i = x as usize;
@@ -95,7 +95,7 @@ fn is_given(words: &[u64], table: Table, initial: bool, kind: u64, e: u64, x: u6
 }
 
 // "all concrete and shared variables"
-fn is_state_variable(words: &[u64], table: Table, x: u64) -> bool
+pub fn is_state_variable(words: &[u64], table: Table, x: u64) -> bool
     requires { ⌜ table ≡ countsOf (rowsOf (now words)) ⌝ }
     ensures { λ r. ⌜ r ≡ isStateVariable (rowsOf (now (words .entry))) x ⌝ }
 {

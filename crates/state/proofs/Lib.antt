@@ -1,0 +1,4 @@
+pub mod Laid
+pub mod Right
+pub mod Completed
+pub mod Updated

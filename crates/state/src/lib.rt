@@ -1,0 +1,200 @@
+// 02, request 6: the state of the bench as the code holds it, the values and the types of its records: whether it is one, the after values of a step, and the values that
+// it leaves.
+use evaluate::evaluate_expression;
+use evaluate::value_at;
+use scan::action_row;
+use scan::lesser;
+use signed::Found;
+use signed::equal;
+use table::Table;
+use table::c_at;
+use table::identifier;
+use table::identifier_field;
+use table::size;
+use table::tag;
+use table::tag_at;
+use values::is_state_variable;
+use values::move_values;
+use values::put;
+ghost use mathlib.Core.Path.{_≡_};
+ghost use mathlib.Core.Bool.{not};
+ghost use Prim.Native.Nat.{_+_, _^_, _≤_, _<_};
+ghost use lib.IntN.{pos};
+ghost use lib.ListN.{length, getD, set};
+ghost use Rattle.lists.specs.Choice.{pick};
+ghost use Rattle.lists.specs.Below.{oneIf, numbers};
+ghost use Rattle.lists.specs.Different.{someOf};
+ghost use Rattle.table.specs.Names.{identifierTag};
+ghost use Rattle.table.specs.Rows.{rowsOf, count};
+ghost use Rattle.table.specs.Counts.{countsOf};
+ghost use Rattle.scan.specs.Spans.{Spanned};
+ghost use Rattle.machine.specs.Described.{machineOf};
+ghost use Rattle.signed.specs.Found.{answerOf};
+ghost use Rattle.log.specs.Rows.{isStateVariable};
+ghost use Rattle.values.specs.Values.{valuesOf};
+ghost use Rattle.bench.specs.State.{isOfType, isRight, isWrong, isState, laid, updated};
+ghost use Rattle.bench.specs.Press.{answered, afterBy, completed};
+
+// Copies values into the first places of a list, as many as it has.
+pub fn copy_values(from: &[i64], to: &mut [i64])
+    ensures { λ _. ⌜ now (to .exit) ≡ laid (now (from .entry)) (now (to .entry)) ⌝ }
+{
+    let n = lesser(from.len(), to.len()) as u64;
+    let mut i = 0;
+    while i < n {
+        put(to, i, value_at(from, i));
+        i += 1;
+    }
+}
+
+// "booleans 0 or 1"
+fn is_of_type(sort: u64, value: i64) -> bool
+    ensures { λ r. ⌜ r ≡ isOfType sort value ⌝ }
+{
+    !(sort == identifier::BOOLEAN) | (equal(value, 0) | equal(value, 1))
+}
+
+// The type in a place of a list; 0 past its end.
+fn sort_at(sorts: &[u64], x: u64) -> u64
+    ensures { λ r. ⌜ r ≡ getD (now (sorts .entry)) x 0 ⌝ }
+{
+    let i = x as usize;
+    if i < sorts.len() { sorts[i] } else { 0 }
+}
+
+// Whether the record of the identifier after x is wrong.
+fn is_wrong(words: &[u64], table: Table, values: &[i64], sorts: &[u64], x: u64) -> bool
+    requires { ⌜ (table ≡ countsOf (rowsOf (now words))) × (x + 1 < 2 ^ 64) ⌝ }
+    ensures { λ r. ⌜ r ≡ isWrong (rowsOf (now (words .entry))) (now (values .entry)) (now (sorts .entry)) (x + 1) ⌝ }
+{
+    let sort = sort_at(sorts, x);
+    let expected = identifier_field(words, table, x + 1, Table::TYPE);
+    let value = value_at(values, x);
+    !((sort == expected) & is_of_type(sort, value))
+}
+
+// Whether no record is wrong.
+fn all_right(words: &[u64], table: Table, values: &[i64], sorts: &[u64]) -> bool
+    requires { ⌜ table ≡ countsOf (rowsOf (now words)) ⌝ }
+    ensures { λ r. ⌜ r ≡ not (someOf (isWrong (rowsOf (now (words .entry))) (now (values .entry)) (now (sorts .entry))) (numbers (count (rowsOf (now (words .entry))) identifierTag) 1)) ⌝ }
+{
+    let mut x = 0;
+    while x < table.identifiers {
+        if is_wrong(words, table, values, sorts, x) {
+            return false;
+        }
+        x += 1;
+    }
+    true
+}
+
+// Whether values and types are those of a state: one of each for each identifier, and none wrong.
+pub fn is_state(words: &[u64], table: Table, values: &[i64], sorts: &[u64]) -> bool
+    requires { ⌜ table ≡ countsOf (rowsOf (now words)) ⌝ }
+    ensures { λ r. ⌜ r ≡ isState (rowsOf (now (words .entry))) (now (values .entry)) (now (sorts .entry)) ⌝ }
+{
+    let right = all_right(words, table, values, sorts);
+    ((values.len() as u64 == table.identifiers) & (sorts.len() as u64 == table.identifiers)) & right
+}
+
+// A truth value as a number.
+fn of_truth(truth: bool) -> i64
+    ensures { λ r. ⌜ r ≡ pos (oneIf truth) ⌝ }
+{
+    if truth {
+        return 1;
+    }
+    0
+}
+
+// The number of a formula's value; where it has none, the step has a fault.
+fn answered(found: Found) -> i64
+    ensures { λ r. ⌜ r ≡ answered (answerOf found) ⌝ }
+{
+    match found {
+        Found::Number(value) => value,
+        Found::Truth(truth) => of_truth(truth),
+        Found::Outside => 0,
+        Found::Undefined => 0,
+    }
+}
+
+// The after value of the variable x: "51s read the state before", that of a 52 is given, without an action it keeps its value.
+fn after_by(
+    words: &[u64],
+    table: Table,
+    spans: &[usize],
+    e: u64,
+    x: u64,
+    present: &[i64],
+    after: &[i64],
+) -> i64
+    requires { ⌜ (table ≡ countsOf (rowsOf (now words))) × Spanned (rowsOf (now words)) (now spans) ⌝ }
+    ensures { λ r. ⌜ r ≡ afterBy (rowsOf (now (words .entry))) (valuesOf (now (present .entry)) (now (after .entry))) x (machineOf (rowsOf (now (words .entry))) .action e x) ⌝ }
+{
+    let i = action_row(words, spans, e, x);
+    if size(words) <= i {
+        return value_at(present, x);
+    }
+    if tag_at(words, i) == tag::BECOMES_EQUAL {
+        let found = evaluate_expression(
+            words,
+            table.nodes_start,
+            table.identifiers_start,
+            present,
+            &present[..0],
+            c_at(words, i),
+        );
+        return answered(found);
+    }
+    value_at(after, x)
+}
+
+// Stores the after value of the identifier x, where it is a variable of the concrete machine.
+fn complete_value(
+    words: &[u64],
+    table: Table,
+    spans: &[usize],
+    e: u64,
+    x: u64,
+    present: &[i64],
+    after: &mut [i64],
+)
+    requires { ⌜ (table ≡ countsOf (rowsOf (now words))) × Spanned (rowsOf (now words)) (now spans) ⌝ }
+    ensures { λ _. ⌜ now (after .exit) ≡ pick (isStateVariable (rowsOf (now (words .entry))) x) (set (now (after .entry)) x (afterBy (rowsOf (now (words .entry))) (valuesOf (now (present .entry)) (now (after .entry))) x (machineOf (rowsOf (now (words .entry))) .action e x))) (now (after .entry)) ⌝ }
+{
+    if is_state_variable(words, table, x) {
+        let value = after_by(words, table, spans, e, x, present, after);
+        put(after, x, value);
+    }
+}
+
+// The after values of all variables of a step of the event e, of which those of its 52 actions are given.
+pub fn complete_values(
+    words: &[u64],
+    table: Table,
+    spans: &[usize],
+    e: u64,
+    present: &[i64],
+    after: &mut [i64],
+)
+    requires { ⌜ (table ≡ countsOf (rowsOf (now words))) × Spanned (rowsOf (now words)) (now spans) ⌝ }
+    ensures { λ _. ⌜ valuesOf (now (present .entry)) (now (after .exit)) ≡ completed (rowsOf (now (words .entry))) e (valuesOf (now (present .entry)) (now (after .entry))) ⌝ }
+{
+    let mut x = 0;
+    while x < table.identifiers {
+        x += 1;
+        complete_value(words, table, spans, e, x, present, after);
+    }
+}
+
+// "updates the variables' records": the values of a state after a step.
+pub fn update_values(words: &[u64], table: Table, after: &[i64], values: &mut [i64])
+    requires { ⌜ (table ≡ countsOf (rowsOf (now words))) × (count (rowsOf (now words)) identifierTag ≤ 64) × (length (now values) ≡ count (rowsOf (now words)) identifierTag) × (length (now after) ≡ 65) ⌝ }
+    ensures { λ _. ⌜ now (values .exit) ≡ updated (rowsOf (now (words .entry))) (now (after .entry)) (now (values .entry)) ⌝ }
+{
+    let mut left = [0i64; Table::IDENTIFIERS as usize + 1];
+    copy_values(values, &mut left[1..]);
+    move_values(words, table, &mut left, after);
+    copy_values(&left[1..], values);
+}
