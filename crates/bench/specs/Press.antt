@@ -1,6 +1,6 @@
 -- 02, request 6: "Pressing performs one concrete step and updates the variables' records. A preview writes into a second lent list what pressing would make of the first,
 -- which keeps its records."
-use mathlib.Core.Bool.{Bool, true, false, _&&_}
+use mathlib.Core.Bool.{_&&_}
 use mathlib.Core.List.{List, [], _∷_, _++_, map}
 use Prim.Native.Nat.{ℕ}
 use lib.Dec.{eqb}
@@ -9,7 +9,6 @@ use lib.ListN.{length, getD, set, replicate}
 use Rattle.lists.specs.Choice.{pick}
 use Rattle.lists.specs.Below.{oneIf}
 use Rattle.formula.specs.Values.{AnyValue, number, truth}
-use Rattle.formula.specs.Evaluate.{Env}
 use Rattle.answer.specs.Answer.{Answer, value, outside, undefined, answer}
 use Rattle.answer.specs.Stored.{storedEnv}
 use Rattle.table.specs.Names.{identifierTag}

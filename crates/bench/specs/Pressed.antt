@@ -1,9 +1,9 @@
 -- 02, request 6: the step that pressing performs, by 01's definition: from the state's values, with the chosen parameters and after values.
 use mathlib.Core.Path.{_≡_}
-use mathlib.Core.List.{List, [], _∷_, map, flatMap}
+use mathlib.Core.List.{List, _∷_, map, flatMap}
 use Prim.Native.Nat.{ℕ}
 use lib.Dec.{T}
-use lib.IntN.{ℤ, pos}
+use lib.IntN.{ℤ}
 use lib.ListN.{length}
 use Rattle.lists.specs.Choice.{pick}
 use Rattle.lists.specs.All.{All, In}
@@ -18,11 +18,9 @@ use Rattle.machine.specs.Described.{machineOf}
 use Rattle.run.specs.Run.{State, blank, AllReadTrue, Step, Taken, ofRun}
 use Rattle.log.specs.Rows.{stepTag, isStateVariable}
 use Rattle.log.specs.Recorded.{valueRow, loggedValue, constantsAlone, AllInside, StepInside}
-use Rattle.bench.specs.declared.Record.{Record}
-use Rattle.bench.specs.declared.Press.the-variants.{Performed}
-use Rattle.bench.specs.State.{valueOf, valuesIn}
+use Rattle.bench.specs.State.{valueOf}
 use Rattle.bench.specs.Choice.{asked}
-use Rattle.bench.specs.Press.{numberIn, press}
+use Rattle.bench.specs.Press.{numberIn}
 
 module _ (t : Rows) where
   abbrev machine : Machine

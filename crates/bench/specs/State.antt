@@ -25,9 +25,10 @@ typesIn rs = map (λ r. r .sort) rs
 abbrev pub valueOf : List ℤ → ℕ → ℤ
 valueOf zs x = getD zs (x - 1) (pos 0)
 
--- values in the first places of a list, as many as it has
-unfoldable pub laid : List ℤ → List ℤ → List ℤ
-laid zs ms = take (length ms) zs ++ drop (length zs) ms
+module _ {A : Type 0} where
+  -- what is laid into the first places of a list, as much as it has places for
+  unfoldable pub laid : List A → List A → List A
+  laid xs ys = take (length ys) xs ++ drop (length xs) ys
 
 -- the same values with a place for each identifier that a table may have, 0 to 64: the value of x stands in place x
 unfoldable pub placed : List ℤ → List ℤ

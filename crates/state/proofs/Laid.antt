@@ -1,4 +1,4 @@
--- Values laid into the first places of a list: what copying them one by one, as many as there are of both, leaves.
+-- What is laid into the first places of a list: what copying one by one, as far as both go, leaves.
 use mathlib.Core.Path.{_≡_, refl, sym, ap, ap₂, _∙_}
 use mathlib.Core.Bool.{Bool, true, false}
 use mathlib.Core.List.{List, _++_}
@@ -8,23 +8,22 @@ use native.Mathlib.Numerals.{add-one}
 use native.Mathlib.Nat.{zero-add}
 use borrow.Author.Tests.{ltb-true, ltb-false}
 use lib.Dec.{ltb}
-use lib.IntN.{ℤ, pos}
 use lib.ListN.{length, getD, set, take, drop, drop-of-length-le}
 use lib.Seq.{take-all, paste, paste-suc}
 use Rattle.lists.specs.Choice.{pick}
 use Rattle.lists.proofs.Choice.{Lesser, lesser-of}
 use Rattle.bench.specs.State.{laid}
 
-module _ (from to : List ℤ) (n : ℕ) (e : n ≡ pick (ltb (length from) (length to)) (length from) (length to)) where
+module _ {A : Type 0} (from to : List A) (d : A) (n : ℕ) (e : n ≡ pick (ltb (length from) (length to)) (length from) (length to)) where
   few : Lesser (length from) (length to) (pick (ltb (length from) (length to)) (length from) (length to))
   few = lesser-of (length from) (length to)
 
-  pub laid-next : (i : ℕ) (ms : List ℤ) → i < n → ms ≡ paste to 0 from i → set ms i (getD from i (pos 0)) ≡ paste to 0 from (i + 1)
+  pub laid-next : (i : ℕ) (ms : List A) → i < n → ms ≡ paste to 0 from i → set ms i (getD from i d) ≡ paste to 0 from (i + 1)
   laid-next i ms h q =
       let l = few .left in
       let r = few .right in
-      ap (λ ms. set ms i (getD from i (pos 0))) q ∙ ap (λ j. set (paste to 0 from i) j (getD from i (pos 0))) (sym (zero-add i))
-      ∙ paste-suc to 0 from i (pos 0) (omega (arith, h, e, r)) (omega (arith, h, e, l)) ∙ ap (paste to 0 from) (sym (add-one i))
+      ap (λ ms. set ms i (getD from i d)) q ∙ ap (λ j. set (paste to 0 from i) j (getD from i d)) (sym (zero-add i))
+      ∙ paste-suc to 0 from i d (omega (arith, h, e, r)) (omega (arith, h, e, l)) ∙ ap (paste to 0 from) (sym (add-one i))
 
   pub laid-end : (i : ℕ) → n ≤ i → i ≤ n → paste to 0 from i ≡ laid from to
   unfolding laid

@@ -1,33 +1,27 @@
 -- The values that a step leaves: the state's, with the variables' after values moved into their places.
-use Prim.Native.Nat.{ℕ, suc, _+_, _-_, _≤_, _<_}
-use mathlib.Core.Path.{_≡_, refl, sym, ap, ap₂, _∙_, subst}
+use Prim.Native.Nat.{ℕ, _+_, _-_, _≤_, _<_}
+use mathlib.Core.Path.{_≡_, refl, sym, ap, _∙_, subst}
 use mathlib.Core.Bool.{Bool, true, false}
-use mathlib.Core.List.{List, _∷_, _++_, append-nil}
+use mathlib.Core.List.{List, _∷_}
 use native.Mathlib.Omega.{arith}
 use lib.Dec.{T}
 use lib.IntN.{ℤ, pos}
-use lib.ListN.{length, getD, take, drop, replicate, length-drop, drop-of-length-le}
+use lib.ListN.{length, getD, take, drop, replicate, length-drop}
 use lib.Seq.{take-all, length-take-le, getD-take, getD-drop, ext-getD}
 use Rattle.lists.specs.Choice.{pick}
-use Rattle.lists.specs.All.{All, In}
-use Rattle.lists.specs.Below.{numbers}
+use Rattle.lists.specs.All.{All}
 use Rattle.lists.proofs.All.{all-in}
-use Rattle.formula.proofs.Truth.{true-test, test-true}
-use Rattle.table.specs.Rows.{Rows, count, named}
+use Rattle.formula.proofs.Truth.{true-test}
+use Rattle.table.specs.Rows.{Rows, count}
 use Rattle.table.proofs.Sections.{named-bounds, bounds-named}
 use Rattle.machine.specs.Described.{machineOf}
 use Rattle.machine.proofs.Described.{variable-named, named-variable}
 use Rattle.log.specs.Rows.{isStateVariable}
-use Rattle.log.specs.Replay.{Values, move, moved}
-use Rattle.log.proofs.Values.{Sized, Moved, move-moved}
+use Rattle.log.specs.Replay.{Values, moved}
+use Rattle.log.proofs.Values.{Moved, move-moved}
 use Rattle.values.specs.Values.{valuesOf}
 use Rattle.bench.specs.State.{valueOf, laid, placed, updated}
-use Rattle.bench.proofs.State.{map-at, map-size, placed-size, placed-at}
-
--- what is copied into a list that isn't longer
-pub laid-whole : (zs ms : List ℤ) → length ms ≤ length zs → laid zs ms ≡ take (length ms) zs
-unfolding laid
-laid-whole zs ms h = ap (λ ys. take (length ms) zs ++ ys) (drop-of-length-le ms h) ∙ append-nil (take (length ms) zs)
+use Rattle.bench.proofs.State.{map-at, map-size, laid-whole, placed-size, placed-at}
 
 pub placed-is : (zs left : List ℤ) → left ≡ pos 0 ∷ laid zs (replicate 64 (pos 0)) → left ≡ placed zs
 unfolding placed

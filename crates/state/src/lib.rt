@@ -32,7 +32,7 @@ ghost use Rattle.machine.specs.Described.{machineOf};
 ghost use Rattle.signed.specs.Found.{answerOf};
 ghost use Rattle.log.specs.Rows.{isStateVariable};
 ghost use Rattle.values.specs.Values.{valuesOf};
-ghost use Rattle.bench.specs.State.{isOfType, isRight, isWrong, isState, laid, updated};
+ghost use Rattle.bench.specs.State.{isOfType, isWrong, isState, laid, updated};
 ghost use Rattle.bench.specs.Press.{answered, afterBy, completed};
 
 // Copies values into the first places of a list, as many as it has.
@@ -60,6 +60,28 @@ fn sort_at(sorts: &[u64], x: u64) -> u64
 {
     let i = x as usize;
     if i < sorts.len() { sorts[i] } else { 0 }
+}
+
+// Stores a type in a place of a list; past its end there is none.
+fn put_sort(sorts: &mut [u64], x: u64, sort: u64)
+    ensures { λ _. ⌜ now (sorts .exit) ≡ set (now (sorts .entry)) x sort ⌝ }
+{
+    let i = x as usize;
+    if i < sorts.len() {
+        sorts[i] = sort;
+    }
+}
+
+// Copies types into the first places of a list, as many as it has.
+pub fn copy_sorts(from: &[u64], to: &mut [u64])
+    ensures { λ _. ⌜ now (to .exit) ≡ laid (now (from .entry)) (now (to .entry)) ⌝ }
+{
+    let n = lesser(from.len(), to.len()) as u64;
+    let mut i = 0;
+    while i < n {
+        put_sort(to, i, sort_at(from, i));
+        i += 1;
+    }
 }
 
 // Whether the record of the identifier after x is wrong.

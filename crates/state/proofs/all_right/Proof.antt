@@ -3,7 +3,6 @@ use Prim.Native.Nat.{_+_, _-_}
 use mathlib.Core.Path.{_≡_, sym, ap, _∙_}
 use mathlib.Core.Bool.{not}
 use native.Mathlib.Omega.{arith}
-use borrow.Author.Needs.{needs}
 use Rattle.lists.specs.Below.{numbers}
 use Rattle.lists.specs.Different.{someOf}
 use Rattle.table.specs.Rows.{rowsOf, count}

@@ -2,6 +2,7 @@
 use Prim.Native.Nat.{_-_, _≤_, _<_}
 use mathlib.Core.Path.{_≡_, refl, ap, _∙_}
 use native.Mathlib.Omega.{arith}
+use lib.IntN.{pos}
 use lib.ListN.{length, set}
 use lib.Seq.{paste}
 use borrow.Author.Needs.{needs}
@@ -35,10 +36,10 @@ copy-values-spec = tie.close (tie.spec
       size ∙ turn .loop .inv .0,
       omega (arith, inside),
       c .before .put .ensures ∙ ap (set (turn .loop .to) (turn .loop .i)) (seen-is (value .value-at .result) (value .value-at .ok) (value .value-at .ensures))
-          ∙ laid-next (s .args .from .now) (s .args .to .now) (few .lesser .result) (few .lesser .ensures) (turn .loop .i) (turn .loop .to) inside (turn .loop .inv .2),
+          ∙ laid-next (s .args .from .now) (s .args .to .now) (pos 0) (few .lesser .result) (few .lesser .ensures) (turn .loop .i) (turn .loop .to) inside (turn .loop .inv .2),
     ))
     (λ c. c .before .loop .inv .0)
     (λ c. let turn = c .before in
     let few = turn .before in
     let s = few .before in
-    turn .loop .inv .2 ∙ laid-end (s .args .from .now) (s .args .to .now) (few .lesser .result) (few .lesser .ensures) (turn .loop .i) (omega arith) (turn .loop .inv .1)))
+    turn .loop .inv .2 ∙ laid-end (s .args .from .now) (s .args .to .now) (pos 0) (few .lesser .result) (few .lesser .ensures) (turn .loop .i) (omega arith) (turn .loop .inv .1)))
