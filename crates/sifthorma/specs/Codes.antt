@@ -7,6 +7,8 @@ use Rattle.reply.specs.declared.Reply.{Reply}
 use Rattle.reply.specs.declared.Reply.the-variants as reply
 use Rattle.log.specs.declared.Replay.{Replay}
 use Rattle.log.specs.declared.Replay.the-variants as replay
+use Rattle.bench.specs.declared.Press.{Press}
+use Rattle.bench.specs.declared.Press.the-variants as press
 
 abbrev pub verdictNumber : Verdict → ℕ
 verdictNumber (verdict.Accepted count) = 0
@@ -34,3 +36,12 @@ replayNumber (replay.Refused number row) = number
 abbrev pub replayValue : Replay → ℕ
 replayValue (replay.Steps steps) = steps
 replayValue (replay.Refused number row) = row
+
+abbrev pub pressNumber : Press → ℕ
+pressNumber press.Performed = 0
+pressNumber (press.Refused number row) = number
+
+-- 0, or the row
+abbrev pub pressValue : Press → ℕ
+pressValue press.Performed = 0
+pressValue (press.Refused number row) = row

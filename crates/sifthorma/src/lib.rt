@@ -1,5 +1,9 @@
 // The services for C and Rust (include/sifthorma.h): each answers 0 or a refusal's number, and puts the count or the row into `value`.
+use bench::Press;
+use bench::Record;
 use log::Replay;
+use records::press;
+use records::preview;
 use reply::Reply;
 use rules::Verdict;
 use services::spell_entry;
@@ -10,7 +14,8 @@ ghost use mathlib.Core.Path.{_≡_};
 ghost use Rattle.rules.specs.Verdict.{verdict as verdictOf};
 ghost use Rattle.reply.specs.Replies.{writeSequent, spellEntry};
 ghost use Rattle.log.specs.Replay.{replay as replayOf};
-ghost use Rattle.sifthorma.specs.Codes.{verdictNumber, verdictValue, replyNumber, replyValue, replayNumber, replayValue};
+ghost use Rattle.bench.specs.Press.{press as pressOf, preview as previewOf};
+ghost use Rattle.sifthorma.specs.Codes.{verdictNumber, verdictValue, replyNumber, replyValue, replayNumber, replayValue, pressNumber, pressValue};
 
 fn verdict_number(v: Verdict) -> u64
     ensures { λ r. ⌜ r ≡ verdictNumber v ⌝ }
@@ -121,4 +126,59 @@ pub extern "C" fn sifthorma_replay(table: &[u8], run: &[u8], value: &mut u64) ->
     let reply = replay(table, run);
     *value = replay_value(reply);
     replay_number(reply)
+}
+
+fn press_number(reply: Press) -> u64
+    ensures { λ r. ⌜ r ≡ pressNumber reply ⌝ }
+{
+    match reply {
+        Press::Performed => 0,
+        Press::Refused(number, row) => number,
+    }
+}
+
+fn press_value(reply: Press) -> u64
+    ensures { λ r. ⌜ r ≡ pressValue reply ⌝ }
+{
+    match reply {
+        Press::Performed => 0,
+        Press::Refused(number, row) => row,
+    }
+}
+
+// The number of what pressing answers; its row goes to `value`.
+fn tell_press(reply: Press, value: &mut u64) -> u64
+    ensures { λ r. ⌜ (r ≡ pressNumber reply) × (now (value .exit) ≡ pressValue reply) ⌝ }
+{
+    *value = press_value(reply);
+    press_number(reply)
+}
+
+// press: 0 when the step was performed, or a refusal, which leaves the records of the state as they were.
+#[no_mangle]
+pub extern "C" fn sifthorma_press(
+    table: &[u8],
+    step: &[u8],
+    state: &mut [Record],
+    value: &mut u64,
+) -> u64
+    ensures { λ r. ⌜ (r ≡ pressNumber (pressOf (now (table .entry)) (now (step .entry)) (now (state .entry)) .reply)) × (now (state .exit) ≡ pressOf (now (table .entry)) (now (step .entry)) (now (state .entry)) .state) × (now (value .exit) ≡ pressValue (pressOf (now (table .entry)) (now (step .entry)) (now (state .entry)) .reply)) ⌝ }
+{
+    let reply = press(table, step, state);
+    tell_press(reply, value)
+}
+
+// preview: the same, where the second list gets the records that pressing would make of the first.
+#[no_mangle]
+pub extern "C" fn sifthorma_preview(
+    table: &[u8],
+    step: &[u8],
+    first: &[Record],
+    second: &mut [Record],
+    value: &mut u64,
+) -> u64
+    ensures { λ r. ⌜ (r ≡ pressNumber (previewOf (now (table .entry)) (now (step .entry)) (now (first .entry)) (now (second .entry)) .reply)) × (now (second .exit) ≡ previewOf (now (table .entry)) (now (step .entry)) (now (first .entry)) (now (second .entry)) .second) × (now (value .exit) ≡ pressValue (previewOf (now (table .entry)) (now (step .entry)) (now (first .entry)) (now (second .entry)) .reply)) ⌝ }
+{
+    let reply = preview(table, step, first, second);
+    tell_press(reply, value)
 }
