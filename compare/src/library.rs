@@ -1,6 +1,8 @@
 //! The proved library behind its C header. Built only where build.rs has found it.
 
 use crate::against::{Reply, Services};
+use crate::press::Record;
+use crate::presses::Presses;
 use crate::replays::Replays;
 use crate::stack::STACK;
 
@@ -28,6 +30,26 @@ extern "C" {
         table_length: usize,
         run: *const u8,
         run_length: usize,
+        value: *mut u64,
+    ) -> u64;
+    fn sifthorma_press(
+        table: *const u8,
+        table_length: usize,
+        step: *const u8,
+        step_length: usize,
+        state: *mut Record,
+        state_length: usize,
+        value: *mut u64,
+    ) -> u64;
+    fn sifthorma_preview(
+        table: *const u8,
+        table_length: usize,
+        step: *const u8,
+        step_length: usize,
+        first: *const Record,
+        first_length: usize,
+        second: *mut Record,
+        second_length: usize,
         value: *mut u64,
     ) -> u64;
 }
@@ -81,6 +103,53 @@ impl Replays for Library {
                 table.len(),
                 run.as_ptr(),
                 run.len(),
+                &mut value,
+            )
+        };
+        Reply { number, value }
+    }
+}
+
+impl Presses for Library {
+    fn stack(&self) -> usize {
+        STACK
+    }
+
+    fn press(&self, table: &[u8], step: &[u8], state: &mut [Record]) -> Reply {
+        let mut value = UNSET;
+        let number = unsafe {
+            sifthorma_press(
+                table.as_ptr(),
+                table.len(),
+                step.as_ptr(),
+                step.len(),
+                state.as_mut_ptr(),
+                state.len(),
+                &mut value,
+            )
+        };
+        Reply { number, value }
+    }
+
+    fn preview(
+        &self,
+        table: &[u8],
+        step: &[u8],
+        first: &mut [Record],
+        second: &mut [Record],
+    ) -> Reply {
+        let mut value = UNSET;
+        // The first list too is lent as one that can change, so that a change of it can be seen.
+        let number = unsafe {
+            sifthorma_preview(
+                table.as_ptr(),
+                table.len(),
+                step.as_ptr(),
+                step.len(),
+                first.as_mut_ptr(),
+                first.len(),
+                second.as_mut_ptr(),
+                second.len(),
                 &mut value,
             )
         };

@@ -9,6 +9,7 @@ use compare::generate;
 use compare::operators::family;
 use compare::operators::wanted::{missing, wanted};
 use compare::plain::is_left_out;
+use compare::presses::{self, Presses};
 use compare::program::replay::Replayer;
 use compare::program::{self, Program};
 use compare::replay::replayed;
@@ -18,6 +19,7 @@ use compare::runs::family::whole_family;
 use compare::runs::simulate::simulate;
 use compare::services::{print, refusal_row, Answers};
 use compare::stack::{self, report};
+use compare::states;
 use compare::statistics::{self, Statistics};
 use compare::table::Table;
 use compare::validity::{search, Under};
@@ -29,10 +31,12 @@ use std::process::ExitCode;
 const USAGE: &str = "use: compare print | sequent K | entry K J | layout | table SEED
      | replay TABLE LOG | simulate TABLE STEPS SEED
      | statistics SEEDS [FIRST] | replay-statistics BATCHES [FIRST] | left-out SEEDS [FIRST]
+     | press-statistics BATCHES [FIRST]
      | against-library TABLES [FIRST] | operators | against-library-replay LOGS [FIRST]
+     | against-library-press PRESSES [FIRST]
      | against-program PROGRAM TABLES [FIRST] | against-program-replay PROGRAM LOGS [FIRST]
      | by-sequent PROGRAM [FILE..]
-     | bench [PROGRAM] | bench-table NAME | bench-replay [STEPS] | stack | stack-replay";
+     | bench [PROGRAM] | bench-table NAME | bench-replay [STEPS] | stack | stack-replay | stack-press";
 
 fn main() -> ExitCode {
     let words: Vec<String> = std::env::args().skip(1).collect();
@@ -147,6 +151,24 @@ fn logs(words: &[&str]) -> Result<Vec<u8>, String> {
             let steps = or(bench::replay::STEPS, steps)?;
             Ok(bench::replay::report(library_replay(), steps)?.into_bytes())
         }
+        _ => pressed(words),
+    }
+}
+
+/// The commands that press events.
+fn pressed(words: &[&str]) -> Result<Vec<u8>, String> {
+    match words {
+        ["press-statistics", batches, first @ ..] => {
+            let counted = statistics::presses::Presses::of(or(0, first)?, number(batches)?);
+            Ok(counted.report().into_bytes())
+        }
+        ["against-library-press", presses, first @ ..] => {
+            against_library_press(number(presses)?, or(0, first)?)
+        }
+        ["stack-press"] => {
+            let presses = library_press().ok_or(UNLINKED)?;
+            Ok(stack::press::report(presses)?.into_bytes())
+        }
         _ => Err(USAGE.to_string()),
     }
 }
@@ -170,6 +192,14 @@ fn library() -> Option<&'static dyn Services> {
 
 /// Its replay, if this was built with it.
 fn library_replay() -> Option<&'static dyn Replays> {
+    #[cfg(library)]
+    return Some(&compare::library::Library);
+    #[cfg(not(library))]
+    return None;
+}
+
+/// Its press and preview, if this was built with it.
+fn library_press() -> Option<&'static dyn Presses> {
     #[cfg(library)]
     return Some(&compare::library::Library);
     #[cfg(not(library))]
@@ -214,6 +244,25 @@ fn against_library_replay(logs: u64, first: u64) -> Result<Vec<u8>, String> {
     for compared in [
         replays::compare_list(replays, &family, threads()),
         replays::compare(replays, first, logs, threads(), true),
+    ] {
+        let (summary, found) = compared?;
+        text += &summary.report();
+        if let Some(found) = found {
+            return Err(text + &found.report());
+        }
+    }
+    Ok((text + "no difference\n").into_bytes())
+}
+
+/// Compares the proved library's press and preview with this program's, on every operator by itself and on so many generated
+/// presses.
+fn against_library_press(count: u64, first: u64) -> Result<Vec<u8>, String> {
+    let library = library_press().ok_or(UNLINKED)?;
+    let mut text = String::new();
+    let family = states::family::whole_family();
+    for compared in [
+        presses::compare_list(library, &family, threads()),
+        presses::compare(library, first, count, threads(), true),
     ] {
         let (summary, found) = compared?;
         text += &summary.report();

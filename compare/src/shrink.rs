@@ -1,4 +1,6 @@
-//! Makes a table, or a table and a log, smaller while something stays true of it.
+//! Makes a table, or a table and a log or a press, smaller while something stays true of it.
+
+pub mod records;
 
 use crate::formula::{columns, Columns, LITERAL, TOP, TRUE};
 use crate::rows::{bytes_of, read_row, Row, ROW_BYTES};
@@ -57,11 +59,15 @@ pub fn shrink_pair(
 /// Rows of a log have this tag or the next one; those of a table have lower ones.
 const LOGGED: i32 = 90;
 
-/// How many rows a log begins with that are in the row form and have a log's tag.
+/// Rows that stand for the records of a press's lists before its step: identifier, and codes of value and type.
+const FIRST_RECORD: i32 = 901;
+const SECOND_RECORD: i32 = 902;
+
+/// How many rows a log begins with that are in the row form and have a log's tag, or stand for records.
 pub fn whole_rows(log: &[u8]) -> usize {
     let rows = log.chunks(ROW_BYTES).map(read_row);
-    let logged = |row: &Option<Row>| row.is_some_and(|row| (LOGGED..=91).contains(&row.tag));
-    rows.take_while(logged).count()
+    let known = |row: Row| matches!(row.tag, LOGGED..=91 | FIRST_RECORD..=SECOND_RECORD);
+    rows.take_while(|row| row.is_some_and(known)).count()
 }
 
 /// A table's rows, and the rows of a log behind them with what else it has.
@@ -230,7 +236,9 @@ fn plainer(rows: &[Row], place: usize) -> Vec<Vec<Row>> {
         return vec![];
     };
     let mut tables = Vec::new();
-    for at in 0..3 {
+    // A record stays that of its identifier.
+    let first = usize::from(row.tag >= FIRST_RECORD);
+    for at in first..3 {
         for plain in [0, 1] {
             if !(0..=plain).contains(&field(row, at)) {
                 let mut changed = rows.to_vec();
@@ -257,7 +265,7 @@ fn references(row: Row) -> Vec<(usize, i32)> {
         50 => vec![(0, 40), (1, 20)],
         51 | 52 | 60 => vec![(0, 40), (1, 10), (2, 20)],
         90 => vec![(0, 40)],
-        91 => vec![(0, 10)],
+        91 | FIRST_RECORD..=SECOND_RECORD => vec![(0, 10)],
         _ => vec![],
     }
 }

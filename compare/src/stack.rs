@@ -1,11 +1,15 @@
 //! The stack that a call of the services needs: threads with exactly as much as is stated, and what a call uses.
 
+pub mod press;
 pub mod replay;
 pub mod report;
 pub mod tables;
 
 use crate::against::{Call, Reply, Services};
+use crate::press::Record;
+use crate::presses::Presses;
 use crate::replays::Replays;
+use crate::states::batch::Case;
 use std::hint::black_box;
 use std::panic::resume_unwind;
 use std::thread::{scope, Builder};
@@ -35,6 +39,22 @@ pub fn measure(services: &dyn Services, table: &[u8], call: Call) -> (Reply, usi
 /// The reply to a replay, and how many bytes of stack it used.
 pub fn measure_replay(replays: &dyn Replays, table: &[u8], log: &[u8]) -> (Reply, usize) {
     on_thread(AREA + REST, || used(|| replays.replay(table, log)))
+}
+
+/// How many bytes of stack a press used, and before it a preview of the same step.
+pub fn measure_press(
+    presses: &dyn Presses,
+    table: &[u8],
+    case: &Case,
+    list: &mut [Record],
+) -> [usize; 2] {
+    let Case { step, second, .. } = case;
+    let mut second = second.clone();
+    on_thread(AREA + REST, || {
+        let preview = used(|| presses.preview(table, step, list, &mut second)).1;
+        let press = used(|| presses.press(table, step, list)).1;
+        [press, preview]
+    })
 }
 
 /// Bytes of stack that are filled before a call; one that changes them all isn't measured.

@@ -2,6 +2,7 @@
 
 pub mod anticipated;
 pub mod left_out;
+pub mod presses;
 pub mod replays;
 pub mod shapes;
 pub mod shared;

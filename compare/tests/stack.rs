@@ -1,9 +1,12 @@
 //! The stack that is stated, and the measurement of what calls use.
 
 use compare::against::{Call, Reply, Services};
+use compare::press::Record;
+use compare::presses::Presses;
 use compare::services::check;
 use compare::stack::tables::groups;
-use compare::stack::{measure, STACK};
+use compare::stack::{measure, measure_press, STACK};
+use compare::states::batch::Case;
 use std::hint::black_box;
 
 #[test]
@@ -43,6 +46,37 @@ impl Services for Deep {
     fn spell_entry(&self, table: &[u8], _: u64, _: u64, _: &mut [u8]) -> Reply {
         self.check(table)
     }
+}
+
+/// A press uses as much for each byte of the table, a preview for each byte of the step.
+impl Presses for Deep {
+    fn stack(&self) -> usize {
+        STACK
+    }
+
+    fn press(&self, table: &[u8], _: &[u8], _: &mut [Record]) -> Reply {
+        self.check(table)
+    }
+
+    fn preview(&self, _: &[u8], step: &[u8], _: &mut [Record], _: &mut [Record]) -> Reply {
+        self.check(step)
+    }
+}
+
+#[test]
+fn presses_and_previews_are_measured_apart() {
+    let case = Case {
+        state: None,
+        second: vec![],
+        step: vec![1; 40],
+    };
+    let [press, preview] = measure_press(&Deep, &[1; 20], &case, &mut []);
+    let fits = |used: usize, levels: usize| {
+        (levels * A_LEVEL..3 * levels * A_LEVEL + 8192).contains(&used)
+    };
+    assert!(fits(press, 20), "{press}");
+    assert!(fits(preview, 40), "{preview}");
+    assert!(preview >= press + 20 * A_LEVEL, "{press} {preview}");
 }
 
 /// What is measured grows as the use does, and is no less.

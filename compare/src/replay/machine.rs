@@ -135,7 +135,7 @@ impl Step {
 }
 
 /// A formula has its value first, then this is judged.
-fn is_wanted(role: Role, answer: Answer, wanted: i64) -> Result<(), Cause> {
+pub fn is_wanted(role: Role, answer: Answer, wanted: i64) -> Result<(), Cause> {
     match answer {
         Ok(value) if value == wanted => Ok(()),
         Ok(_) => Err(Cause::Formula(role, Verdict::False)),

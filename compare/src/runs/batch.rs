@@ -30,7 +30,7 @@ const WILD_STARTS: usize = 4;
 /// Initialisations of which the best is taken.
 const STARTS: usize = 3;
 
-const MODELS: [&str; 4] = [
+pub const MODELS: [&str; 4] = [
     include_str!("../../../models/L.txt"),
     include_str!("../../../models/counter.txt"),
     include_str!("../../../models/placing_head.txt"),

@@ -30,7 +30,9 @@ const TRUTH: i32 = 4;
 const NUMBER: i32 = 5;
 
 /// Where a formula is read: tag, event and variable.
-const PLACES: [(i32, i32, i32); 6] = [
+type Place = (i32, i32, i32);
+
+const PLACES: [Place; 6] = [
     (AXIOM, 0, 0),
     (GUARD, LATER, 0),
     (BECOMES_EQUAL, FIRST, TRUTH),
@@ -46,21 +48,37 @@ pub fn whole_family() -> Vec<Batch> {
 
 /// Every operator in every place.
 pub fn family() -> Vec<Batch> {
-    everywhere(&integers(), &predicates())
+    everywhere(&PLACES, &integers(), &predicates())
 }
 
 /// The deepest formulas in every place.
 pub fn deep_family() -> Vec<Batch> {
-    everywhere(&deep_integers(), &deep_predicates())
+    everywhere(&PLACES, &deep_integers(), &deep_predicates())
+}
+
+/// Every operator in the places that a press reads.
+pub fn pressed() -> Vec<Batch> {
+    everywhere(&pressed_places(), &integers(), &predicates())
+}
+
+/// The deepest formulas in those places.
+pub fn deep_pressed() -> Vec<Batch> {
+    everywhere(&pressed_places(), &deep_integers(), &deep_predicates())
+}
+
+/// All but the actions of the initialisation.
+fn pressed_places() -> Vec<Place> {
+    let places = PLACES.into_iter().filter(|place| place.1 != FIRST);
+    places.collect()
 }
 
 /// Each predicate in each place, and each integer compared there and as what the integer variable becomes.
-fn everywhere(integers: &[Tree], predicates: &[Tree]) -> Vec<Batch> {
+fn everywhere(places: &[Place], integers: &[Tree], predicates: &[Tree]) -> Vec<Batch> {
     let compared = |tree: &Tree| Tree::two(AT_MOST, tree.clone(), literal(0));
     let compared = integers.iter().map(compared);
     let mut batches = Vec::new();
     for predicate in predicates.iter().cloned().chain(compared) {
-        for (tag, event, identifier) in PLACES {
+        for &(tag, event, identifier) in places {
             let tree = match tag {
                 BECOMES_EQUAL => Tree::one(BOOL, predicate.clone()),
                 _ => predicate.clone(),
@@ -75,7 +93,7 @@ fn everywhere(integers: &[Tree], predicates: &[Tree]) -> Vec<Batch> {
 }
 
 /// The table with this formula, and a log that is a run if it allows it.
-fn with((tag, event, identifier): (i32, i32, i32), tree: Tree) -> Batch {
+fn with((tag, event, identifier): Place, tree: Tree) -> Batch {
     let formula = |tag, event, identifier, tree| DraftFormula {
         tag,
         event,

@@ -19,7 +19,7 @@ pub fn large(random: &mut Random) -> Draft {
 }
 
 /// The formulas that a replay reads, each with a value for so many of 24 values, as long as there are nodes for them.
-fn with_formulas(plan: Plan, often: usize, random: &mut Random) -> Draft {
+pub fn with_formulas(plan: Plan, often: usize, random: &mut Random) -> Draft {
     let mut draft = plan.draft(random);
     let mut left = Table::MOST_NODES - draft.nodes();
     for place in 0..draft.formulas.len() {
@@ -52,7 +52,7 @@ fn is_read(draft: &Draft, one: &DraftFormula) -> bool {
 }
 
 /// As many of everything as a table may have, or one or two fewer.
-fn many(random: &mut Random) -> Plan {
+pub fn many(random: &mut Random) -> Plan {
     let mut near = |limit: usize| limit - random.below(3);
     Plan {
         constants: near(10),
@@ -71,7 +71,7 @@ fn many(random: &mut Random) -> Plan {
 }
 
 /// Few of everything, or none.
-fn few(random: &mut Random) -> Plan {
+pub fn few(random: &mut Random) -> Plan {
     let mut plan = Plan {
         constants: random.pick(&[0, 1, 2, 2, 3]),
         abstract_variables: random.pick(&[0, 0, 1]),

@@ -24,7 +24,7 @@ pub fn any_integer(literals: &[i32], others: &[i64], random: &mut Random) -> i64
         2 => random.pick(&ENDS),
         3 => random.below(1 << 16) as i64,
         4 | 5 => i64::from(random.maybe(literals).unwrap_or(0)) + near,
-        _ => random.maybe(others).unwrap_or(0) + near,
+        _ => random.maybe(others).unwrap_or(0).saturating_add(near),
     };
     value.clamp(i64::from(i32::MIN), i64::from(i32::MAX))
 }

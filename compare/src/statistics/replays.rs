@@ -97,7 +97,7 @@ fn cause(cause: Cause, first: bool) -> String {
 }
 
 /// What a table has that a log depends on.
-fn features(table: &Table) -> Vec<&'static str> {
+pub fn features(table: &Table) -> Vec<&'static str> {
     let kind = |kind| table.identifiers.iter().filter(move |one| one.kind == kind);
     let none = |wanted| kind(wanted).next().is_none();
     let class = |class| table.events.iter().any(|event| event.class == class);

@@ -1,6 +1,7 @@
 //! Tables that several tests share.
 #![allow(dead_code)]
 
+pub mod plain_press;
 pub mod plain_replay;
 pub mod prefix;
 

@@ -97,6 +97,28 @@ enum Value {
 }
 use Value::*;
 
+/// The value of a formula with values before and after a step, or the number of its fault.
+pub fn term(
+    mistake: Mistake,
+    table: &Table,
+    root: i32,
+    (now, after): ([i128; 64], [i128; 64]),
+) -> Result<i128, i32> {
+    let run = Run {
+        mistake,
+        table,
+        log: &[],
+        rows: 0,
+        now,
+        after,
+    };
+    match run.value(root) {
+        Inside(value) => Ok(value),
+        Outside(_) => Err(OUTSIDE),
+        Undefined => Err(UNDEFINED),
+    }
+}
+
 pub struct Plain(pub Mistake);
 
 impl Replays for Plain {

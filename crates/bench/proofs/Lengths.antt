@@ -7,9 +7,9 @@ use native.Mathlib.Omega.{arith}
 use lib.Dec.{T, eqb, eqb→eq}
 use lib.IntN.{ℤ, pos}
 use lib.ListN.{length, getD}
-use borrow.Author.Tests.{ne-eqb}
+use borrow.Author.Tests.{eq-eqb, ne-eqb}
 use Rattle.lists.specs.Choice.{pick}
-use Rattle.formula.proofs.Truth.{and-split, true-test, test-true}
+use Rattle.formula.proofs.Truth.{and-split, and-join, true-test, test-true, eq→eqb}
 use Rattle.table.specs.Rows.{Rows, count}
 use Rattle.rules.specs.declared.Verdict.{Verdict}
 use Rattle.rules.specs.declared.Verdict.the-variants as verdict
@@ -21,10 +21,10 @@ use Rattle.log.specs.Rows.{isStateVariable}
 use Rattle.log.specs.Lines.{lines}
 use Rattle.log.specs.Replay.{Values}
 use Rattle.log.specs.Faults.{noFault, logFault}
-use Rattle.bench.specs.State.{valueOf, isState, updated}
+use Rattle.bench.specs.State.{valueOf, isState, IsState, updated}
 use Rattle.bench.specs.Choice.{Choice, chosen, none, choice}
 use Rattle.bench.specs.Press.{Outcome, made, refused, completed, pressFault, pressChoice, atHand, pressOn, outcomeBy, outcome}
-use Rattle.bench.proofs.State.{Right, state-right, map-size}
+use Rattle.bench.proofs.State.{state-right, right-state, map-size}
 
 pub made-never : {n row : ℕ} {zs : List ℤ} → refused n row ≡ made zs → ⊥
 made-never e = true≢false (ap (λ (o : Outcome). elim o [ made zs ↦ false | refused n row ↦ true ]) e)
@@ -35,7 +35,7 @@ made-is {zs} e = ap (λ (o : Outcome). elim o [ made us ↦ us | refused n row �
 module _ (t : Rows) (step : List ℕ) (zs : List ℤ) (types : List ℕ) (room : ℕ) where
   -- what a state that was pressed on is
   pub record Pressing (ys : List ℤ) : Type 0 where
-    pub right : Right t zs types
+    pub right : IsState t zs types
     pub roomy : room ≡ count t 10
     pub event : ℕ
     pub values : Values
@@ -70,6 +70,18 @@ module _ (t : Rows) (step : List ℕ) (zs : List ℤ) (types : List ℕ) (room :
       by-test : (b : Bool) → (isState t zs types && eqb room (count t 10)) ≡ b → pick b (pressChoice t zs (choice t (lines step) (atHand t zs))) (refused logFault 0) ≡ made ys → Pressing ys
       by-test true g h = by-choice (true-test _ g) (choice t (lines step) (atHand t zs)) refl h
       by-test false g h = absurd (made-never h)
+
+  -- the other way round
+  pub pressing-made : (ys : List ℤ) → Pressing ys → pressOn t step zs types room ≡ made ys
+  unfolding pressOn
+  pressing-made ys p =
+      let e = p .event in
+      let us : Values = completed t e (p .values) in
+      let test : (isState t zs types && eqb room (count t 10)) ≡ true =
+      test-true _ (and-join (isState t zs types) (eqb room (count t 10)) (true-test _ (right-state t zs types (p .right))) (eq→eqb room (count t 10) (p .roomy))) in
+      ap (λ b. pick b (pressChoice t zs (choice t (lines step) (atHand t zs))) (refused logFault 0)) test ∙ ap (pressChoice t zs) (p .chooses)
+      ∙ ap (λ b. pick b (made (updated t (us .after) zs)) (refused (pressFault t e (us .present) (us .after)) 0)) (eq-eqb (pressFault t e (us .present) (us .after)) noFault (p .faultless))
+      ∙ ap made (sym (p .makes))
 
   -- lists or room of another length
   pub refused-where : (isState t zs types && eqb room (count t 10)) ≡ false → pressOn t step zs types room ≡ refused logFault 0

@@ -1,2 +1,10 @@
 pub mod State
 pub mod Lengths
+pub mod Numbers
+pub mod After
+pub mod Chosen
+pub mod Performed
+pub mod Pressed
+pub mod Records
+pub mod Exact
+pub mod Benched

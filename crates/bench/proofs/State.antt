@@ -15,7 +15,7 @@ use Rattle.lists.proofs.Below.{numbers-in, in-numbers}
 use Rattle.lists.proofs.Different.{some-in, some-member}
 use Rattle.formula.proofs.Truth.{and-split, and-join, true-test, test-true, eq→eqb}
 use Rattle.table.specs.Rows.{Rows, count}
-use Rattle.bench.specs.State.{valueOf, laid, placed, isRight, isWrong, isState}
+use Rattle.bench.specs.State.{valueOf, laid, placed, isRight, isWrong, isState, IsState}
 
 -- a list that is made by number
 pub map-at : {A : Type 0} (f : ℕ → A) (n i k : ℕ) (d : A) → k < n → getD (map f (numbers n i)) k d ≡ f (i + k)
@@ -75,12 +75,7 @@ pub and-true : (a b : Bool) → (a && b) ≡ true → a ≡ true
 and-true true b h = refl
 and-true false b h = h
 
-pub record Right (t : Rows) (zs : List ℤ) (types : List ℕ) : Type 0 where
-  pub size : length zs ≡ count t 10
-  pub sorts : length types ≡ count t 10
-  pub records : (x : ℕ) → 1 ≤ x → x ≤ count t 10 → isRight t x (valueOf zs x) (getD types (x - 1) 0) ≡ true
-
-pub state-right : (t : Rows) (zs : List ℤ) (types : List ℕ) → isState t zs types ≡ true → Right t zs types
+pub state-right : (t : Rows) (zs : List ℤ) (types : List ℕ) → isState t zs types ≡ true → IsState t zs types
 unfolding isState
 state-right t zs types h =
     let n = count t 10 in
@@ -98,7 +93,7 @@ state-right t zs types h =
     none true f h = refl
     none false f h = absurd (subst (λ b. T (not b)) (f refl) h)
 
-pub right-state : (t : Rows) (zs : List ℤ) (types : List ℕ) → Right t zs types → isState t zs types ≡ true
+pub right-state : (t : Rows) (zs : List ℤ) (types : List ℕ) → IsState t zs types → isState t zs types ≡ true
 unfolding isState
 right-state t zs types r =
     test-true _ (and-join (eqb (length zs) (count t 10) && eqb (length types) (count t 10)) (not (someOf (isWrong t zs types) (numbers (count t 10) 1)))

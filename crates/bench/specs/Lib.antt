@@ -2,3 +2,4 @@ pub mod State
 pub mod Choice
 pub mod Press
 pub mod Pressed
+pub mod Benched

@@ -12,13 +12,18 @@ use Rattle.row.specs.Row.{greatest, width, rowBytes, Writable}
 use Rattle.row.specs.declared.Row.{Row}
 use Rattle.formula.specs.Values.{wrap}
 use Rattle.answer.specs.Stored.{storedValue}
-use Rattle.table.specs.Rows.{Rows}
+use Rattle.table.specs.Names.{identifierTag}
+use Rattle.table.specs.Rows.{Rows, count, typeOf}
 use Rattle.machine.specs.Machine.{Machine}
 use Rattle.machine.specs.Described.{machineOf}
+use Rattle.rules.specs.declared.Verdict.the-variants as verdict
+use Rattle.rules.specs.Decoded.{decoded}
+use Rattle.rules.specs.Verdict.{verdict as verdictOf}
 use Rattle.run.specs.Run.{State, blank, AllReadTrue, Step, Taken, ofRun}
 use Rattle.log.specs.Rows.{stepTag, isStateVariable}
 use Rattle.log.specs.Recorded.{valueRow, loggedValue, constantsAlone, AllInside, StepInside}
-use Rattle.bench.specs.State.{valueOf}
+use Rattle.bench.specs.declared.Record.{Record}
+use Rattle.bench.specs.State.{valuesIn, typesIn, valueOf, IsState, withValues}
 use Rattle.bench.specs.Choice.{asked}
 use Rattle.bench.specs.Press.{numberIn}
 
@@ -51,3 +56,16 @@ module _ (t : Rows) where
     pub inForm : All (Writable greatest width) (choiceRows (taken .event) (taken .parameters) (taken .result))
     pub written : step ≡ flatMap (rowBytes width) (choiceRows (taken .event) (taken .parameters) (taken .result))
     pub leaves : zs′ ≡ left (taken .result) zs
+
+  -- the records that show constants c and the state k; those of other identifiers have blank values
+  unfoldable pub recordsOf : State machine → State machine → List Record
+  recordsOf c k = map (λ x. record { value = numberIn (wrap (machine .type x) (loggedValue t c (blank machine) k x)); sort = typeOf t x }) (numbers (count t identifierTag) 1)
+
+-- the table is accepted, the records are a state of it, and the new ones are what a step leaves of them
+pub record Presses (table step : List ℕ) (state state′ : List Record) : Type 0 where
+  pub count : ℕ
+  pub accepted : verdictOf table ≡ verdict.Accepted count
+  pub isState : IsState (decoded table) (valuesIn state) (typesIn state)
+  pub values : List ℤ
+  pub pressed : PressedBy (decoded table) step (valuesIn state) values
+  pub records : state′ ≡ withValues values state

@@ -1,8 +1,9 @@
 -- 02, request 6: "The state is a lent list of records, one for each identifier, with value (signed 64 bits) and type." The value of identifier x stands in place x − 1 of
 -- the list of values, its type in that of the types.
-use mathlib.Core.Bool.{Bool, not, _&&_, _||_}
+use mathlib.Core.Path.{_≡_}
+use mathlib.Core.Bool.{Bool, true, not, _&&_, _||_}
 use mathlib.Core.List.{List, [], _∷_, _++_, map}
-use Prim.Native.Nat.{ℕ, _-_}
+use Prim.Native.Nat.{ℕ, _-_, _≤_}
 use lib.Dec.{eqb}
 use lib.IntN.{ℤ, pos}
 use lib.ListN.{length, getD, take, drop, replicate}
@@ -51,6 +52,12 @@ module _ (t : Rows) where
   isState zs types =
       (eqb (length zs) (count t identifierTag) && eqb (length types) (count t identifierTag))
       && not (someOf (isWrong zs types) (numbers (count t identifierTag) 1))
+
+  -- the same, as one reads it
+  pub record IsState (zs : List ℤ) (types : List ℕ) : Type 0 where
+    pub size : length zs ≡ count t identifierTag
+    pub sorts : length types ≡ count t identifierTag
+    pub records : (x : ℕ) → 1 ≤ x → x ≤ count t identifierTag → isRight x (valueOf zs x) (getD types (x - 1) 0) ≡ true
 
   -- "updates the variables' records": kinds 3 and 6 get their after values, which stand by identifier, "all other records stay"
   unfoldable pub updated : List ℤ → List ℤ → List ℤ

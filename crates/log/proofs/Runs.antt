@@ -57,11 +57,11 @@ is-beq false true h = absurd (true≢false (sym h))
 is-beq false false h = tt
 
 -- the events of the machines
-event-of : (t : Rows) (e : ℕ) → T (named t 40 e) → In e (machineOf t .events)
+pub event-of : (t : Rows) (e : ℕ) → T (named t 40 e) → In e (machineOf t .events)
 unfolding machineOf
 event-of t e n = named-event t e n
 
-of-event : (t : Rows) (e : ℕ) → In e (machineOf t .events) → T (named t 40 e)
+pub of-event : (t : Rows) (e : ℕ) → In e (machineOf t .events) → T (named t 40 e)
 unfolding machineOf
 of-event t e i = event-named t e i
 
@@ -69,7 +69,7 @@ module _ (t : Rows) where
   abbrev machine : Machine
   machine = machineOf t
 
-  abbrev stepRow : ℕ → Row
+  abbrev pub stepRow : ℕ → Row
   stepRow e = record { tag = 90; a = e; b = 0; c = 0 }
 
   -- ---- a step's row 90
@@ -95,7 +95,7 @@ module _ (t : Rows) where
         initial = beq-is (isInitial t e) first (k .1);
       }
 
-  row-step : (first : Bool) (e : ℕ) → T (named t 40 e) → machineNumber t e ≡ 2 → isInitial t e ≡ first → isStepRow t first (stepRow e) ≡ true
+  pub row-step : (first : Bool) (e : ℕ) → T (named t 40 e) → machineNumber t e ≡ 2 → isInitial t e ≡ first → isStepRow t first (stepRow e) ≡ true
   row-step first e n m i =
       test-true _ (and-join (named t 40 e && (eqb (machineNumber t e) 2 && Bool·beq (isInitial t e) first)) true
       (and-join (named t 40 e) (eqb (machineNumber t e) 2 && Bool·beq (isInitial t e) first) n
@@ -106,7 +106,7 @@ module _ (t : Rows) where
     Says e ro = RoleSays (machineNumber t e) (classOf t e) (refinedBy t e) ro
 
     -- the role of a step's event
-    later-role : (e : ℕ) → T (named t 40 e) → machineNumber t e ≡ 2 → isInitial t e ≡ false → T (ofRun machine (machine .role e))
+    pub later-role : (e : ℕ) → T (named t 40 e) → machineNumber t e ≡ 2 → isInitial t e ≡ false → T (ofRun machine (machine .role e))
     unfolding machineOf
     later-role e n m i = go (machine .role e) (event-says t ok e (machine .role e) n refl)
       where
@@ -122,7 +122,7 @@ module _ (t : Rows) where
     unfolding machineOf roleNumbered
     first-role e m i = ap₂ (λ m c. roleNumbered m c (refinedBy t e)) m (eqb→eq (classOf t e) 0 (true-test _ i))
 
-    role-later : (e : ℕ) → T (named t 40 e) → T (ofRun machine (machine .role e)) → (machineNumber t e ≡ 2) × (isInitial t e ≡ false)
+    pub role-later : (e : ℕ) → T (named t 40 e) → T (ofRun machine (machine .role e)) → (machineNumber t e ≡ 2) × (isInitial t e ≡ false)
     unfolding machineOf
     role-later e n h = go (machine .role e) (event-says t ok e (machine .role e) n refl) h
       where

@@ -47,11 +47,11 @@ variable-not-given k initial own h =
     either false = refl
 
 -- the variables of the concrete machine
-variable-of : (t : Rows) (x : ℕ) → In x (machineOf t .concreteVariables) → T (isStateVariable t x)
+pub variable-of : (t : Rows) (x : ℕ) → In x (machineOf t .concreteVariables) → T (isStateVariable t x)
 unfolding machineOf
 variable-of t x i = variable-named t 3 x i .1
 
-of-variable : (t : Rows) (x : ℕ) → T (named t 10 x) → T (isStateVariable t x) → In x (machineOf t .concreteVariables)
+pub of-variable : (t : Rows) (x : ℕ) → T (named t 10 x) → T (isStateVariable t x) → In x (machineOf t .concreteVariables)
 unfolding machineOf
 of-variable t x n v = named-variable t 3 x n v
 
@@ -87,36 +87,36 @@ module _ (t : Rows) where
   abbrev pub LoggedAre : ℕ → Values → State machine → State machine → State machine → Type 0
   LoggedAre e ws c q k = (x : ℕ) → In x (logged t e) → valueAt t e ws x ≡ loggedValue t c q k x
 
-  abbrev presently : Values → State machine
+  abbrev pub presently : Values → State machine
   presently vs = stored (machine .type) (vs .present)
 
-  abbrev afterwards : Values → State machine
+  abbrev pub afterwards : Values → State machine
   afterwards vs = stored (machine .type) (vs .after)
 
-  value-given : (e : ℕ) (ws : Values) (x : ℕ) → isGiven t e x ≡ true → valueAt t e ws x ≡ presently ws x
+  pub value-given : (e : ℕ) (ws : Values) (x : ℕ) → isGiven t e x ≡ true → valueAt t e ws x ≡ presently ws x
   unfolding stored
   value-given e ws x g = ap (λ b. storedValue (machine .type x) (getD (pick b (ws .present) (ws .after)) x (pos 0))) g
 
-  value-after : (e : ℕ) (ws : Values) (x : ℕ) → isGiven t e x ≡ false → valueAt t e ws x ≡ afterwards ws x
+  pub value-after : (e : ℕ) (ws : Values) (x : ℕ) → isGiven t e x ≡ false → valueAt t e ws x ≡ afterwards ws x
   unfolding stored
   value-after e ws x g = ap (λ b. storedValue (machine .type x) (getD (pick b (ws .present) (ws .after)) x (pos 0))) g
 
-  not-given : (e x : ℕ) → T (isStateVariable t x) → isGiven t e x ≡ false
+  pub not-given : (e x : ℕ) → T (isStateVariable t x) → isGiven t e x ≡ false
   not-given e x h = variable-not-given (kindOf t x) (isInitial t e) (eqb (ownerOf t x) e) h
 
   -- what is logged, by kind
-  logged-variable : (c q k : State machine) (x : ℕ) → T (isStateVariable t x) → loggedValue t c q k x ≡ k x
+  pub logged-variable : (c q k : State machine) (x : ℕ) → T (isStateVariable t x) → loggedValue t c q k x ≡ k x
   unfolding machineOf kindNumbered
   logged-variable c q k x h =
       or-cases (eqb (kindOf t x) 3) (eqb (kindOf t x) 6) h
       (λ i. ap (λ n. byKind (kindNumbered n) (c x) (blank machine x) (k x) (blank machine x) (q x) (k x)) (eqb→eq (kindOf t x) 3 i))
       (λ i. ap (λ n. byKind (kindNumbered n) (c x) (blank machine x) (k x) (blank machine x) (q x) (k x)) (eqb→eq (kindOf t x) 6 i))
 
-  logged-constant : (c q k : State machine) (x : ℕ) → kindOf t x ≡ 1 → loggedValue t c q k x ≡ c x
+  pub logged-constant : (c q k : State machine) (x : ℕ) → kindOf t x ≡ 1 → loggedValue t c q k x ≡ c x
   unfolding machineOf kindNumbered
   logged-constant c q k x i = ap (λ n. byKind (kindNumbered n) (c x) (blank machine x) (k x) (blank machine x) (q x) (k x)) i
 
-  logged-parameter : (c q k : State machine) (x : ℕ) → kindOf t x ≡ 5 → loggedValue t c q k x ≡ q x
+  pub logged-parameter : (c q k : State machine) (x : ℕ) → kindOf t x ≡ 5 → loggedValue t c q k x ≡ q x
   unfolding machineOf kindNumbered
   logged-parameter c q k x i = ap (λ n. byKind (kindNumbered n) (c x) (blank machine x) (k x) (blank machine x) (q x) (k x)) i
 
@@ -138,13 +138,13 @@ module _ (t : Rows) where
           after
 
   module _ (ok : Obeys t) where
-    named-small : (x : ℕ) → T (named t 10 x) → x < 65
+    pub named-small : (x : ℕ) → T (named t 10 x) → x < 65
     named-small x n = let b = named-bounds t 10 x n in let f = few-identifiers t (ok .full) in omega (arith, b .1, f)
 
     pub logged-small : (e : ℕ) → All (λ x. x < 65) (logged t e)
     logged-small e = all-in (logged t e) (λ x i. named-small x (in-logged e x i .0))
 
-    variables-small : All (λ x. x < 65) (machine .concreteVariables)
+    pub variables-small : All (λ x. x < 65) (machine .concreteVariables)
     unfolding machineOf
     variables-small = all-in (machine .concreteVariables) (λ x i. named-small x (variable-named t 3 x i .0))
 

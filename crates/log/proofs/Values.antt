@@ -59,7 +59,7 @@ module _ (t : Rows) (e : ℕ) where
   valueAt vs x = storedValue (machine .type x) (getD (placed vs x) x (pos 0))
 
   -- ---- storing one value
-  store-size : (x : ℕ) (z : ℤ) (vs : Values) → Sized vs → Sized (store t e x z vs)
+  pub store-size : (x : ℕ) (z : ℤ) (vs : Values) → Sized vs → Sized (store t e x z vs)
   store-size x z vs h = go (isGiven t e x)
     where
       go : (b : Bool) → Sized (storeBy b x z vs)
@@ -163,7 +163,7 @@ module _ (t : Rows) (e : ℕ) where
       go false = k .after
 
   -- the value of an identifier is that of its row
-  read-row : (x : ℕ) (xs : List ℕ) (i : ℕ) (ls : List Line) (vs ws : Values) (rest : List Line) → Sized vs → x < 65 → (In x xs → ⊥) → (f : First x xs i ls vs ws rest)
+  pub read-row : (x : ℕ) (xs : List ℕ) (i : ℕ) (ls : List Line) (vs ws : Values) (rest : List Line) → Sized vs → x < 65 → (In x xs → ⊥) → (f : First x xs i ls vs ws rest)
       → getD (placed ws x) x (pos 0) ≡ wholeNumber (f .row .b)
   read-row x xs i ls vs ws rest s l out f =
       let us : Values = store t e x (wholeNumber (f .row .b)) vs in

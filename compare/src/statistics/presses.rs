@@ -1,0 +1,159 @@
+//! What the presses of many batches give, and what those that are performed do.
+
+use super::replays::features;
+use crate::checks::{accept, Refusal};
+use crate::press::{Cause, Panel, Record};
+use crate::replay;
+use crate::replay::machine::Change;
+use crate::shrink::rows_of;
+use crate::states::batch::{batch, Batch, Case};
+use crate::table::*;
+use std::collections::BTreeMap;
+
+/// Counts over many batches.
+#[derive(Clone, Debug, Default)]
+pub struct Presses {
+    pub presses: usize,
+    /// Presses by words for what they give.
+    pub answers: BTreeMap<String, usize>,
+    /// Performed presses by words for what they do.
+    pub performed: BTreeMap<&'static str, usize>,
+    /// Previews that are refused for the second list alone.
+    pub second: usize,
+    /// Accepted tables by words for what they have.
+    pub tables: BTreeMap<&'static str, usize>,
+}
+
+impl Presses {
+    /// Counts the batches from `first`, so many of them.
+    pub fn of(first: u64, batches: u64) -> Presses {
+        let mut presses = Presses::default();
+        for number in first..first + batches {
+            presses.add(&batch(number));
+        }
+        presses
+    }
+
+    pub fn add(&mut self, Batch { table, cases }: &Batch) {
+        self.presses += cases.len();
+        match accept(table) {
+            Ok(read) => self.add_cases(&read, cases),
+            Err(Refusal { number, .. }) => {
+                let word = format!("table {number:>2}");
+                *self.answers.entry(word).or_default() += cases.len();
+            }
+        }
+    }
+
+    fn add_cases(&mut self, table: &Table, cases: &[Case]) {
+        for word in features(table) {
+            *self.tables.entry(word).or_default() += 1;
+        }
+        let panel = Panel::of(table);
+        let mut now = Vec::new();
+        for case in cases {
+            if let Some(state) = &case.state {
+                now = state.clone();
+            }
+            let before = now.clone();
+            let answer = panel.press(&case.step, &mut now);
+            let mut second = case.second.clone();
+            let previewed = panel.preview(&case.step, &before, &mut second);
+            self.second += usize::from(number(answer) != number(previewed));
+            let word = match answer {
+                Ok(()) => {
+                    self.add_performed(&panel, case, &before, &now);
+                    " 0 performed".to_string()
+                }
+                Err(cause) => format!("{} {}", cause.number(), words(table, cause, &before)),
+            };
+            *self.answers.entry(word).or_default() += 1;
+        }
+    }
+
+    fn add_performed(&mut self, panel: &Panel, case: &Case, before: &[Record], after: &[Record]) {
+        let event = rows_of(&case.step).map_or(0, |rows| rows[0].a);
+        let Some(step) = panel.event(event) else {
+            return;
+        };
+        let changed = step
+            .variables
+            .iter()
+            .filter(|one| before[one.0] != after[one.0]);
+        let changed: Vec<(usize, Change)> = changed.copied().collect();
+        let all = |fits: fn(&Change) -> bool| step.variables.iter().any(|one| fits(&one.1));
+        let wide = |one: &(usize, Change)| i32::try_from(after[one.0].value).is_err();
+        let words = [
+            ("the list that was left before", case.state.is_none()),
+            ("nothing changed", changed.is_empty()),
+            ("several variables changed", changed.len() > 1),
+            ("a value that no row can hold", changed.iter().any(wide)),
+            ("parameters", !step.inputs().is_empty()),
+            ("51 actions", all(|one| matches!(one, Change::Equal(_)))),
+            ("52 actions", all(|one| matches!(one, Change::SuchThat(_)))),
+            ("variables that are kept", all(|one| *one == Change::Kept)),
+            ("axioms", !panel.axioms().is_empty()),
+            ("guards", !step.conditions.is_empty()),
+            (
+                "as many records as can be",
+                before.len() == Table::MOST_IDENTIFIERS,
+            ),
+        ];
+        for (word, _) in words.iter().filter(|one| one.1) {
+            *self.performed.entry(word).or_default() += 1;
+        }
+    }
+
+    /// How many answers begin with this word.
+    pub fn beginning(&self, word: &str) -> usize {
+        let answers = self.answers.iter().filter(|one| one.0.starts_with(word));
+        answers.map(|one| one.1).sum()
+    }
+
+    /// The counts as lines of text.
+    pub fn report(&self) -> String {
+        let mut text = format!("{} presses\n", self.presses);
+        for (word, count) in &self.answers {
+            text += &format!("{word}: {count}\n");
+        }
+        for (word, count) in &self.performed {
+            text += &format!("performed with {word}: {count}\n");
+        }
+        text += &format!(
+            "previews refused for the second list alone: {}\n",
+            self.second
+        );
+        for (word, count) in &self.tables {
+            text += &format!("accepted tables with {word}: {count}\n");
+        }
+        text
+    }
+}
+
+/// 0, or the number of the refusal.
+fn number(answer: Result<(), Cause>) -> i32 {
+    answer.map_or_else(Cause::number, |()| 0)
+}
+
+/// The cause in words, with the kind of a record that is at fault.
+fn words(table: &Table, cause: Cause, list: &[Record]) -> String {
+    let kind = |fits: fn(&Record, i32) -> bool| {
+        let mut pairs = list.iter().zip(&table.identifiers);
+        let found = pairs.find(|(record, one)| !fits(record, one.type_number));
+        found.map_or(0, |(_, one)| one.kind)
+    };
+    let fits_type = |record: &Record, type_number: i32| record.type_number == type_number as u64;
+    match cause {
+        Cause::Length | Cause::SecondLength => format!("list {cause:?}"),
+        Cause::Type => format!("list {cause:?}, kind {}", kind(fits_type)),
+        Cause::Boolean => {
+            let fits = |record: &Record, type_number: i32| {
+                type_number != BOOLEAN || (0..=1).contains(&record.value)
+            };
+            format!("list {cause:?}, kind {}", kind(fits))
+        }
+        Cause::More => "rows More".to_string(),
+        Cause::Step(replay::Cause::Formula(role, verdict)) => format!("{role:?} {verdict:?}"),
+        Cause::Step(cause) => format!("rows {cause:?}"),
+    }
+}
