@@ -1,5 +1,7 @@
 //! The commands of the program.
 
+use crate::bench::lines::Lines;
+use crate::bench::{session, Bench};
 use crate::discharge::{run, Plan};
 use crate::library::{self, Refusal};
 use crate::log::shape::Shapes;
@@ -15,6 +17,7 @@ use crate::sequents::{Answers, Sequent, Spelled, KINDS, RODIN_KINDS};
 use crate::show::show;
 use crate::smt::{Smt, PREAMBLE};
 use crate::source::Source;
+use std::io::{stdin, stdout, ErrorKind, IsTerminal};
 use std::ops::RangeInclusive;
 use std::time::Duration;
 
@@ -34,9 +37,11 @@ use: sifthorma COMMAND FILE ..
   replay FILE LOG            whether a recorded run is a run of the refinement, and how many steps it has; or which step isn't, and why
   log FILE LOG               the log as a text: a line for each step, with what has changed
   rows FILE LOG              the log as rows of 38 bytes, judged or not
+  press FILE [LOG]           a bench: events are chosen, previewed and pressed, from the initialisation or the end of LOG
 FILE is a text in the notation (.eb), a text of rows (.txt) or a table; - is standard input. LOG is a text
 or rows. docs/GUIDE.md has the notation, and the form of logs.
-Exit status: 0; 1 if the model or the log is refused or a sequent isn't discharged; 2 if something can't be read, written or run.
+Exit status: 0; 1 if the model or the log is refused, a sequent isn't discharged or a bench isn't started; 2 if something can't be
+read, written or run.
 ";
 
 /// How a command ends that doesn't simply give its output.
@@ -72,6 +77,12 @@ pub fn answer(words: &[&str]) -> Done<Vec<u8>> {
         ["replay", file, log] => replay(&read(file)?, log),
         ["log", file, log] => log_text(&read(file)?, log),
         ["rows", file, log] => Ok(recorded(&read(file)?, log)?.1.bytes),
+        ["press", "-", ..] | ["press", _, "-"] => Err(cannot(
+            "standard input is what is typed at the bench; the model and the log are files"
+                .to_string(),
+        )),
+        ["press", file] => press(&read(file)?, None),
+        ["press", file, log] => press(&read(file)?, Some(log)),
         [] => Err(cannot(USAGE.to_string())),
         [first, ..] => Err(cannot(format!("{}\n{USAGE}", unknown(first)))),
     }
@@ -92,6 +103,14 @@ fn cannot(message: String) -> Ending {
         message,
         status: 2,
     }
+}
+
+/// What was written didn't get through. A reader that has seen enough, as `head`, knows that it has gone.
+pub fn unwritten(error: std::io::Error) -> Ending {
+    cannot(match error.kind() {
+        ErrorKind::BrokenPipe => String::new(),
+        _ => format!("cannot write: {error}"),
+    })
 }
 
 /// The output stands, but not all is well.
@@ -381,8 +400,7 @@ fn replay(source: &Source, log: &str) -> Done<Vec<u8>> {
     let (shapes, log) = recorded(source, log)?;
     let file = &log.file;
     match library::replay(&source.bytes, &log.bytes) {
-        Ok(1) => Ok(format!("{file}: accepted: 1 step\n").into()),
-        Ok(steps) => Ok(format!("{file}: accepted: {steps} steps\n").into()),
+        Ok(steps) => Ok(format!("{file}: accepted: {}\n", log::counted(steps)).into()),
         Err(refusal) => Err(not_all(words::report(source, &shapes, &log, refusal))),
     }
 }
@@ -396,4 +414,29 @@ fn log_text(source: &Source, log: &str) -> Done<Vec<u8>> {
         cannot(message)
     })?;
     Ok(text.into())
+}
+
+/// A session at the bench, on standard input and output.
+fn press(source: &Source, log: Option<&str>) -> Done<Vec<u8>> {
+    count(source)?;
+    let shapes = Shapes::of(&source.table, &source.names);
+    let log = log.map(|log| Log::read(log, &shapes).map_err(cannot));
+    let log = log.transpose()?;
+    // a terminal shows what is typed
+    let echo = !stdin().is_terminal();
+    let (mut input, mut output) = (stdin().lock(), stdout().lock());
+    let mut lines = Lines::new(&mut input, &mut output, echo);
+    let bench = match &log {
+        Some(log) => {
+            let resumed = Bench::resume(source, &shapes, log);
+            let report = |refusal| not_all(words::report(source, &shapes, log, refusal));
+            Some(resumed.map_err(report)?)
+        }
+        None => session::start(&mut lines, source, &shapes).map_err(unwritten)?,
+    };
+    let Some(mut bench) = bench else {
+        return Err(not_all(String::new()));
+    };
+    session::run(&mut lines, &mut bench).map_err(unwritten)?;
+    Ok(vec![])
 }

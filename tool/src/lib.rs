@@ -1,6 +1,7 @@
 //! The engineer's tool: models in Event-B's notation as tables, and what the proved library answers, with names.
 
 pub mod answers;
+pub mod bench;
 pub mod commands;
 pub mod discharge;
 pub mod evaluate;

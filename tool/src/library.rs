@@ -1,4 +1,4 @@
-//! The proved library behind its C header: check, write sequent, spell entry, replay.
+//! The proved library behind its C header: check, write sequent, spell entry, replay, press, preview.
 
 use crate::rows::{read_rows, Row, ROW_BYTES};
 
@@ -28,6 +28,34 @@ extern "C" {
         run_length: usize,
         value: *mut u64,
     ) -> u64;
+    fn sifthorma_press(
+        table: *const u8,
+        table_length: usize,
+        step: *const u8,
+        step_length: usize,
+        state: *mut Record,
+        state_length: usize,
+        value: *mut u64,
+    ) -> u64;
+    fn sifthorma_preview(
+        table: *const u8,
+        table_length: usize,
+        step: *const u8,
+        step_length: usize,
+        first: *const Record,
+        first_length: usize,
+        second: *mut Record,
+        second_length: usize,
+        value: *mut u64,
+    ) -> u64;
+}
+
+/// The record of one identifier, laid out as the header has it: its value (booleans 0 or 1) and its type.
+#[repr(C)]
+#[derive(Clone, Copy, Debug, PartialEq, Eq)]
+pub struct Record {
+    pub value: i64,
+    pub type_number: u64,
 }
 
 /// A refusal: its number, and the row that is named or 0.
@@ -58,6 +86,47 @@ pub fn replay(table: &[u8], log: &[u8]) -> Result<u64, Refusal> {
         sifthorma_replay(table.as_ptr(), table.len(), start, length, &mut value)
     };
     replied(number, value)
+}
+
+/// Performs one step on the state, or changes nothing of it.
+pub fn press(table: &[u8], step: &[u8], state: &mut [Record]) -> Result<(), Refusal> {
+    let mut value = 0;
+    let number = unsafe {
+        sifthorma_press(
+            table.as_ptr(),
+            table.len(),
+            step.as_ptr(),
+            step.len(),
+            state.as_mut_ptr(),
+            state.len(),
+            &mut value,
+        )
+    };
+    replied(number, value).map(|_| ())
+}
+
+/// What pressing the step would make of this state.
+pub fn preview(table: &[u8], step: &[u8], state: &[Record]) -> Result<Vec<Record>, Refusal> {
+    let mut value = 0;
+    let unwritten = Record {
+        value: 0,
+        type_number: 0,
+    };
+    let mut after = vec![unwritten; state.len()];
+    let number = unsafe {
+        sifthorma_preview(
+            table.as_ptr(),
+            table.len(),
+            step.as_ptr(),
+            step.len(),
+            state.as_ptr(),
+            state.len(),
+            after.as_mut_ptr(),
+            after.len(),
+            &mut value,
+        )
+    };
+    replied(number, value).map(|_| after)
 }
 
 /// The bytes of sequent k: rows 80, 84, 81, 82.

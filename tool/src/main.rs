@@ -1,7 +1,7 @@
 //! The program `sifthorma`: runs a command, writes what it answers, and ends with its status.
 
-use sifthorma::commands::answer;
-use std::io::{stderr, stdout, ErrorKind, Write};
+use sifthorma::commands::{answer, unwritten};
+use std::io::{stderr, stdout, Write};
 use std::process::ExitCode;
 
 /// Formulas are walked by recursion, and the library asks for a stack of its own: this is room for both.
@@ -28,13 +28,10 @@ fn run() -> u8 {
     };
     let mut out = stdout().lock();
     let written = out.write_all(&output).and_then(|()| out.flush());
-    if let Err(error) = written {
-        // a reader that has seen enough, as `head`, knows that it has gone
-        if error.kind() != ErrorKind::BrokenPipe {
-            let _ = writeln!(stderr(), "cannot write: {error}");
-        }
-        return 2;
-    }
+    let (message, status) = match written.map_err(unwritten) {
+        Ok(()) => (message, status),
+        Err(ending) => (ending.message, ending.status),
+    };
     if !message.is_empty() {
         let _ = writeln!(stderr(), "{}", message.trim_end());
     }

@@ -50,10 +50,14 @@ pub fn write_row(row: Row) -> Vec<u8> {
     row_of_words([row.tag, row.a, row.b, row.c].map(|number| number.to_string().into_bytes()))
 }
 
+/// Whether a number is one that a row's columns hold.
+pub fn fits(number: i64) -> bool {
+    i32::try_from(number).is_ok()
+}
+
 /// Writes a row behind these bytes.
 pub fn push_row(bytes: &mut Vec<u8>, row: Row) {
     let Row { tag, a, b, c } = row;
-    let fits = |number: i64| i32::try_from(number).is_ok();
     match (-999..=9999).contains(&tag) && [a, b, c].into_iter().all(fits) {
         true => writeln!(bytes, "{tag:>4}{a:>11}{b:>11}{c:>11}").expect("room"),
         false => bytes.extend(write_row(row)),

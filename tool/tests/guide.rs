@@ -2,7 +2,8 @@
 
 mod common;
 
-use common::{run, text_of};
+use common::{is_shown, play, run, text_of};
+use std::path::Path;
 use std::process::Command;
 
 const GUIDE: &str = include_str!("../../docs/GUIDE.md");
@@ -28,15 +29,6 @@ fn is_installed(prover: &str) -> bool {
     Command::new(prover).arg("--version").output().is_ok()
 }
 
-/// Whether these lines are those shown, where `..` stands for any lines.
-fn is_shown(lines: &[&str], shown: &[&str]) -> bool {
-    match shown.split_first() {
-        None => lines.is_empty(),
-        Some((&"..", rest)) => (0..=lines.len()).any(|skipped| is_shown(&lines[skipped..], rest)),
-        Some((line, rest)) => lines.first() == Some(line) && is_shown(&lines[1..], rest),
-    }
-}
-
 #[test]
 fn answers_are_those_shown() {
     let mut compared = 0;
@@ -45,6 +37,9 @@ fn answers_are_those_shown() {
             continue;
         };
         let words: Vec<&str> = command.split_whitespace().collect();
+        if words[0] == "press" {
+            continue;
+        }
         // provers are optional
         if words[0] == "discharge" && !is_installed("z3") && !is_installed("cvc5") {
             continue;
@@ -55,6 +50,33 @@ fn answers_are_those_shown() {
         compared += 1;
     }
     assert!(compared >= 10, "{compared} commands");
+}
+
+/// A session at the bench: what is typed behind its prompts gives the lines that are shown. The log goes where tests write.
+#[test]
+fn sessions_are_those_shown() {
+    let path = Path::new(env!("CARGO_TARGET_TMPDIR")).join("guide_run.log");
+    let path = path.to_str().expect("UTF-8");
+    let mut played = 0;
+    for block in blocks() {
+        let Some(command) = block[0].strip_prefix("$ sifthorma press ") else {
+            continue;
+        };
+        // the file of an earlier run of this test
+        let _ = std::fs::remove_file(path);
+        let words: Vec<&str> = ["press"].into_iter().chain(command.split(' ')).collect();
+        let session: Vec<String> = block[1..]
+            .iter()
+            .map(|line| line.replace("run.log", path))
+            .collect();
+        let session: Vec<&str> = session.iter().map(String::as_str).collect();
+        let ran = play(&words, &session);
+        let lines: Vec<&str> = ran.output.lines().collect();
+        assert!(is_shown(&lines, &session), "{command}:\n{}", ran.output);
+        assert_eq!((ran.message.as_str(), ran.status), ("", Some(0)));
+        played += 1;
+    }
+    assert_eq!(played, 1);
 }
 
 /// A line without its comment.

@@ -2,9 +2,8 @@
 
 mod common;
 
-use common::{file, model, program, run, text_of, Ran};
+use common::{file, model, program, run, run_on, text_of, Ran};
 use std::fs::File;
-use std::io::Write;
 use std::process::Stdio;
 
 /// A model with a sequent of every kind.
@@ -92,16 +91,6 @@ const ALL_LISTED: &str = "    1  c0  axm2/WD
    44  m1  idle/VAR
 ";
 
-/// Runs the program with this on its standard input.
-fn run_on(words: &[&str], input: &[u8]) -> Ran {
-    let mut command = program(words);
-    command.stdin(Stdio::piped()).stdout(Stdio::piped());
-    let mut child = command.stderr(Stdio::piped()).spawn().expect("it runs");
-    let written = child.stdin.take().expect("an input").write_all(input);
-    written.expect("it reads");
-    Ran::of(child.wait_with_output().expect("it ends"))
-}
-
 /// The program accepts, and writes this.
 fn gives(words: &[&str], output: &str) {
     let expected = Ran {
@@ -174,6 +163,8 @@ fn refused() {
     refused(&["smt", file, "1"], "");
     refused(&["discharge", file], "");
     refused(&["refute", file], "");
+    refused(&["press", file], "");
+    refused(&["press", file, "models/free_list.log"], "");
     let table = run(&["table", file]);
     assert_eq!(table, run(&["table", "models/refused.txt"]));
     assert_eq!((table.output.len(), table.status), (15 * 38, Some(0)));
@@ -361,6 +352,11 @@ refute FILE 2 1 → no number lies between 2 and 1
 replay FILE → `replay` takes other words than these
 log FILE → `log` takes other words than these
 rows FILE → `rows` takes other words than these
+press → `press` takes other words than these
+press FILE FILE FILE → `press` takes other words than these
+press - → standard input is what is typed at the bench
+press - FILE → standard input is what is typed at the bench
+press FILE - → standard input is what is typed at the bench
 ",
     );
 }

@@ -15,6 +15,11 @@ use shape::Shapes;
 pub const STEP: i64 = 90;
 pub const VALUE: i64 = 91;
 
+/// A row of a log; its last column isn't used.
+pub fn row(tag: i64, a: i64, b: i64) -> Row {
+    Row { tag, a, b, c: 0 }
+}
+
 /// A log as its file gives it.
 pub struct Log {
     pub file: String,
@@ -85,6 +90,14 @@ impl Log {
     /// How many rows there are, a torn one counted too.
     pub fn rows(&self) -> usize {
         self.bytes.len().div_ceil(ROW_BYTES)
+    }
+}
+
+/// A number of steps, in words.
+pub fn counted(steps: u64) -> String {
+    match steps {
+        1 => "1 step".to_string(),
+        _ => format!("{steps} steps"),
     }
 }
 

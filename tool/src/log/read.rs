@@ -2,10 +2,10 @@
 
 use super::scan::{Scanner, Token};
 use super::shape::{Logged, Shape, Shapes};
-use super::{STEP, VALUE};
+use super::{row, STEP, VALUE};
 use crate::notation::token::quoted;
 use crate::notation::Mistake;
-use crate::rows::{push_row, Row, ROW_BYTES};
+use crate::rows::{fits, push_row, Row, ROW_BYTES};
 use std::collections::BTreeMap;
 
 type Read<T> = Result<T, Mistake>;
@@ -122,7 +122,7 @@ impl Reader<'_> {
         if !self.scanner.take(Token::Equals)? {
             return self.scanner.expected("`=` after the name");
         }
-        let value = self.value(logged)?;
+        let value = value(&mut self.scanner, logged)?;
         Ok(Entry {
             row: row(VALUE, logged.number, value),
             named: true,
@@ -130,35 +130,14 @@ impl Reader<'_> {
         })
     }
 
-    fn value(&mut self, logged: &Logged) -> Read<i64> {
-        let value = match self.scanner.token {
-            Token::Name("TRUE") if logged.boolean => 1,
-            Token::Name("FALSE") if logged.boolean => 0,
-            Token::Number(..) => return self.number(),
-            _ if logged.boolean => return self.scanner.expected("TRUE or FALSE"),
-            _ => return self.scanner.expected("a number"),
-        };
-        self.scanner.go_on()?;
-        Ok(value)
-    }
-
-    /// A number; one that is too large for its columns is laid out so that the library refuses it.
-    fn number(&mut self) -> Read<i64> {
-        let Token::Number(digits, negative) = self.scanner.token else {
-            return self.scanner.expected("a number");
-        };
-        let number = digits.parse().unwrap_or(i64::MAX);
-        self.scanner.go_on()?;
-        Ok(if negative { -number } else { number })
-    }
-
     /// A row as its four numbers.
     fn row(&mut self) -> Read<Row> {
+        let mut next = || number(&mut self.scanner);
         Ok(Row {
-            tag: self.number()?,
-            a: self.number()?,
-            b: self.number()?,
-            c: self.number()?,
+            tag: next()?,
+            a: next()?,
+            b: next()?,
+            c: next()?,
         })
     }
 
@@ -194,6 +173,44 @@ impl Reader<'_> {
     }
 }
 
+/// A value of an identifier.
+fn value(scanner: &mut Scanner, logged: &Logged) -> Read<i64> {
+    let value = match scanner.token {
+        Token::Name("TRUE") if logged.boolean => 1,
+        Token::Name("FALSE") if logged.boolean => 0,
+        Token::Number(..) => return number(scanner),
+        _ if logged.boolean => return scanner.expected("TRUE or FALSE"),
+        _ => return scanner.expected("a number"),
+    };
+    scanner.go_on()?;
+    Ok(value)
+}
+
+/// A number; one that is too large for its columns is laid out so that the library refuses it.
+fn number(scanner: &mut Scanner) -> Read<i64> {
+    let Token::Number(digits, negative) = scanner.token else {
+        return scanner.expected("a number");
+    };
+    let number = digits.parse().unwrap_or(i64::MAX);
+    scanner.go_on()?;
+    Ok(if negative { -number } else { number })
+}
+
+/// The value of an identifier in a text by itself: one of its type that a row can hold.
+pub fn read_value(text: &str, logged: &Logged) -> Read<i64> {
+    let mut scanner = Scanner::new(text)?;
+    let value = value(&mut scanner, logged)?;
+    if scanner.token != Token::End {
+        return scanner.expected("one value");
+    }
+    let (allowed, wanted) = match logged.boolean {
+        true => (value == 0 || value == 1, "TRUE or FALSE"),
+        false => (fits(value), "a number from −2147483648 to 2147483647"),
+    };
+    let wrong = || Mistake::new(0, &format!("expected {wanted}, found {}", quoted(text)));
+    allowed.then_some(value).ok_or_else(wrong)
+}
+
 /// Keeps the value of a row 91 as the one that its identifier had last.
 pub fn remember(last: &mut [Option<i64>], row: Row) {
     let place = usize::try_from(row.a).ok().and_then(|n| n.checked_sub(1));
@@ -201,8 +218,4 @@ pub fn remember(last: &mut [Option<i64>], row: Row) {
     if let (VALUE, Some(value)) = (row.tag, value) {
         *value = Some(row.b);
     }
-}
-
-fn row(tag: i64, a: i64, b: i64) -> Row {
-    Row { tag, a, b, c: 0 }
 }

@@ -56,9 +56,31 @@ impl Shapes {
         self.events.get(place)?.as_ref()
     }
 
+    /// The shapes of all events of the refinement, in order.
+    pub fn all(&self) -> impl Iterator<Item = &Shape> {
+        self.events.iter().flatten()
+    }
+
     /// The shape of the refinement's event with this name.
     pub fn named(&self, name: &str) -> Option<&Shape> {
-        self.events.iter().flatten().find(|one| one.name == name)
+        self.all().find(|one| one.name == name)
+    }
+}
+
+impl Logged {
+    /// A value as a log's text has it.
+    pub fn shown(&self, value: i64) -> String {
+        match value {
+            0 if self.boolean => "FALSE".to_string(),
+            1 if self.boolean => "TRUE".to_string(),
+            ..0 => format!("−{}", value.unsigned_abs()),
+            _ => value.to_string(),
+        }
+    }
+
+    /// The name and its value.
+    pub fn entry(&self, value: i64) -> String {
+        format!("{} = {}", self.name, self.shown(value))
     }
 }
 

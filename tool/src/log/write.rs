@@ -7,32 +7,61 @@ use crate::rows::{read_row, Row, ROW_BYTES};
 
 /// The text of a log. An error is the number of the first row that isn't in the row form.
 pub fn write(log: &[u8], shapes: &Shapes) -> Result<String, usize> {
-    let mut writer = Writer {
-        shapes,
-        last: vec![None; shapes.identifiers],
-        text: String::new(),
-    };
-    let mut step: Vec<Row> = Vec::new();
+    let mut writer = Writer::new(shapes);
     for (bytes, number) in log.chunks(ROW_BYTES).zip(1_usize..) {
-        let row = read_row(bytes).ok_or(number)?;
-        if row.tag != VALUE && !step.is_empty() {
-            writer.step(&step);
-            step.clear();
-        }
-        step.push(row);
+        writer.row(read_row(bytes).ok_or(number)?);
     }
-    writer.step(&step);
-    Ok(writer.text)
+    Ok(writer.whole())
+}
+
+/// The text of a log's rows, whose values may be wider than their columns.
+pub fn write_rows(rows: &[Row], shapes: &Shapes) -> String {
+    let mut writer = Writer::new(shapes);
+    rows.iter().for_each(|&row| writer.row(row));
+    writer.whole()
 }
 
 struct Writer<'a> {
     shapes: &'a Shapes,
     /// The values that were logged last, by identifier number less one.
     last: Vec<Option<i64>>,
+    /// The rows of the step that isn't written yet.
+    rows: Vec<Row>,
     text: String,
 }
 
 impl<'a> Writer<'a> {
+    fn new(shapes: &'a Shapes) -> Writer<'a> {
+        Writer {
+            shapes,
+            last: vec![None; shapes.identifiers],
+            rows: Vec::new(),
+            text: String::new(),
+        }
+    }
+
+    /// Takes the next row: one of any other tag than 91 begins a step.
+    fn row(&mut self, row: Row) {
+        if row.tag != VALUE {
+            self.end_step();
+        }
+        self.rows.push(row);
+    }
+
+    /// The text, with the last step.
+    fn whole(mut self) -> String {
+        self.end_step();
+        self.text
+    }
+
+    fn end_step(&mut self) {
+        let mut rows = std::mem::take(&mut self.rows);
+        self.step(&rows);
+        // its room serves the next step
+        rows.clear();
+        self.rows = rows;
+    }
+
     /// A row of any other tag than 91, if there is one, and the rows 91 that follow it.
     fn step(&mut self, rows: &[Row]) {
         match rows.first().and_then(|&first| self.shape(first)) {
@@ -66,7 +95,7 @@ impl<'a> Writer<'a> {
             let one = shape.numbered(row.a).filter(|_| row.c == 0);
             match one {
                 Some(one) if whole && self.is_kept(one, row) => {}
-                Some(one) => entries.push(entry(one, row.b)),
+                Some(one) => entries.push(one.entry(row.b)),
                 None => entries.push(numbers(row)),
             }
         }
@@ -84,17 +113,6 @@ impl<'a> Writer<'a> {
     /// Whether a variable has the value that was logged last.
     fn is_kept(&self, logged: &Logged, row: Row) -> bool {
         logged.variable && self.last[logged.number as usize - 1] == Some(row.b)
-    }
-}
-
-/// A name and its value.
-fn entry(logged: &Logged, value: i64) -> String {
-    let name = &logged.name;
-    match value {
-        0 if logged.boolean => format!("{name} = FALSE"),
-        1 if logged.boolean => format!("{name} = TRUE"),
-        ..0 => format!("{name} = −{}", value.unsigned_abs()),
-        _ => format!("{name} = {value}"),
     }
 }
 

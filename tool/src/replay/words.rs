@@ -13,19 +13,48 @@ use crate::table::{class, BOOLEAN};
 /// The refusal with the line of the log and what it says, then a line on what to look for.
 pub fn report(source: &Source, shapes: &Shapes, log: &Log, refusal: Refusal) -> String {
     let Refusal { number, row } = refusal;
-    let found = find(&source.table, shapes, log, refusal);
+    let said = said(source, shapes, log, refusal);
+    let (place, word) = (log.place(row), word(number));
+    let head = format!("{place}: refusal {number} ({word}), row {row}: {said}");
+    format!("{head}\n    look for: {}\n", look_for(number))
+}
+
+/// What a refusal says, without its number and its place.
+pub fn said(source: &Source, shapes: &Shapes, log: &Log, refusal: Refusal) -> String {
     let words = Words {
         source,
         shapes,
         log,
     };
-    let said = match found {
+    match find(&source.table, shapes, log, refusal) {
         Some(found) => words.said(&found),
         None => "the library refuses the log here".to_string(),
-    };
-    let (place, word) = (log.place(row), word(number));
-    let head = format!("{place}: refusal {number} ({word}), row {row}: {said}");
-    format!("{head}\n    look for: {}\n", look_for(number))
+    }
+}
+
+/// A step that is refused with this number for this reason; the initialisation is step 0.
+pub fn refused_step(step: usize, number: u64, reason: &str) -> String {
+    let step = numbered(step);
+    match number {
+        LOG => format!("{step} isn't allowed: {reason}"),
+        _ => format!("{step}: {reason}"),
+    }
+}
+
+/// Why an event can't step, at the start of a run or later.
+pub fn cannot_step(source: &Source, event: i64) -> String {
+    let (table, names) = (&source.table, &source.names);
+    let (name, machine) = (names.event(event), names.machine(2));
+    match table.event(event) {
+        None => format!("no event has number {event}"),
+        Some(row) if row.a == 1 => {
+            format!("{name} is an event of {}", names.machine(1))
+        }
+        Some(row) if row.b == class::INITIALISATION => {
+            format!("the INITIALISATION of {machine} comes first and only once")
+        }
+        _ => format!("{name} is no INITIALISATION, and a log begins with it"),
+    }
 }
 
 struct Words<'a> {
@@ -53,12 +82,8 @@ impl Words<'_> {
                 state,
                 verdict,
             } => {
-                let step = numbered(step);
                 let reason = reason(self.source, *event, verdict, state);
-                match verdict.number() {
-                    LOG => format!("{step} isn't allowed: {reason}"),
-                    _ => format!("{step}: {reason}"),
-                }
+                refused_step(step, verdict.number(), &reason)
             }
         }
     }
@@ -90,7 +115,10 @@ impl Words<'_> {
             ),
             Wrong::Tag => shown + &self.complete(step, expected),
             Wrong::Unused => format!("{shown}, where a column that isn't used isn't 0"),
-            Wrong::Event => format!("{shown}: {}", self.event(whole)),
+            Wrong::Event => {
+                let event = whole.map_or(0, |row| row.a);
+                format!("{shown}: {}", cannot_step(self.source, event))
+            }
             Wrong::Identifier => format!("{shown}: {}", self.identifier(whole)),
             Wrong::Boolean => shown,
         };
@@ -135,23 +163,6 @@ impl Words<'_> {
         }
     }
 
-    /// Why the event of a row 90 can't step.
-    fn event(&self, row: Option<Row>) -> String {
-        let event = row.map_or(0, |row| row.a);
-        let (table, names) = (&self.source.table, &self.source.names);
-        let (name, machine) = (names.event(event), names.machine(2));
-        match table.event(event) {
-            None => format!("no event has number {event}"),
-            Some(row) if row.a == 1 => {
-                format!("{name} is an event of {}", names.machine(1))
-            }
-            Some(row) if row.b == class::INITIALISATION => {
-                format!("the INITIALISATION of {machine} comes first and only once")
-            }
-            _ => format!("{name} is no INITIALISATION, and a log begins with it"),
-        }
-    }
-
     /// Whose row 91 it is.
     fn identifier(&self, row: Option<Row>) -> String {
         let number = row.map_or(0, |row| row.a);
@@ -167,7 +178,7 @@ impl Words<'_> {
 }
 
 /// A step by its number.
-fn numbered(step: usize) -> String {
+pub fn numbered(step: usize) -> String {
     match step {
         0 => "the initialisation".to_string(),
         _ => format!("step {step}"),

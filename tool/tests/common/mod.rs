@@ -4,8 +4,9 @@
 use sifthorma::library::check;
 use sifthorma::sequents::{Answers, Spelled};
 use sifthorma::source::Source;
+use std::io::{ErrorKind, Write};
 use std::path::{Path, PathBuf};
-use std::process::{Command, Output};
+use std::process::{Command, Output, Stdio};
 
 /// Runs on a stack of its own: formulas are walked by recursion, and the library asks for some too.
 pub fn on_a_stack<T: Send>(run: impl FnOnce() -> T + Send) -> T {
@@ -88,6 +89,41 @@ pub fn program(words: &[&str]) -> Command {
 
 pub fn run(words: &[&str]) -> Ran {
     Ran::of(program(words).output().expect("the program runs"))
+}
+
+/// Runs the program with this on its standard input.
+pub fn run_on(words: &[&str], input: &[u8]) -> Ran {
+    let mut command = program(words);
+    command.stdin(Stdio::piped()).stdout(Stdio::piped());
+    let mut child = command.stderr(Stdio::piped()).spawn().expect("it runs");
+    let written = child.stdin.take().expect("an input").write_all(input);
+    // a program that ends early doesn't read all of it
+    if let Err(error) = written {
+        assert_eq!(error.kind(), ErrorKind::BrokenPipe);
+    }
+    Ran::of(child.wait_with_output().expect("it ends"))
+}
+
+/// What is typed behind the prompt of a session's line, if there is one: prompts are `> ` and questions.
+pub fn typed_at_prompt(line: &str) -> Option<&str> {
+    let asked = || line.split_once("? ").map(|(_, typed)| typed);
+    line.strip_prefix("> ").or_else(asked)
+}
+
+/// Runs the program on what is typed in a session.
+pub fn play(words: &[&str], session: &[&str]) -> Ran {
+    let typed = session.iter().filter_map(|line| typed_at_prompt(line));
+    let typed: String = typed.map(|line| format!("{line}\n")).collect();
+    run_on(words, typed.as_bytes())
+}
+
+/// Whether these lines are those shown, where `..` stands for any lines.
+pub fn is_shown(lines: &[&str], shown: &[&str]) -> bool {
+    match shown.split_first() {
+        None => lines.is_empty(),
+        Some((&"..", rest)) => (0..=lines.len()).any(|skipped| is_shown(&lines[skipped..], rest)),
+        Some((line, rest)) => lines.first() == Some(line) && is_shown(&lines[1..], rest),
+    }
 }
 
 /// A file for a test, under a name that no other test takes.
