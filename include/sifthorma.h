@@ -1,4 +1,4 @@
-/* Sifthorma: the sequents of an Event-B machine and its refinement, and replays of its recorded runs.
+/* Sifthorma: the sequents of an Event-B machine and its refinement, replays of its recorded runs, and steps pressed on a state.
  *
  * A table is rows of 38 bytes: a tag in 4 columns, three numbers in 11 columns each, byte 10 (docs/GUIDE.md). A log is such rows too.
  * Link with libsifthorma.a, which `rt staticlib sifthorma` writes to target/staticlib/. It is for x86-64.
@@ -26,17 +26,20 @@
  *   17       row 90 of the step          undefined: a term that is read divides by 0
  *   18       row, or 0                   log: the row is bad, torn or not the one that is expected; or it is the row 90 of a step that isn't allowed; 0 where the log is empty or ends inside a step
  *
+ * sifthorma_press and sifthorma_preview give 16, 17 and 18 with 0 in place of the row.
+ *
  * Rows are counted from 1, those of 1 to 11 in the table, those of 16 to 18 in the log. Checks of the table run in the order of their
  * numbers, each over the whole table, and the first row that offends is named; the log is read only where the table is accepted, and
  * its first fault is named. Every input gets a reply; none is too damaged.
  *
- * Buffers. On a refusal no byte of `out` changes. On 0 the rows stand at the start of `out`, and every byte past them keeps
+ * Buffers. On a refusal no byte of `out` and no record changes. On 0 the rows stand at the start of `out`, and every byte past them keeps
  * its value.
  *
  * Pointers. No pointer may be null, also where its length is 0: any other pointer then does (such as the address of a
  * variable), and nothing is read or written through it. `table` points to table_length readable bytes, `run` to run_length readable
- * ones, `out` to out_length writable ones, `value` to an aligned uint64_t. Those of one call don't overlap. No length is above
- * PTRDIFF_MAX; a log may be as long as that.
+ * ones, `step` to step_length, `out` to out_length writable ones, `value` to an aligned uint64_t, `state`, `first` and `second` to that many
+ * aligned records, `first` readable, the others writable. Those of one call don't overlap. No length in bytes is above PTRDIFF_MAX; a log
+ * may be as long as that.
  *
  * Lifetimes. Nothing is kept after the call: no pointer, no table, no state. Nothing is allocated. Calls from several threads
  * don't meet, as long as their buffers don't.
@@ -105,6 +108,26 @@ uint64_t sifthorma_spell_entry(const uint8_t *table, size_t table_length, uint64
  * guards, then each variable, assigned or not, up to the first fault. Memory doesn't grow with the log.
  * 0: it is a run, and *value is the number of its steps after the initialisation. Refusals 1 to 12, 16, 17 and 18. */
 uint64_t sifthorma_replay(const uint8_t *table, size_t table_length, const uint8_t *run, size_t run_length, uint64_t *value);
+
+/* The record of one identifier: its value, for a boolean 0 or 1, and its type, 1 integer or 2 boolean. 16 bytes, the value first, no
+ * padding. A state is a list of them, one for each identifier of the table in its order: record i, counted from 0, is that of identifier
+ * i + 1. Records of constants, variables and parameters of either machine all have to be there and right. */
+struct sifthorma_record {
+    int64_t value;
+    uint64_t type;
+};
+
+/* Presses an event: performs one step of the refined machine on a state. The step is a row 90 (event, 0, 0) of a concrete event that is no
+ * initialisation, and rows 91 (identifier, value, 0; booleans 0 or 1) for the event's parameters and the variables that it assigns by a row
+ * 52, in the order of the identifiers, and nothing else. First the lists and rows are looked at (18), then axioms, guards and each variable
+ * are read in replay's order, with the state's values and the step's parameters, up to the first fault.
+ * 0: it was performed, and the records of the concrete and shared variables have the values after it; all others are as before. *value is 0.
+ * Refusals 1 to 12, 16, 17 and 18. */
+uint64_t sifthorma_press(const uint8_t *table, size_t table_length, const uint8_t *step, size_t step_length, struct sifthorma_record *state, size_t state_length, uint64_t *value);
+
+/* Only looks: writes into `second`, which has as many records as `first`, what pressing would make of `first`, values and types. What `second`
+ * held doesn't matter. Replies as those of sifthorma_press; `first` never changes, and `second` only on 0. */
+uint64_t sifthorma_preview(const uint8_t *table, size_t table_length, const uint8_t *step, size_t step_length, const struct sifthorma_record *first, size_t first_length, struct sifthorma_record *second, size_t second_length, uint64_t *value);
 
 #ifdef __cplusplus
 }

@@ -28,7 +28,10 @@ ghost use Rattle.table.specs.Names.{identifierTag};
 ghost use Rattle.table.specs.Rows.{rowsOf, count};
 ghost use Rattle.table.specs.Counts.{countsOf};
 ghost use Rattle.scan.specs.Spans.{Spanned};
-ghost use Rattle.machine.specs.Described.{machineOf};
+ghost use mathlib.Core.List.{[]};
+ghost use Rattle.answer.specs.Answer.{answer};
+ghost use Rattle.answer.specs.Stored.{storedEnv};
+ghost use Rattle.machine.specs.Described.{treeOf, machineOf};
 ghost use Rattle.signed.specs.Found.{answerOf};
 ghost use Rattle.log.specs.Rows.{isStateVariable};
 ghost use Rattle.values.specs.Values.{valuesOf};
@@ -141,6 +144,22 @@ fn answered(found: Found) -> i64
     }
 }
 
+// The after value that a 51 gives: the number of its root's value, which reads no after value.
+fn equal_after(words: &[u64], table: Table, present: &[i64], root: u64) -> i64
+    requires { ⌜ table ≡ countsOf (rowsOf (now words)) ⌝ }
+    ensures { λ r. ⌜ r ≡ answered (answer (storedEnv (machineOf (rowsOf (now (words .entry))) .type) (now (present .entry)) []) (treeOf (rowsOf (now (words .entry))) root)) ⌝ }
+{
+    let found = evaluate_expression(
+        words,
+        table.nodes_start,
+        table.identifiers_start,
+        present,
+        &present[..0],
+        root,
+    );
+    answered(found)
+}
+
 // The after value of the variable x: "51s read the state before", that of a 52 is given, without an action it keeps its value.
 fn after_by(
     words: &[u64],
@@ -159,15 +178,7 @@ fn after_by(
         return value_at(present, x);
     }
     if tag_at(words, i) == tag::BECOMES_EQUAL {
-        let found = evaluate_expression(
-            words,
-            table.nodes_start,
-            table.identifiers_start,
-            present,
-            &present[..0],
-            c_at(words, i),
-        );
-        return answered(found);
+        return equal_after(words, table, present, c_at(words, i));
     }
     value_at(after, x)
 }

@@ -6,10 +6,7 @@ use mathlib.Core.List.{[]}
 use Rattle.answer.specs.Answer.{answer}
 use Rattle.answer.specs.Stored.{storedEnv}
 use Rattle.table.specs.Rows.{rowsOf}
-use Rattle.table.proofs.Counts.{starts-nodes, starts-identifiers}
 use Rattle.machine.specs.Described.{treeOf, machineOf}
-use Rattle.signed.specs.Found.{answerOf}
-use Rattle.signed.proofs.Answers.{answer-found}
 use Rattle.signed.proofs.Numbers.{seen-is}
 use Rattle.values.specs.Values.{valuesOf}
 use Rattle.bench.specs.Press.{answered}
@@ -29,23 +26,17 @@ after-by-spec = tie.close (tie.spec
     ∙ unassigned-after (rowsOf (s .args .words .now)) (s .args .e) (valuesOf (s .args .present .now) (s .args .after .now)) (s .args .x) (row .action-row .result) (row .action-row .ensures)
     (omega (arith, size .size .ensures, c .before .if1 .taken)))
     (λ c κs. search needs)
-    (λ c. search needs)
     (λ c κs. search needs)
-    (λ c κs. let s = c .before .before .before .before .before .before .before .before .before in
-    let t = rowsOf (s .args .words .now) in
-    (starts-nodes t (s .args .table) (s .pre .0), starts-identifiers t (s .args .table) (s .pre .0)))
     (λ c κs. search needs)
-    (λ c. let root = c .before .before in
-    let tag = root .before .before .before in
+    (λ c. let root = c .before in
+    let tag = root .before .before in
     let size = tag .before .before in
     let row = size .before in
     let s = row .before .before .before in
     let t = rowsOf (s .args .words .now) in
-    let ρ = storedEnv (machineOf t .type) (s .args .present .now) [] in
-    let found = ap answerOf (c .before .evaluate-expression .ensures) ∙ answer-found (answer ρ (treeOf t (root .c-at .result))) ∙ ap (λ n. answer ρ (treeOf t n)) (root .c-at .ensures) in
-    seen-is (c .answered .result) (c .answered .ok) (c .answered .ensures ∙ ap answered found)
+    seen-is (c .equal-after .result) (c .equal-after .ok) (c .equal-after .ensures ∙ ap (λ n. answered (answer (storedEnv (machineOf t .type) (s .args .present .now) []) (treeOf t n))) (root .c-at .ensures))
     ∙ equal-after t (s .args .e) (valuesOf (s .args .present .now) (s .args .after .now)) (s .args .x) (row .action-row .result) (row .action-row .ensures)
-    (omega (arith, size .size .ensures, tag .before .if1 .left)) (sym (tag .tag-at .ensures) ∙ root .before .before .if2 .taken))
+    (omega (arith, size .size .ensures, tag .before .if1 .left)) (sym (tag .tag-at .ensures) ∙ root .before .if2 .taken))
     (λ c κs. search needs)
     (λ c. let tag = c .before .before in
     let size = tag .before .before in
