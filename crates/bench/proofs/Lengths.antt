@@ -5,8 +5,8 @@ use mathlib.Core.Bool.{Bool, true, false, true≢false, _&&_}
 use mathlib.Core.List.{List}
 use native.Mathlib.Omega.{arith}
 use lib.Dec.{T, eqb, eqb→eq}
-use lib.IntN.{ℤ, pos}
-use lib.ListN.{length, getD}
+use lib.IntN.{ℤ}
+use lib.ListN.{length}
 use borrow.Author.Tests.{eq-eqb, ne-eqb}
 use Rattle.lists.specs.Choice.{pick}
 use Rattle.formula.proofs.Truth.{and-split, and-join, true-test, test-true, eq→eqb}
@@ -17,14 +17,13 @@ use Rattle.rules.specs.Decoded.{decoded}
 use Rattle.rules.specs.Verdict.{verdict as verdictOf}
 use Rattle.rules.proofs.Full.{few-identifiers}
 use Rattle.rules.proofs.Accepted.{accepted-none, none-obeys}
-use Rattle.log.specs.Rows.{isStateVariable}
 use Rattle.log.specs.Lines.{lines}
 use Rattle.log.specs.Replay.{Values}
 use Rattle.log.specs.Faults.{noFault, logFault}
-use Rattle.bench.specs.State.{valueOf, isState, IsState, updated}
+use Rattle.bench.specs.State.{isState, IsState, updated}
 use Rattle.bench.specs.Choice.{Choice, chosen, none, choice}
 use Rattle.bench.specs.Press.{Outcome, made, refused, completed, pressFault, pressChoice, atHand, pressOn, outcomeBy, outcome}
-use Rattle.bench.proofs.State.{state-right, right-state, map-size}
+use Rattle.bench.proofs.State.{state-right, right-state, updated-size}
 
 pub made-never : {n row : ℕ} {zs : List ℤ} → refused n row ≡ made zs → ⊥
 made-never e = true≢false (ap (λ (o : Outcome). elim o [ made zs ↦ false | refused n row ↦ true ]) e)
@@ -119,15 +118,13 @@ module _ (table step : List ℕ) where
 
   pub outcome-length : (zs : List ℤ) (types : List ℕ) (room : ℕ) (ys : List ℤ) → outcome table step zs types room ≡ made ys
       → (length ys ≡ length zs) × (length types ≡ length zs) × (room ≡ length zs) × (length zs ≤ 64)
-  unfolding updated
   outcome-length zs types room ys h =
       let (n, a, m) = outcome-made zs types room ys h in
       let t = decoded table in
       let p = made-pressing t step zs types room ys m in
       let few = accepted-few table n a in
       let size = p .right .size in
-      let f : ℕ → ℤ = λ x. pick (isStateVariable t x) (getD (completed t (p .event) (p .values) .after) x (pos 0)) (valueOf zs x) in
-      (ap length (p .makes) ∙ map-size f (length zs) 1, p .right .sorts ∙ sym size, p .roomy ∙ sym size, omega (arith, size, few))
+      (ap length (p .makes) ∙ updated-size t (completed t (p .event) (p .values) .after) zs, p .right .sorts ∙ sym size, p .roomy ∙ sym size, omega (arith, size, few))
 
   either : (v : Verdict) → verdictOf table ≡ v → (o p : Outcome) → ((n : ℕ) → verdictOf table ≡ verdict.Accepted n → (o ≡ refused logFault 0) × (p ≡ refused logFault 0)) → outcomeBy v o ≡ outcomeBy v p
   either (verdict.Accepted n) a o p f = f n a .0 ∙ sym (f n a .1)

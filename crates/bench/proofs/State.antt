@@ -15,7 +15,7 @@ use Rattle.lists.proofs.Below.{numbers-in, in-numbers}
 use Rattle.lists.proofs.Different.{some-in, some-member}
 use Rattle.formula.proofs.Truth.{and-split, and-join, true-test, test-true, eq→eqb}
 use Rattle.table.specs.Rows.{Rows, count}
-use Rattle.bench.specs.State.{valueOf, laid, placed, isRight, isWrong, isState, IsState}
+use Rattle.bench.specs.State.{valueOf, laid, placed, isRight, isWrong, isState, IsState, updated}
 
 -- a list that is made by number
 pub map-at : {A : Type 0} (f : ℕ → A) (n i k : ℕ) (d : A) → k < n → getD (map f (numbers n i)) k d ≡ f (i + k)
@@ -28,6 +28,10 @@ pub map-size : {A : Type 0} (f : ℕ → A) (n i : ℕ) → length (map f (numbe
 unfolding numbers
 map-size f zero i = refl
 map-size f (suc n) i = ap suc (map-size f n (suc i))
+
+pub updated-size : (t : Rows) (after zs : List ℤ) → length (updated t after zs) ≡ length zs
+unfolding updated
+updated-size t after zs = map-size _ (length zs) 1
 
 -- what is laid into a list leaves its length
 pub laid-size : {A : Type 0} (zs ms : List A) → length (laid zs ms) ≡ length ms
