@@ -1,4 +1,4 @@
--- The marked cases P1 to P10 and those of replays hold of the definitions: all are computed, by one proof.
+-- The marked cases P1 to P10 and those of replays and presses hold of the definitions: all are computed, by one proof.
 use mathlib.Core.Path.{_≡_, refl}
 use mathlib.Core.List.{flatMap}
 use mathlib.Core.Bool.{true}
@@ -33,8 +33,11 @@ use Rattle.log.specs.Rows.{logged}
 use Rattle.log.specs.Lines.{linesTo, lines}
 use Rattle.log.specs.Faults.{firstFault, untrue, notAllowed, stepFault}
 use Rattle.log.specs.Replay.{move, readValues, replayFrom, replayLog, replay}
+use Rattle.bench.specs.State.{valuesIn, typesIn, laid, placed, isState, updated, withValues}
+use Rattle.bench.specs.Choice.{asked, choice}
+use Rattle.bench.specs.Press.{afterBy, complete, pressFault, pressOn, outcome, recordsOutcome, press, preview}
 use Rattle.marked.specs.Cases.{falling, cases, allAgree}
 
 marked : allAgree cases ≡ true
-unfolding cases falling flatMap over countBelow first numbers keep columnsOf numberOf scanFrom rowBytes section count start readTree mentions operatorNumbered typeNumbered kindNumbered roleNumbered treeTo treeOf actionOf belonging variablesOf machineOf inOrder eventSequents obligations sequents someOf different lowest highest identifiers divides wellDefined atAfter spellTree spell identifiersIn lineOf wordsOf columnsUsed rowLimit shapeOf operandSort resultSort sortOf mayMention mayMentionAfter seesOnly tagOffends fullOffends eventOffends identifierOffends rootAt referenceOffends rootSort sortOffends usesTo useOffends sightOffends twiceOffends offends missing firstCheck judge verdict sequentRows rowsBytes writeRows writeSequent output within operands binaryAnswer divisionAnswer connectiveAnswer unaryAnswer answer stored logged linesTo lines firstFault untrue notAllowed stepFault move readValues replayFrom replayLog replay
+unfolding cases falling flatMap over countBelow first numbers keep columnsOf numberOf scanFrom rowBytes section count start readTree mentions operatorNumbered typeNumbered kindNumbered roleNumbered treeTo treeOf actionOf belonging variablesOf machineOf inOrder eventSequents obligations sequents someOf different lowest highest identifiers divides wellDefined atAfter spellTree spell identifiersIn lineOf wordsOf columnsUsed rowLimit shapeOf operandSort resultSort sortOf mayMention mayMentionAfter seesOnly tagOffends fullOffends eventOffends identifierOffends rootAt referenceOffends rootSort sortOffends usesTo useOffends sightOffends twiceOffends offends missing firstCheck judge verdict sequentRows rowsBytes writeRows writeSequent output within operands binaryAnswer divisionAnswer connectiveAnswer unaryAnswer answer stored logged linesTo lines firstFault untrue notAllowed stepFault move readValues replayFrom replayLog replay valuesIn typesIn laid placed isState updated withValues asked choice afterBy complete pressFault pressOn outcome recordsOutcome press preview
 marked = refl

@@ -1,12 +1,12 @@
 -- 01, Table L and marked cases: P1 to P10 as rows of one table: what the definitions give, and what 01 says, P1 to P3 as 02's request 4 has them; then replays of logs,
--- and what 02's request 5 says. One proof computes them all.
+-- and what 02's request 5 says; then presses and previews, and what request 6 says. One proof computes them all.
 use Prim.Native.Nat.{ℕ, zero, suc, _-_}
 use mathlib.Core.Bool.{Bool, true, false, _&&_}
 use mathlib.Core.List.{List, [], _∷_, _++_}
 use mathlib.Core.Option.{Option, none, some}
 use lib.Dec.{eqb}
 use lib.IntN.{ℤ, pos, negsuc}
-use lib.ListN.{replicate, take}
+use lib.ListN.{replicate, set, take}
 use Rattle.row.specs.declared.Row.{Row}
 use Rattle.formula.specs.Values.{integer, AnyValue, number, truth, asValue}
 use Rattle.formula.specs.Tree.{literal, logicalNot, equal, quotient, remainder, and, Division, Tree, constant, identifier, unary, binary, division, connective}
@@ -26,6 +26,10 @@ use Rattle.reply.specs.Replies.{Outcome, writeSequent, output}
 use Rattle.log.specs.declared.Replay.{Replay}
 use Rattle.log.specs.declared.Replay.the-variants as replayed
 use Rattle.log.specs.Replay.{replay}
+use Rattle.bench.specs.declared.Record.{Record}
+use Rattle.bench.specs.declared.Press.{Press}
+use Rattle.bench.specs.declared.Press.the-variants as pressed
+use Rattle.bench.specs.Press.{press, preview}
 
 -- An answer of any kind as a list of numbers.
 abbrev accepted : ℕ → List ℕ
@@ -45,6 +49,10 @@ ofReply (reply.Refused c r) = refused c r
 abbrev ofReplay : Replay → List ℕ
 ofReplay (replayed.Steps n) = accepted n
 ofReplay (replayed.Refused c r) = refused c r
+
+abbrev ofPress : Press → List ℕ
+ofPress pressed.Performed = accepted 0
+ofPress (pressed.Refused c r) = refused c r
 
 -- a reply, then the buffer
 abbrev ofOutcome : Outcome → List ℕ
@@ -199,6 +207,38 @@ replayM rs torn = ofReplay (replay bytesM (rowsBytes rs ++ torn))
 abbrev afterSix : List Row → List ℕ
 afterSix rs = replayM (beginning 6 ++ rs) []
 
+-- 02, request 6: a state of that table, with b, c, n and k; the record of p has a value that no step reads
+abbrev integerRecord : ℤ → Record
+integerRecord z = record { value = z; sort = 1 }
+
+abbrev booleanRecord : ℕ → Record
+booleanRecord n = record { value = pos n; sort = 2 }
+
+abbrev stateM : ℕ → ℤ → ℤ → ℤ → List Record
+stateM b c n k = booleanRecord b ∷ integerRecord c ∷ integerRecord n ∷ integerRecord (pos 9) ∷ integerRecord k ∷ []
+
+-- a choice of event 4: the after value of n, which has the 52, and p
+abbrev choose : ℕ → ℕ → List Row
+choose n p = row 90 4 0 0 ∷ row 91 3 n 0 ∷ row 91 4 p 0 ∷ []
+
+-- a reply, then the records
+abbrev ofRecords : List Record → List ℕ
+ofRecords [] = []
+ofRecords (r ∷ rs) = whole (r .value) ++ ((r .sort ∷ []) ++ ofRecords rs)
+
+abbrev pressM : List Row → List ℕ → List Record → List ℕ
+pressM rs torn state = let p = press bytesM (rowsBytes rs ++ torn) state in ofPress (p .reply) ++ ofRecords (p .state)
+
+abbrev previewM : List Row → List Record → List Record → List ℕ
+previewM rs first second = let p = preview bytesM (rowsBytes rs) first second in ofPress (p .reply) ++ (ofRecords (p .first) ++ ofRecords (p .second))
+
+-- the state after the initialisation with c = 6, and what is refused there
+abbrev sixM : List Record
+sixM = stateM 0 (pos 6) (pos 0) (pos 6)
+
+abbrev refusedSix : ℕ → List ℕ
+refusedSix n = refused n 0 ++ ofRecords sixM
+
 unfoldable pub cases : List Case
 cases =
     -- P1: the program prints for L
@@ -277,6 +317,36 @@ cases =
     ∷ gives (replayM (beginning 6 ++ step 1 2 0 6) (room 7)) (refused 17 6)
     -- a step before the initialisation
     ∷ gives (replayM (step 1 2 2 6) []) (refused 18 1)
+    -- 02, request 6: two steps that are pressed, as they were replayed above; c, p and k stay
+    ∷ gives (pressM (choose 2 2) [] sixM) (accepted 0 ++ ofRecords (stateM 1 (pos 6) (pos 2) (pos 6)))
+    ∷ gives (pressM (choose (minus 5) 2) [] (stateM 1 (pos 6) (pos 2) (pos 6))) (accepted 0 ++ ofRecords (stateM 0 (pos 6) (negsuc 4) (pos 6)))
+    -- 16 and 17 with row 0, and no record changes; n + p leaves 64 bits
+    ∷ gives (pressM (choose 2 (minus 2147483648)) [] sixM) (refusedSix 16)
+    ∷ gives (pressM (choose 2 0) [] sixM) (refusedSix 17)
+    ∷ gives (pressM (choose 2 2) [] (stateM 0 (pos 6) (pos 9223372036854775807) (pos 6))) (refused 16 0 ++ ofRecords (stateM 0 (pos 6) (pos 9223372036854775807) (pos 6)))
+    -- a false guard, and an after value that the 52 does not allow
+    ∷ gives (pressM (choose 2 (minus 1)) [] sixM) (refusedSix 18)
+    ∷ gives (pressM (choose 3 2) [] sixM) (refusedSix 18)
+    -- a false axiom, read before the guard that divides by 0
+    ∷ gives (pressM (choose 2 0) [] (stateM 0 (pos 0) (pos 0) (pos 6))) (refused 18 0 ++ ofRecords (stateM 0 (pos 0) (pos 0) (pos 6)))
+    -- before any term is read: a boolean 2, a wrong type of a parameter's record, a record too few and one too many
+    ∷ gives (pressM (choose 2 0) [] (stateM 2 (pos 6) (pos 0) (pos 6))) (refused 18 0 ++ ofRecords (stateM 2 (pos 6) (pos 0) (pos 6)))
+    ∷ gives (pressM (choose 2 0) [] (set sixM 3 (booleanRecord 1))) (refused 18 0 ++ ofRecords (set sixM 3 (booleanRecord 1)))
+    ∷ gives (pressM (choose 2 0) [] (take 4 sixM)) (refused 18 0 ++ ofRecords (take 4 sixM))
+    ∷ gives (pressM (choose 2 0) [] (sixM ++ (integerRecord (pos 0) ∷ []))) (refused 18 0 ++ ofRecords (sixM ++ (integerRecord (pos 0) ∷ [])))
+    -- a row for the 51's variable, a row after the step's last, torn bytes, no rows, an abstract event, a class 0 event
+    ∷ gives (pressM (row 90 4 0 0 ∷ row 91 1 1 0 ∷ row 91 3 2 0 ∷ row 91 4 0 0 ∷ []) [] sixM) (refusedSix 18)
+    ∷ gives (pressM (choose 2 0 ++ (row 91 5 6 0 ∷ [])) [] sixM) (refusedSix 18)
+    ∷ gives (pressM (choose 2 0) (room 1) sixM) (refusedSix 18)
+    ∷ gives (pressM [] [] sixM) (refusedSix 18)
+    ∷ gives (pressM (row 90 2 0 0 ∷ []) [] sixM) (refusedSix 18)
+    ∷ gives (pressM (beginning 6) [] sixM) (refusedSix 18)
+    -- a refused table, whatever the state
+    ∷ gives (ofPress (press (rowsBytes shortL) (rowsBytes (choose 2 2)) [] .reply)) (refused 9 7)
+    -- a preview: the first list stays, the second is what pressing makes of it, types too; or it is refused, also for a second list of another length before any term is read
+    ∷ gives (previewM (choose 2 2) sixM (replicate 5 (booleanRecord 7))) (accepted 0 ++ (ofRecords sixM ++ ofRecords (stateM 1 (pos 6) (pos 2) (pos 6))))
+    ∷ gives (previewM (choose 2 0) sixM (replicate 5 (booleanRecord 7))) (refused 17 0 ++ (ofRecords sixM ++ ofRecords (replicate 5 (booleanRecord 7))))
+    ∷ gives (previewM (choose 2 0) sixM (replicate 4 (booleanRecord 7))) (refused 18 0 ++ (ofRecords sixM ++ ofRecords (replicate 4 (booleanRecord 7))))
     ∷ []
 
 -- the two are the same in every case
