@@ -4,7 +4,9 @@ use compare::checks::accept;
 use compare::generate::random::Random;
 use compare::press::{Cause, Panel, Record};
 use compare::replay;
-use compare::rows::bytes_of;
+use compare::rows::{bytes_of, Row};
+use compare::runs::damage as rows;
+use compare::shrink::rows_of;
 use compare::states::batch::{batch, CASES};
 use compare::states::damage::{Damage, Subject, LISTS, ROWS};
 use compare::states::maker::Maker;
@@ -247,6 +249,52 @@ fn damage_gives_what_it_must() {
     for damage in LISTS.into_iter().chain(ROWS) {
         let count = counts.get(&damage).copied().unwrap_or(0);
         assert!(count >= 30, "{damage:?}: {count}");
+    }
+}
+
+/// Two damages of one row: a tag after tag 9999, a number after an end of 32 bits.
+#[test]
+fn batches_with_a_row_damaged_twice_are_made() {
+    for number in [100_021_850, 5_946, 28_897] {
+        assert_eq!(batch(number).cases.len(), CASES, "{number}");
+    }
+}
+
+/// Damages that write another number.
+const NUMBERS: [Damage; 6] = [
+    Damage::Rows(rows::Damage::ByOne),
+    Damage::Rows(rows::Damage::ToAnEnd),
+    Damage::Rows(rows::Damage::OtherTag),
+    Damage::Rows(rows::Damage::UnusedColumn),
+    Damage::Rows(rows::Damage::OtherEvent),
+    Damage::Rows(rows::Damage::OtherIdentifier),
+];
+
+/// A step of two such rows with each damage of rows, many times: none fails, and other numbers fit their columns.
+fn assert_damaged(row: Row) {
+    let mut random = Random::new(0);
+    let rows = pressed(&mut random).rows(&mut random);
+    let read = accept(&bytes_of(&rows)).expect("such tables are accepted");
+    let subject = Subject {
+        table: &read,
+        panel: &Panel::of(&read),
+        state: &[],
+        second: &[],
+        step: &bytes_of(&[row; 2]),
+    };
+    for damage in ROWS.into_iter().cycle().take(60 * ROWS.len()) {
+        let case = subject.damaged(damage, &mut random);
+        let in_form = case.is_none_or(|case| rows_of(&case.step).is_some());
+        assert!(in_form || !NUMBERS.contains(&damage), "{row:?}, {damage:?}");
+    }
+}
+
+#[test]
+fn rows_at_the_ends_of_their_columns_are_damaged() {
+    for tag in [-999, 1180, 1181, 9999] {
+        for number in [i32::MIN, i32::MAX] {
+            assert_damaged(Row::new(tag, number, number, number));
+        }
     }
 }
 

@@ -78,7 +78,7 @@ pub struct Damaged {
     pub place: usize,
 }
 
-/// A run of a table.
+/// A run of a table, or a step to press, whose rows may hold any numbers.
 pub struct Subject<'a> {
     pub table: &'a Table,
     pub machine: &'a Machine,
@@ -200,7 +200,8 @@ impl Subject<'_> {
         let place = self.any_row(random);
         let mut row = self.run.row(place);
         if damage == Damage::OtherTag {
-            let other = 90 + 91 - row.tag;
+            // 91 for 90 and back; for any other tag one that fits the columns too.
+            let other = (90 + 91 - row.tag).max(-999);
             row.tag = random.pick(&[other, other, 92, 89, 80, 10, 0, -9, 9, 9999, -999]);
         } else {
             let number = random.pick(&[1, -1, 91, i32::MIN, i32::MAX]);
@@ -254,9 +255,9 @@ impl Subject<'_> {
         let far = [
             0,
             -1,
-            -row.a,
+            row.a.wrapping_neg(),
             events + 1,
-            events + row.a,
+            events.wrapping_add(row.a),
             i32::MIN,
             i32::MAX,
         ];
@@ -273,7 +274,15 @@ impl Subject<'_> {
         let row = self.run.row(place);
         let all = self.table.identifiers.len();
         let any = 1 + random.below(all) as i32;
-        let far = [any, any, row.a + 1, row.a - 1, 0, -row.a, all as i32 + 1];
+        let far = [
+            any,
+            any,
+            row.a.wrapping_add(1),
+            row.a.wrapping_sub(1),
+            0,
+            row.a.wrapping_neg(),
+            all as i32 + 1,
+        ];
         let a = random.pick(&far);
         (a != row.a).then(|| self.with_row(place, Row { a, ..row }))
     }
