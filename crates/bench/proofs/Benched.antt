@@ -66,7 +66,7 @@ module _ (t : Rows) where
       (λ v r b. subst (λ v. Writable greatest width (valueRow t x v)) (logged-variable t c q k x v ∙ sym (logged-variable t (blank machine) q k x v))
       (all-at values (logged-in t e x (a .0) (or-right (isGiven t e x) (isStateVariable t x) v)))))))
 
-  variable-is-named : (x : ℕ) → In x (machine .concreteVariables) → T (named t 10 x)
+  pub variable-is-named : (x : ℕ) → In x (machine .concreteVariables) → T (named t 10 x)
   unfolding machineOf
   variable-is-named x i = variable-named t 3 x i .0
 

@@ -24,7 +24,7 @@ use Rattle.bench.proofs.Lengths.{made-pressing, outcome-made, outcome-l
 use Rattle.bench.proofs.Pressed.{made-pressed, pressed-made}
 use Rattle.bench.proofs.Records.{values-length}
 
-performed-never : {n row : ℕ} → Refused n row ≡ Performed → ⊥
+pub performed-never : {n row : ℕ} → Refused n row ≡ Performed → ⊥
 performed-never e = true≢false (ap (λ (p : Press). elim p [ Performed ↦ false | Refused n row ↦ true ]) e)
 
 pub accepted-obeys : (table : List ℕ) (n : ℕ) → verdictOf table ≡ verdict.Accepted n → Obeys (decoded table)

@@ -8,3 +8,4 @@ pub mod Pressed
 pub mod Records
 pub mod Exact
 pub mod Benched
+pub mod Refused

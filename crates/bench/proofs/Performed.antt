@@ -15,7 +15,7 @@ use Rattle.lists.proofs.All.{all-head, all-left, all-right, all-join, all-at, m
 use Rattle.lists.proofs.Below.{in-numbers}
 use Rattle.lists.proofs.Distinct.{Distinct, pairwise-keep, numbers-distinct}
 use Rattle.row.specs.declared.Line.{Line}
-use Rattle.formula.specs.Values.{wrap}
+use Rattle.formula.specs.Values.{Value, wrap}
 use Rattle.formula.specs.Evaluate.{Env}
 use Rattle.formula.proofs.Truth.{and-split, and-join, or-right, test-true, true-test}
 use Rattle.formula.proofs.Mentions.{Agree}
@@ -220,3 +220,24 @@ module _ (t : Rows) where
     pub such-made : (x r : ℕ) → T (named t 10 x) → T (isStateVariable t x) → machine .action e x ≡ becomesSuchThat r → stateMade x ≡ stored (machine .type) (ws .after) x
     unfolding stored afterBy
     such-made x r n v a = ap (storedValue (machine .type x)) (after-at x (of-variable t x n v) ∙ ap (afterBy t ws x) a)
+
+    -- ---- the after value of a variable, whether or not the step has a fault
+    abbrev pub completion : State machine → (x : ℕ) → Action → Value (machine .type x)
+    completion q x unassigned = stateOf t zs x
+    completion q x (becomesEqual r) = storedValue (machine .type x) (answered (answer (reading q (blank machine)) (machine .tree r)))
+    completion q x (becomesSuchThat r) = stored (machine .type) (ws .after) x
+
+    made-by : (q : State machine) → Chosen q → (x : ℕ) → T (named t 10 x) → T (isStateVariable t x) → (a : Action) → ActionSeen (machine .tree) (sees t e) x a
+        → storedValue (machine .type x) (afterBy t ws x a) ≡ completion q x a
+    unfolding afterBy stored stateOf
+    made-by q chosen x n v unassigned seen = ap (storedValue (machine .type x)) (value-placed x n (not-given t e x v))
+    made-by q chosen x n v (becomesEqual r) seen =
+        ap (λ a. storedValue (machine .type x) (answered a)) (answer-agree before (reading q (blank machine)) (agree-reading q (blank machine) chosen) (machine .tree r) seen)
+    made-by q chosen x n v (becomesSuchThat r) seen = refl
+
+    pub made-is : (q : State machine) → Chosen q → (x : ℕ) → T (named t 10 x) → T (isStateVariable t x) → stateMade x ≡ completion q x (machine .action e x)
+    unfolding stored
+    made-is q chosen x n v =
+        let i = of-variable t x n v in
+        let known = held q stateMade chosen (λ x n v. refl) in
+        ap (storedValue (machine .type x)) (after-at x i) ∙ made-by q chosen x n v (machine .action e x) (seen-action t ok e (at .event) (at .concrete) (ws .present) us c s q stateMade known x i)

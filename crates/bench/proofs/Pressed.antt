@@ -3,13 +3,13 @@
 use Prim.Native.Nat.{ℕ}
 use mathlib.Core.Path.{_≡_, refl, sym, ap, _∙_, subst}
 use mathlib.Core.Bool.{true, false, _&&_, _||_}
-use mathlib.Core.List.{List, [], _∷_, map}
+use mathlib.Core.List.{List, [], _∷_, map, flatMap}
 use lib.Dec.{T, eqb, eqb→eq}
 use lib.IntN.{ℤ}
 use Rattle.lists.specs.Choice.{pick}
 use Rattle.lists.specs.All.{All, In}
 use Rattle.lists.proofs.All.{all-tail}
-use Rattle.row.specs.Row.{greatest, width, Writable}
+use Rattle.row.specs.Row.{greatest, width, rowBytes, Writable}
 use Rattle.row.specs.declared.Line.the-variants.{Whole}
 use Rattle.formula.proofs.Truth.{and-split, and-join, or-cases, or-left, test-true, true-test, eq→eqb}
 use Rattle.answer.specs.Stored.{stored, storedEnv}
@@ -66,8 +66,38 @@ module _ (t : Rows) where
       go (becomesEqual r) q s f = absurd s
       go (becomesSuchThat r) q s f = f r q
 
-  same-state : (zs : List ℤ) → Shows t zs (stateOf t zs) (stateOf t zs)
+  pub same-state : (zs : List ℤ) → Shows t zs (stateOf t zs) (stateOf t zs)
   same-state zs = record { constants = λ x n i. refl; variables = λ x n v. refl }
+
+  -- ---- what was chosen on a state: its rows are those of the values at hand
+  pub record Situated (step : List ℕ) (zs : List ℤ) (types : List ℕ) (e : ℕ) (ws : Values) : Type 0 where
+    pub at : Situation t zs types (stateOf t zs) (stateOf t zs) e ws
+    pub isEvent : In e (machine .events)
+    pub isOther : T (ofRun machine (machine .role e))
+    pub inForm : All (Writable greatest width) (choiceRows t e (stored (machine .type) (ws .present)) (stored (machine .type) (completed t e ws .after)))
+    pub written : step ≡ flatMap (rowBytes width) (choiceRows t e (stored (machine .type) (ws .present)) (stored (machine .type) (completed t e ws .after)))
+
+  pub chosen-situated : Obeys t → (step : List ℕ) (zs : List ℤ) (types : List ℕ) → IsState t zs types → (e : ℕ) (ws : Values) → choice t (lines step) (atHand t zs) ≡ chosen e ws
+      → Situated step zs types e ws
+  unfolding machineOf
+  chosen-situated ok step zs types right e ws h =
+      let chose = choice-chose t (lines step) (atHand t zs) e ws h in
+      let row = step-row t false (chose .row) (chose .good) in
+      let event : T (named t 40 e) = subst (λ e. T (named t 40 e)) (chose .event) (row .isEvent) in
+      let concrete : machineNumber t e ≡ 2 = ap (machineNumber t) (sym (chose .event)) ∙ row .concrete in
+      let initial : isInitial t e ≡ false = ap (isInitial t) (sym (chose .event)) ∙ row .initial in
+      let at : Situation t zs types (stateOf t zs) (stateOf t zs) e ws =
+      record { right = right; shows = same-state zs; event = event; concrete = concrete; initial = initial; others = chose .others; reads = chose .reads } in
+      let q : State machine = stored (machine .type) (ws .present) in
+      let k : State machine = stored (machine .type) (completed t e ws .after) in
+      let are : (x : ℕ) → In x (asked t e) → valueAt t e ws x ≡ loggedValue t (blank machine) q k x = λ x i.
+      let a = in-asked t e x i in
+      asked-by e x initial (a .1) (λ g j. value-given t e ws x (test-true _ g) ∙ sym (logged-parameter t (blank machine) q k x j))
+      (λ v r b. value-after t e ws x (not-given t e x v) ∙ sym (such-made t ok at x r (a .0) v b) ∙ sym (logged-variable t (blank machine) q k x v)) in
+      let formed = subst (All LineFormed) (chose .lines) (lines-formed step) in
+      let rows = choice-rows t ok zs e (chose .others) ws q k (all-tail formed) (chose .reads) are in
+      let written = lines-written (choiceRows t e q k) step (chose .lines ∙ ap (λ r. Whole r ∷ chose .others) (row .isRow ∙ ap (stepRow t) (chose .event)) ∙ rows) in
+      record { at = at; isEvent = event-of t e event; isOther = later-role t ok e event concrete initial; inForm = written .1; written = written .0 }
 
   module _ (ok : Obeys t) (step : List ℕ) (zs : List ℤ) (types : List ℕ) (room : ℕ) (ys : List ℤ) where
     pub made-pressed : pressOn t step zs types room ≡ made ys → PressedBy t step zs ys
@@ -76,42 +106,29 @@ module _ (t : Rows) where
         let p = made-pressing t step zs types room ys h in
         let e = p .event in
         let ws : Values = p .values in
-        let chose = choice-chose t (lines step) (atHand t zs) e ws (p .chooses) in
-        let row = step-row t false (chose .row) (chose .good) in
-        let event : T (named t 40 e) = subst (λ e. T (named t 40 e)) (chose .event) (row .isEvent) in
-        let concrete : machineNumber t e ≡ 2 = ap (machineNumber t) (sym (chose .event)) ∙ row .concrete in
-        let initial : isInitial t e ≡ false = ap (isInitial t) (sym (chose .event)) ∙ row .initial in
+        let w = chosen-situated ok step zs types (p .right) e ws (p .chooses) in
+        let at = w .at in
         let c : State machine = stateOf t zs in
         let q : State machine = stored (machine .type) (ws .present) in
         let k : State machine = stored (machine .type) (completed t e ws .after) in
-        let at : Situation t zs types c c e ws = record { right = p .right; shows = same-state zs; event = event; concrete = concrete; initial = initial; others = chose .others; reads = chose .reads } in
         let known : Held t e (ws .present) (completed t e ws .after) c c q k = held t ok at q k (λ x n i o. refl) (λ x n v. refl) in
         let none = no-faults t ok at (p .faultless) in
-        let allowed = fault-allowed t ok e event concrete (ws .present) (completed t e ws .after) c c q k known (none .1) in
-        let axioms = predicates-judged t (storedEnv (machine .type) (ws .present) []) (constantsAlone t c) (agree-constants t ok e event concrete (ws .present) (completed t e ws .after) c c q k known)
-        (machine .axioms) (seen-axioms t ok e event concrete (ws .present) (completed t e ws .after) c c q k known) (none .0) in
-        let other = later-role t ok e event concrete initial in
-        let parts = step-parts (machine .role e) other e c c q k (allowed .step) (allowed .inside) in
-        let such : (x : ℕ) → T (named t 10 x) → T (isStateVariable t x) → (r : ℕ) → machine .action e x ≡ becomesSuchThat r → k x ≡ stored (machine .type) (ws .after) x =
-        λ x n v r a. such-made t ok at x r n v a in
-        let gives : (x : ℕ) → T (named t 10 x) → T (isStateVariable t x) → Gives t ok at k x (machine .action e x) = λ x n v. step-gives t ok at q k (λ x n i o. refl) x n v (such x n v) (parts .0) (parts .1) in
-        let are : (x : ℕ) → In x (asked t e) → valueAt t e ws x ≡ loggedValue t (blank machine) q k x = λ x i.
-        let a = in-asked t e x i in
-        asked-by e x initial (a .1) (λ g j. value-given t e ws x (test-true _ g) ∙ sym (logged-parameter t (blank machine) q k x j))
-        (λ v r b. value-after t e ws x (not-given t e x v) ∙ sym (such x (a .0) v r b) ∙ sym (logged-variable t (blank machine) q k x v)) in
-        let formed = subst (All LineFormed) (chose .lines) (lines-formed step) in
-        let rows = choice-rows t ok zs e (chose .others) ws q k (all-tail formed) (chose .reads) are in
-        let written = lines-written (choiceRows t e q k) step (chose .lines ∙ ap (λ r. Whole r ∷ chose .others) (row .isRow ∙ ap (stepRow t) (chose .event)) ∙ rows) in
+        let allowed = fault-allowed t ok e (at .event) (at .concrete) (ws .present) (completed t e ws .after) c c q k known (none .1) in
+        let axioms = predicates-judged t (storedEnv (machine .type) (ws .present) []) (constantsAlone t c) (agree-constants t ok e (at .event) (at .concrete) (ws .present) (completed t e ws .after) c c q k known)
+        (machine .axioms) (seen-axioms t ok e (at .event) (at .concrete) (ws .present) (completed t e ws .after) c c q k known) (none .0) in
+        let parts = step-parts (machine .role e) (w .isOther) e c c q k (allowed .step) (allowed .inside) in
+        let gives : (x : ℕ) → T (named t 10 x) → T (isStateVariable t x) → Gives t ok at k x (machine .action e x) =
+        λ x n v. step-gives t ok at q k (λ x n i o. refl) x n v (λ r a. such-made t ok at x r n v a) (parts .0) (parts .1) in
         record {
           taken = record { event = e; parameters = q; result = k };
-          isEvent = event-of t e event;
-          isOther = other;
+          isEvent = w .isEvent;
+          isOther = w .isOther;
           axioms = axioms .0;
           axiomsInside = axioms .1;
           isStep = allowed .step;
           inside = allowed .inside;
-          inForm = written .1;
-          written = written .0;
+          inForm = w .inForm;
+          written = w .written;
           leaves = p .makes ∙ made-left t ok at k gives;
         }
 
@@ -122,7 +139,7 @@ module _ (t : Rows) where
     abbrev pub readings : Values
     readings = rows-found t ok zs e q k writable .values
 
-    row-parameter : isInitial t e ≡ false → (x : ℕ) → T (named t 10 x) → kindOf t x ≡ 5 → ownerOf t x ≡ e → stored (machine .type) (readings .present) x ≡ q x
+    pub row-parameter : isInitial t e ≡ false → (x : ℕ) → T (named t 10 x) → kindOf t x ≡ 5 → ownerOf t x ≡ e → stored (machine .type) (readings .present) x ≡ q x
     row-parameter initial x n i o =
         let g : isGiven t e x ≡ true = ap (λ b. pick b (eqb (kindOf t x) 1) (eqb (kindOf t x) 5 && eqb (ownerOf t x) e)) initial
         ∙ test-true _ (and-join (eqb (kindOf t x) 5) (eqb (ownerOf t x) e) (eq→eqb (kindOf t x) 5 i) (eq→eqb (ownerOf t x) e o)) in
@@ -130,7 +147,7 @@ module _ (t : Rows) where
         ∙ rows-found t ok zs e q k writable .are x (asked-in t e x n (or-left (isGiven t e x) (isSuchThat (actionOf t e x) && isStateVariable t x) (true-test _ g)))
         ∙ logged-parameter t (blank machine) q k x i
 
-    row-such : (x : ℕ) → T (named t 10 x) → T (isStateVariable t x) → (r : ℕ) → machine .action e x ≡ becomesSuchThat r → k x ≡ stored (machine .type) (readings .after) x
+    pub row-such : (x : ℕ) → T (named t 10 x) → T (isStateVariable t x) → (r : ℕ) → machine .action e x ≡ becomesSuchThat r → k x ≡ stored (machine .type) (readings .after) x
     row-such x n v r a =
         sym (logged-variable t (blank machine) q k x v) ∙ sym (rows-found t ok zs e q k writable .are x (such-asked t e x r n v a)) ∙ value-after t e readings x (not-given t e x v)
 
@@ -177,7 +194,7 @@ module _ (t : Rows) where
             (allowed-fault t ok e event concrete (readings .present) (us t ok situation) c s q k known
             (record { axioms = λ i. absurd (subst T initial i); step = w .isStep; inside = w .inside }))
 
-      rows-chosen : choice t (map Whole (choiceRows t e q k)) (atHand t zs) ≡ chosen e readings
+      pub rows-chosen : choice t (map Whole (choiceRows t e q k)) (atHand t zs) ≡ chosen e readings
       rows-chosen = rows-choice t ok zs e q k writable ∙ ap (λ b. pick b (chosen e readings) none) (row-step t false e event concrete initial)
 
       pub step-made : (step : List ℕ) (room : ℕ) → lines step ≡ map Whole (choiceRows t e q k) → room ≡ count t 10 → Taking → pressOn t step zs types room ≡ made (left t k zs)

@@ -3,3 +3,4 @@ pub mod Choice
 pub mod Press
 pub mod Pressed
 pub mod Benched
+pub mod Refusal

@@ -45,15 +45,15 @@ module _ {A : Type 0} {Fine : A → Type 0} {Fault : A → ℕ → Type 0} {n : 
   first-nil : First Fine Fault [] n → ⊥
   first-nil f = elim f [ ]
 
-  first-left : {xs : List A} (ys : List A) → First Fine Fault xs n → First Fine Fault (xs ++ ys) n
+  pub first-left : {xs : List A} (ys : List A) → First Fine Fault xs n → First Fine Fault (xs ++ ys) n
   first-left ys (fault-here h) = fault-here h
   first-left ys (fault-later h f) = fault-later h (first-left ys f)
 
-  first-right : {xs ys : List A} → All Fine xs → First Fine Fault ys n → First Fine Fault (xs ++ ys) n
+  pub first-right : {xs ys : List A} → All Fine xs → First Fine Fault ys n → First Fine Fault (xs ++ ys) n
   first-right all-nil f = f
   first-right (all-cons h hs) f = fault-later h (first-right hs f)
 
-  first-either : (xs : List A) {ys : List A} → First Fine Fault (xs ++ ys) n → First Fine Fault xs n ⊎ (All Fine xs × First Fine Fault ys n)
+  pub first-either : (xs : List A) {ys : List A} → First Fine Fault (xs ++ ys) n → First Fine Fault xs n ⊎ (All Fine xs × First Fine Fault ys n)
   first-either [] f = inr (all-nil, f)
   first-either (x ∷ xs) (fault-here h) = inl (fault-here h)
   first-either (x ∷ xs) {ys} (fault-later h f) = go (first-either xs f)
@@ -76,13 +76,13 @@ module _ {A B : Type 0} {Fine : A → Type 0} {Fault : A → ℕ → Type 0} {Fi
   first-unmap (x ∷ xs) g h (fault-later a r) = fault-later (g x (here refl) a) (first-unmap xs (λ y i. g y (there i)) (λ y i. h y (there i)) r)
 
 -- of numbers
-abbrev None : ℕ → Type 0
+abbrev pub None : ℕ → Type 0
 None f = f ≡ noFault
 
-abbrev Marks : ℕ → ℕ → Type 0
+abbrev pub Marks : ℕ → ℕ → Type 0
 Marks f n = (f ≡ n) × ¬ (n ≡ noFault)
 
-number-first : (fs : List ℕ) (n : ℕ) → firstFault fs ≡ n → ¬ (n ≡ noFault) → First None Marks fs n
+pub number-first : (fs : List ℕ) (n : ℕ) → firstFault fs ≡ n → ¬ (n ≡ noFault) → First None Marks fs n
 unfolding firstFault
 number-first [] n e h = absurd (h (sym e))
 number-first (f ∷ fs) n e h = go (eqb f noFault) refl e (number-first fs n)
@@ -91,7 +91,7 @@ number-first (f ∷ fs) n e h = go (eqb f noFault) refl e (number-first fs n)
     go true z e rest = fault-later (eqb-true f noFault z) (rest e h)
     go false z e rest = fault-here (e, h)
 
-first-number : {fs : List ℕ} {n : ℕ} → First None Marks fs n → Marks (firstFault fs) n
+pub first-number : {fs : List ℕ} {n : ℕ} → First None Marks fs n → Marks (firstFault fs) n
 unfolding firstFault
 first-number (fault-here {x = f} {xs = fs} (e, h)) = (ap (λ b. pick b (firstFault fs) f) (ne-eqb f noFault (λ z. h (sym e ∙ z))) ∙ e, h)
 first-number (fault-later {x = f} {xs = fs} z r) = let p = first-number r in (ap (λ b. pick b (firstFault fs) f) (eq-eqb f noFault z) ∙ p .0, p .1)
@@ -141,14 +141,14 @@ module _ (t : Rows) where
 
   -- ---- predicates that have to be true
   module _ {P Q : ℕ → Bool} (ρ σ : Env (machine .type)) (h : Agree P Q ρ σ) (rs : List ℕ) (seen : All (λ r. T (mentions P Q (tree r))) rs) {n : ℕ} where
-    number-untrue : First None Marks (map (untrue ρ (machine .tree)) rs) n → FirstUntrue t σ rs n
+    pub number-untrue : First None Marks (map (untrue ρ (machine .tree)) rs) n → FirstUntrue t σ rs n
     unfolding untrue
     number-untrue f =
         first-unmap (untrue ρ (machine .tree)) rs
         (λ r i e. formula-judged ρ σ h (tree r) (all-at seen i) (truth true) e)
         (λ r i m. number-formula ρ σ h r (all-at seen i) (truth true) n m) f
 
-    untrue-number : FirstUntrue t σ rs n → First None Marks (map (untrue ρ (machine .tree)) rs) n
+    pub untrue-number : FirstUntrue t σ rs n → First None Marks (map (untrue ρ (machine .tree)) rs) n
     unfolding untrue
     untrue-number f =
         first-map (untrue ρ (machine .tree))
