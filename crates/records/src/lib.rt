@@ -3,6 +3,7 @@ use bench::Press;
 use bench::Record;
 use press::press_numbers;
 use press::preview_numbers;
+use table::Table;
 ghost use mathlib.Core.Path.{_≡_};
 ghost use Prim.Native.Nat.{_<_};
 ghost use lib.ListN.{length, getD, set};
@@ -25,20 +26,23 @@ pub fn store(state: &mut [Record], i: usize, r: Record)
     state[i] = r;
 }
 
-// The records of a state as numbers, by position. A table has at most 64 identifiers: a list of 65 is of another length whatever follows.
+// One more than a table may have identifiers: a list of so many records is of another length whatever follows.
+pub const PLACES: usize = Table::IDENTIFIERS as usize + 1;
+
+// The first records of a state as numbers, by position.
 pub struct Numbers {
-    pub values: [i64; 65],
-    pub sorts: [u64; 65],
+    pub values: [i64; PLACES],
+    pub sorts: [u64; PLACES],
 }
 
 // How many records of n are looked at.
 fn few(n: usize) -> usize
     ensures { λ r. ⌜ r ≡ fewOf n ⌝ }
 {
-    if n < 65 {
+    if n < PLACES {
         return n;
     }
-    65
+    PLACES
 }
 
 // The numbers of no record.
@@ -46,8 +50,8 @@ fn no_numbers() -> Numbers
     ensures { λ r. ⌜ r ≡ noNumbers ⌝ }
 {
     Numbers {
-        values: [0; 65],
-        sorts: [0; 65],
+        values: [0; PLACES],
+        sorts: [0; PLACES],
     }
 }
 
@@ -55,7 +59,7 @@ fn no_numbers() -> Numbers
 fn put(all: Numbers, i: usize, r: Record) -> Numbers
     ensures { λ v. ⌜ v ≡ withRecord all i r ⌝ }
 {
-    if 65 <= i {
+    if PLACES <= i {
         return all;
     }
     let mut values = all.values;
@@ -71,7 +75,7 @@ fn put(all: Numbers, i: usize, r: Record) -> Numbers
 fn at(all: Numbers, i: usize) -> Record
     ensures { λ r. ⌜ r ≡ recordAt all i ⌝ }
 {
-    if 65 <= i {
+    if PLACES <= i {
         return Record { value: 0, sort: 0 };
     }
     let values = all.values;
@@ -81,7 +85,7 @@ fn at(all: Numbers, i: usize) -> Record
     Record { value, sort }
 }
 
-// The numbers of the first records, 65 at most.
+// The numbers of the first records.
 pub fn load_state(state: &[Record]) -> Numbers
     ensures { λ r. ⌜ r ≡ loaded (fewOf (length (now (state .entry)))) (now (state .entry)) ⌝ }
 {
@@ -96,7 +100,7 @@ pub fn load_state(state: &[Record]) -> Numbers
     all
 }
 
-// The first records, 65 at most, become those of the numbers.
+// The first records become those of the numbers.
 pub fn store_state(state: &mut [Record], all: Numbers)
     ensures { λ _. ⌜ now (state .exit) ≡ stored all (fewOf (length (now (state .entry)))) (now (state .entry)) ⌝ }
 {
