@@ -248,6 +248,6 @@ module _ (table : List ℕ) (n : ℕ) (accepted : verdictOf table ≡ verdict.Ac
       } in
       replay-exact table run total .1 (n, accepted, (whole, record { axioms = b .inside .axioms; start = b .inside .start; steps = rest .inside }, b .count))
 
--- "press after press is replay", both ways
+-- press after press is replay, both ways
 pub press-replay : (table run : List ℕ) (n : ℕ) → verdictOf table ≡ verdict.Accepted n → (total : ℕ) → (replay table run ≡ Steps total) ↔ Benched table run total
 press-replay table run n accepted total = (replay-benched table n accepted run total, benched-replay table n accepted run total)

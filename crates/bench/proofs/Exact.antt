@@ -72,7 +72,7 @@ pub made-size : (table step : List ℕ) (state : List Record) (room : ℕ) (zs :
 unfolding recordsOutcome
 made-size table step state room zs h = outcome-length table step (valuesIn state) (typesIn state) room zs h .0 ∙ values-length state
 
--- "pressing gives a state exactly where the event has that step"
+-- a step is performed exactly where the event has it
 pub press-exact : (table step : List ℕ) (state state′ : List Record) → (press table step state ≡ record { reply = Performed; state = state′ }) ↔ Presses table step state state′
 press-exact table step state state′ = (forth, back)
   where
@@ -101,7 +101,7 @@ pub press-keeps : (table step : List ℕ) (state : List Record) (n row : ℕ) �
 unfolding press
 press-keeps table step state n row h = kept (λ zs. withValues zs state) state (recordsOutcome table step state (length state)) n row h
 
--- "a preview's second list is what pressing makes of the first": where it is as long, and only there
+-- the second list of a preview is what pressing makes of the first, where it is as long, and only there
 pub preview-press : (table step : List ℕ) (first second second′ : List Record)
     → (preview table step first second ≡ record { reply = Performed; first = first; second = second′ })
     ↔ ((length second ≡ length first) × (press table step first ≡ record { reply = Performed; state = second′ }))

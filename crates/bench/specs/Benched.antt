@@ -1,4 +1,4 @@
--- 02, request 6: "press after press": a log whose initialisation is a run of no steps, and whose other steps are pressed one after another.
+-- 02, request 6, press after press: a log whose initialisation is a run of no steps, and whose other steps are pressed one after another.
 use mathlib.Core.Path.{_≡_}
 use mathlib.Core.List.{List, [], _∷_, _++_, flatMap}
 use Prim.Native.Nat.{ℕ}

@@ -48,7 +48,7 @@ module _ (t : Rows) where
   abbrev machine : Machine
   machine = machineOf t
 
-  -- the after value of a variable by its action: "51s read the state before"; that of a 52 is given; an unassigned variable keeps its value
+  -- the after value of a variable by its action: a 51 reads the state before; that of a 52 is given; an unassigned variable keeps its value
   unfoldable pub afterBy : Values → ℕ → Action → ℤ
   afterBy vs x unassigned = getD (vs .present) x (pos 0)
   afterBy vs x (becomesEqual r) = answered (answer (storedEnv (machine .type) (vs .present) []) (machine .tree r))
@@ -84,7 +84,7 @@ module _ (t : Rows) where
   pressOn step zs types room =
       pick (isState t zs types && eqb room (count t identifierTag)) (pressChoice zs (choice t (lines step) (atHand zs))) (refused logFault 0)
 
--- "A refused table keeps its own row"
+-- a refused table has its own number and row
 abbrev pub outcomeBy : Verdict → Outcome → Outcome
 outcomeBy (verdict.Accepted n) o = o
 outcomeBy (verdict.Refused n row) o = refused n row
@@ -115,7 +115,7 @@ press table step state =
     let o = recordsOutcome table step state (length state) in
     record { reply = replyOf o; state = keptOr (λ zs. withValues zs state) state o }
 
--- the same of both lists; "A preview writes the whole list, types too"
+-- the same of both lists; a preview writes the whole second list, types too
 pub record Previewed : Type 0 where
   pub reply : Press
   pub first : List Record

@@ -31,7 +31,7 @@ module _ (t : Rows) where
   abbrev machine : Machine
   machine = machineOf t
 
-  -- "the state's values"
+  -- the value of each identifier in a state
   unfoldable pub stateOf : List ℤ → State machine
   stateOf zs x = storedValue (machine .type x) (valueOf zs x)
 
@@ -43,8 +43,8 @@ module _ (t : Rows) where
   abbrev pub choiceRows : ℕ → State machine → State machine → List Row
   choiceRows e q k = record { tag = stepTag; a = e; b = 0; c = 0 } ∷ map (λ x. valueRow t x (loggedValue t (blank machine) q k x)) (asked t e)
 
-  -- "pressing gives a state exactly where the event has that step by 01's definition from the state's values with these parameters and after values, and no term met
-  -- leaves 64 bits; the new state is that step's"
+  -- the event has this step by 01's definition, from the state's values with the parameters and after values of the rows, no term met leaves 64 bits, and the new values
+  -- are what the step leaves
   pub record PressedBy (step : List ℕ) (zs zs′ : List ℤ) : Type 0 where
     pub taken : Taken machine
     pub isEvent : In (taken .event) (machine .events)

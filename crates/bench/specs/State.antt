@@ -47,7 +47,7 @@ module _ (t : Rows) where
   abbrev pub isWrong : List ℤ → List ℕ → ℕ → Bool
   isWrong zs types x = not (isRight x (valueOf zs x) (getD types (x - 1) 0))
 
-  -- "one for each identifier": no "list of another length", and every record is right, "also of abstract variables and parameters"
+  -- "one for each identifier": no "list of another length", and every record is right, those of abstract variables and of parameters too
   unfoldable pub isState : List ℤ → List ℕ → Bool
   isState zs types =
       (eqb (length zs) (count t identifierTag) && eqb (length types) (count t identifierTag))
@@ -59,7 +59,7 @@ module _ (t : Rows) where
     pub sorts : length types ≡ count t identifierTag
     pub records : (x : ℕ) → 1 ≤ x → x ≤ count t identifierTag → isRight x (valueOf zs x) (getD types (x - 1) 0) ≡ true
 
-  -- "updates the variables' records": kinds 3 and 6 get their after values, which stand by identifier, "all other records stay"
+  -- "updates the variables' records": kinds 3 and 6 get their after values, which stand by identifier; all other records stay
   unfoldable pub updated : List ℤ → List ℤ → List ℤ
   updated after zs = map (λ x. pick (isStateVariable t x) (getD after x (pos 0)) (valueOf zs x)) (numbers (length zs) 1)
 

@@ -184,7 +184,7 @@ fn press_state(
     Press::Refused(Replay::LOG, 0)
 }
 
-// The same of a table that may be refused: "A refused table keeps its own row".
+// The same of a table that may be refused, which has its own number and row.
 fn press_judged(
     words: &[u64],
     table: Table,

@@ -160,7 +160,7 @@ fn equal_after(words: &[u64], table: Table, present: &[i64], root: u64) -> i64
     answered(found)
 }
 
-// The after value of the variable x: "51s read the state before", that of a 52 is given, without an action it keeps its value.
+// The after value of the variable x: a 51 reads the state before, that of a 52 is given, without an action it keeps its value.
 fn after_by(
     words: &[u64],
     table: Table,
