@@ -5,6 +5,7 @@ use crate::generate::random::Random;
 use crate::rows::{bytes_of, Row, ROW_BYTES};
 use crate::services::Answers;
 use crate::stack::on_thread;
+use std::fmt::{self, Display, Formatter};
 use std::mem::take;
 
 /// What a service answers: 0 or the refusal's number, and the count or the row.
@@ -12,6 +13,12 @@ use std::mem::take;
 pub struct Reply {
     pub number: u64,
     pub value: u64,
+}
+
+impl Display for Reply {
+    fn fmt(&self, formatter: &mut Formatter) -> fmt::Result {
+        write!(formatter, "{}, value {}", self.number, self.value)
+    }
 }
 
 /// The services, as the C header has them.

@@ -1,9 +1,9 @@
 //! Compares an implementation with this one over many tables: those of seeds, or a list.
 
-use crate::against::{Call, Comparison, Difference, Effort, Outcome, Services};
+use crate::against::{Call, Comparison, Difference, Effort, Services};
 use crate::generate;
 use crate::generate::random::Random;
-use crate::numbers::Numbers;
+use crate::numbers::{Numbers, Place, Sum, Taken};
 use crate::rows::ROW_BYTES;
 use crate::shrink::{rows_of, shrink};
 use std::ops::Range;
@@ -18,6 +18,11 @@ const LARGE: usize = 250 * ROW_BYTES;
 /// Time for making a table with a difference smaller.
 const SHRINKING: Duration = Duration::from_secs(60);
 
+/// What is shown as lines of text.
+pub trait Report {
+    fn report(&self) -> String;
+}
+
 /// Counts over the tables that were compared.
 #[derive(Clone, Debug, Default)]
 pub struct Summary {
@@ -31,9 +36,7 @@ pub struct Summary {
 /// A table with a difference, and the smallest one made from it.
 #[derive(Clone, Debug)]
 pub struct Found {
-    /// What the number is.
-    pub word: &'static str,
-    pub number: u64,
+    pub at: Place,
     pub rows: usize,
     pub table: Vec<u8>,
     pub difference: Difference,
@@ -92,7 +95,7 @@ pub fn compare(
     count: u64,
     threads: usize,
     progress: bool,
-) -> Result<(Summary, Option<Found>), String> {
+) -> Taken<Summary, Found> {
     let seeds = first..first + count;
     compare_tables(services, &Seeds, seeds, threads, progress)
 }
@@ -102,7 +105,7 @@ pub fn compare_list(
     services: &dyn Services,
     list: &[Vec<u8>],
     threads: usize,
-) -> Result<(Summary, Option<Found>), String> {
+) -> Taken<Summary, Found> {
     let numbers = 0..list.len() as u64;
     compare_tables(services, &List(list), numbers, threads, true)
 }
@@ -115,7 +118,7 @@ fn compare_tables(
     numbers: Range<u64>,
     threads: usize,
     progress: bool,
-) -> Result<(Summary, Option<Found>), String> {
+) -> Taken<Summary, Found> {
     let numbers = Numbers {
         range: numbers,
         threads,
@@ -123,14 +126,8 @@ fn compare_tables(
         words: "tables",
         progress,
     };
-    let taken = numbers.take(|number, summary| take_number(services, tables, number, summary));
-    let (summaries, mut found) = taken?;
-    let mut summary = Summary::default();
-    for one in &summaries {
-        summary.add(one);
-    }
-    found.sort_by_key(|one: &Found| one.number);
-    let found = found.into_iter().next();
+    let taken = numbers.take(|at, summary| take_number(services, tables, at, summary));
+    let (summary, found) = taken?;
     Ok((summary, found.map(|one| smaller(services, one))))
 }
 
@@ -138,18 +135,17 @@ fn compare_tables(
 fn take_number(
     services: &dyn Services,
     tables: &dyn Tables,
-    number: u64,
+    at: Place,
     summary: &mut Summary,
 ) -> Option<Found> {
-    let table = tables.table(number);
+    let table = tables.table(at.number);
     let effort = tables.effort(&table);
-    let mut random = Random::new(!number);
+    let mut random = Random::new(!at.number);
     let comparison = Comparison::new(services, &table).run(effort, &mut random);
     summary.count(&comparison);
     let difference = comparison.difference?;
     Some(Found {
-        word: tables.word(),
-        number,
+        at,
         rows: table.len() / ROW_BYTES,
         table,
         difference,
@@ -186,7 +182,9 @@ impl Summary {
             *sum += calls;
         }
     }
+}
 
+impl Sum for Summary {
     fn add(&mut self, other: &Summary) {
         self.tables += other.tables;
         self.calls += other.calls;
@@ -195,9 +193,10 @@ impl Summary {
             *sum += one;
         }
     }
+}
 
-    /// The counts as lines of text.
-    pub fn report(&self) -> String {
+impl Report for Summary {
+    fn report(&self) -> String {
         let mut text = format!(
             "{} tables, {} calls\naccepted {}\nrefused (tables)",
             self.tables, self.calls, self.accepted
@@ -212,9 +211,9 @@ impl Summary {
     }
 }
 
-impl Found {
-    /// The difference and its table as lines of text.
-    pub fn report(&self) -> String {
+impl Report for Found {
+    /// The difference and its table.
+    fn report(&self) -> String {
         let Difference {
             call,
             expected,
@@ -222,13 +221,12 @@ impl Found {
             ..
         } = &self.difference;
         let mut text = format!(
-            "DIFFERENCE at {} {}, a table of {} rows\n{}\n",
-            self.word,
-            self.number,
+            "DIFFERENCE at {}, a table of {} rows\n{}\n",
+            self.at,
             self.rows,
             shown_call(*call)
         );
-        text += &format!("expected {}\ngot      {}\n", shown(expected), shown(got));
+        text += &format!("expected {}\ngot      {}\n", expected.reply, got.reply);
         text += &first_byte(&expected.buffer, &got.buffer);
         text += &format!("the smallest table found, {} bytes:\n", self.table.len());
         text + &shown_table(&self.table)
@@ -243,10 +241,6 @@ fn shown_call(call: Call) -> String {
             format!("spell entry {j} of sequent {k}, {room} bytes of room")
         }
     }
-}
-
-fn shown(outcome: &Outcome) -> String {
-    format!("{}, value {}", outcome.reply.number, outcome.reply.value)
 }
 
 /// The first byte that differs, counted from the buffer's start, and the bytes around it.

@@ -1,6 +1,7 @@
 //! Sequents for an Event-B machine and its refinement: a plain reading of the paper.
 
 pub mod against;
+pub mod batches;
 pub mod bench;
 pub mod by_sequent;
 pub mod campaign;

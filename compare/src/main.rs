@@ -1,21 +1,23 @@
 //! The commands of the program `compare`; READINGS.md has the readings of the paper behind it.
 
 use compare::against::Services;
+use compare::batches::{self, Batched};
 use compare::bench;
 use compare::by_sequent::hold;
-use compare::campaign::{self, Found, Summary};
+use compare::campaign::{self, Report};
 use compare::checks::{accept, Refusal};
 use compare::generate;
+use compare::numbers::Taken;
 use compare::operators::family;
 use compare::operators::wanted::{missing, wanted};
 use compare::plain::is_left_out;
-use compare::presses::{self, Presses};
+use compare::presses::Presses;
 use compare::program::replay::Replayer;
 use compare::program::{self, Program};
 use compare::replay::replayed;
-use compare::replays::{self, Replays};
+use compare::replays::Replays;
 use compare::rows::{bytes_of, layout, Row};
-use compare::runs::family::whole_family;
+use compare::runs;
 use compare::runs::simulate::simulate;
 use compare::services::{print, refusal_row, Answers};
 use compare::stack::{self, report};
@@ -216,8 +218,8 @@ fn linked() -> Result<&'static dyn Services, String> {
 
 /// Compares the proved library with this program on the tables of so many seeds.
 fn against_library(count: u64, first: u64) -> Result<Vec<u8>, String> {
-    let compared = campaign::compare(linked()?, first, count, threads(), true)?;
-    reported(compared)
+    let compared = campaign::compare(linked()?, first, count, threads(), true);
+    reported([compared])
 }
 
 /// Compares the proved library with this program on the tables of operators, which must show all that is asked of them.
@@ -230,7 +232,7 @@ fn operators() -> Result<Vec<u8>, String> {
             .map(|case| format!("no table shows {case:?}\n"));
         return Err(lines.collect());
     }
-    let same = reported(campaign::compare_list(services, &tables, threads())?)?;
+    let same = reported([campaign::compare_list(services, &tables, threads())])?;
     let asked = wanted().len();
     let shown = format!("{asked} cases of operators, each shown by some table\n");
     Ok([shown.into_bytes(), same].concat())
@@ -239,50 +241,49 @@ fn operators() -> Result<Vec<u8>, String> {
 /// Compares the proved library's replay with this program's, on every operator by itself and on so many generated logs.
 fn against_library_replay(logs: u64, first: u64) -> Result<Vec<u8>, String> {
     let replays = library_replay().ok_or(UNLINKED)?;
-    let mut text = String::new();
-    let family = whole_family();
-    for compared in [
-        replays::compare_list(replays, &family, threads()),
-        replays::compare(replays, first, logs, threads(), true),
-    ] {
-        let (summary, found) = compared?;
-        text += &summary.report();
-        if let Some(found) = found {
-            return Err(text + &found.report());
-        }
-    }
-    Ok((text + "no difference\n").into_bytes())
+    against_library_batches(replays, &runs::family::whole_family(), logs, first)
 }
 
 /// Compares the proved library's press and preview with this program's, on every operator by itself and on so many generated
 /// presses.
 fn against_library_press(count: u64, first: u64) -> Result<Vec<u8>, String> {
-    let library = library_press().ok_or(UNLINKED)?;
-    let mut text = String::new();
-    let family = states::family::whole_family();
-    for compared in [
-        presses::compare_list(library, &family, threads()),
-        presses::compare(library, first, count, threads(), true),
-    ] {
-        let (summary, found) = compared?;
-        text += &summary.report();
-        if let Some(found) = found {
-            return Err(text + &found.report());
-        }
-    }
-    Ok((text + "no difference\n").into_bytes())
+    let presses = library_press().ok_or(UNLINKED)?;
+    against_library_batches(presses, &states::family::whole_family(), count, first)
+}
+
+/// Compares calls of one sort on a list of batches and on so many generated calls.
+fn against_library_batches<C>(
+    calls: &C,
+    list: &[C::Batch],
+    count: u64,
+    first: u64,
+) -> Result<Vec<u8>, String>
+where
+    C: Batched<Summary: Report, Found: Report> + ?Sized,
+{
+    reported([
+        batches::compare_list(calls, list, threads()),
+        batches::compare(calls, first, count, threads(), true),
+    ])
 }
 
 fn threads() -> usize {
     std::thread::available_parallelism().map_or(1, |threads| threads.get())
 }
 
-/// The counts, and the difference as an error.
-fn reported((summary, found): (Summary, Option<Found>)) -> Result<Vec<u8>, String> {
-    match found {
-        None => Ok((summary.report() + "no difference\n").into_bytes()),
-        Some(found) => Err(summary.report() + &found.report()),
+/// The counts of each comparison, and the first difference as an error.
+fn reported<S: Report, F: Report>(
+    all: impl IntoIterator<Item = Taken<S, F>>,
+) -> Result<Vec<u8>, String> {
+    let mut text = String::new();
+    for compared in all {
+        let (summary, found) = compared?;
+        text += &summary.report();
+        if let Some(found) = found {
+            return Err(text + &found.report());
+        }
     }
+    Ok((text + "no difference\n").into_bytes())
 }
 
 /// Compares a program that prints a table's sequents with this one on the tables of so many seeds, and with the library's

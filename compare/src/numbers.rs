@@ -1,5 +1,6 @@
 //! Takes numbers one after another on several threads, until something is found.
 
+use std::fmt::{self, Display, Formatter};
 use std::ops::Range;
 use std::panic::{catch_unwind, AssertUnwindSafe};
 use std::sync::atomic::{AtomicBool, AtomicU64, Ordering};
@@ -20,20 +21,39 @@ pub struct Numbers {
     pub progress: bool,
 }
 
+/// A number that is taken, with what it numbers.
+#[derive(Clone, Copy, Debug)]
+pub struct Place {
+    pub word: &'static str,
+    pub number: u64,
+}
+
+impl Display for Place {
+    fn fmt(&self, formatter: &mut Formatter) -> fmt::Result {
+        write!(formatter, "{} {}", self.word, self.number)
+    }
+}
+
+/// Counts that each thread makes by itself.
+pub trait Sum: Default + Send {
+    fn add(&mut self, other: &Self);
+}
+
 /// The numbers still to be taken. All threads stop after a find or a panic.
 struct Work {
     next: AtomicU64,
     stop: AtomicBool,
 }
 
-/// What each thread has counted, and what was found, if anything was.
-type Taken<S, F> = Result<(Vec<S>, Vec<F>), String>;
+/// What all threads have counted, and what was found, if anything was.
+pub type Taken<S, F> = Result<(S, Option<F>), String>;
 
 impl Numbers {
-    /// Calls `take` with each number and its thread's counts. The error names a number at which it panicked.
-    pub fn take<S, F>(&self, take: impl Fn(u64, &mut S) -> Option<F> + Sync) -> Taken<S, F>
+    /// Calls `take` with each number and its thread's counts. Of several finds the one with the lowest number is given. The
+    /// error names a number at which it panicked.
+    pub fn take<S, F>(&self, take: impl Fn(Place, &mut S) -> Option<F> + Sync) -> Taken<S, F>
     where
-        S: Default + Send,
+        S: Sum,
         F: Send,
     {
         let work = Work {
@@ -53,38 +73,40 @@ impl Numbers {
                 scope.spawn(|| self.show_progress(&work));
             }
         });
-        let (mut counts, mut found) = (Vec::new(), Vec::new());
+        let (mut counts, mut found) = (S::default(), Vec::new());
         for taken in all.into_inner().expect("all threads have ended") {
             let (counted, one) = taken?;
-            counts.push(counted);
+            counts.add(&counted);
             found.extend(one);
         }
-        Ok((counts, found))
+        let first = found.into_iter().min_by_key(|one: &(u64, F)| one.0);
+        Ok((counts, first.map(|one| one.1)))
     }
 
-    /// Takes one number after another, until there are none or any thread stops.
+    /// Takes one number after another, until there are none or any thread stops. A find comes with its number.
     fn take_on_thread<S: Default, F>(
         &self,
         work: &Work,
-        take: &impl Fn(u64, &mut S) -> Option<F>,
-    ) -> Result<(S, Option<F>), String> {
+        take: &impl Fn(Place, &mut S) -> Option<F>,
+    ) -> Taken<S, (u64, F)> {
         let mut counts = S::default();
         loop {
             let number = work.next.fetch_add(1, Ordering::Relaxed);
             if number >= self.range.end || work.stop.load(Ordering::Relaxed) {
                 return Ok((counts, None));
             }
+            let word = self.word;
+            let at = Place { word, number };
             // What a panic leaves half done in the counts isn't used.
-            match catch_unwind(AssertUnwindSafe(|| take(number, &mut counts))) {
+            match catch_unwind(AssertUnwindSafe(|| take(at, &mut counts))) {
                 Ok(None) => {}
-                Ok(found) => {
+                Ok(Some(found)) => {
                     work.stop.store(true, Ordering::Relaxed);
-                    return Ok((counts, found));
+                    return Ok((counts, Some((number, found))));
                 }
                 Err(_) => {
                     work.stop.store(true, Ordering::Relaxed);
-                    let word = self.word;
-                    return Err(format!("a panic at {word} {number} ends the comparison"));
+                    return Err(format!("a panic at {at} ends the comparison"));
                 }
             }
         }

@@ -1,16 +1,15 @@
 //! Compares an implementation of press and preview with this one over many tables, lists and steps: replies, and every record.
 
 use crate::against::Reply;
-use crate::campaign::shown_table;
+use crate::batches::{Batched, Replies};
+use crate::campaign::{shown_table, Report};
 use crate::checks::{accept, Refusal};
-use crate::numbers::Numbers;
+use crate::numbers::{Place, Sum};
 use crate::press::{Cause, Panel, Record};
 use crate::replays::{is_of_log, reply, shown_log};
 use crate::shrink::records::shrink_case;
 use crate::stack::on_thread;
 use crate::states::batch::{batch, Batch, Case, CASES};
-use std::collections::BTreeMap;
-use std::ops::Range;
 use std::time::Duration;
 
 /// Press and preview, as the C header has them. The first list of a preview is lent as one that can change, so that a change
@@ -89,7 +88,7 @@ pub struct Summary {
     pub tables: u64,
     pub presses: u64,
     /// Presses by the number of the reply, 0 for those that are performed.
-    pub replies: BTreeMap<u64, u64>,
+    pub replies: Replies,
     /// Steps that can be pressed but not previewed, for the second list.
     pub only_pressed: u64,
 }
@@ -97,9 +96,7 @@ pub struct Summary {
 /// A table and a press with a difference, and later the smallest ones made from them.
 #[derive(Clone, Debug)]
 pub struct Found {
-    /// What the first number is.
-    pub word: &'static str,
-    pub number: u64,
+    pub at: Place,
     /// Which case of the batch, from 0.
     pub place: usize,
     pub table: Vec<u8>,
@@ -108,34 +105,62 @@ pub struct Found {
     pub difference: Difference,
 }
 
-/// What was counted, and a difference if there is one.
-pub type Compared = Result<(Summary, Option<Found>), String>;
+impl Batched for dyn Presses + '_ {
+    type Batch = Batch;
+    type Summary = Summary;
+    type Found = Found;
+    const SIZE: usize = CASES;
 
-/// Compares so many generated presses, from the batch `first` on, and stops at a difference, made smaller.
-pub fn compare(
-    presses: &dyn Presses,
-    first: u64,
-    count: u64,
-    threads: usize,
-    progress: bool,
-) -> Compared {
-    let batches = first..first + count.div_ceil(CASES as u64);
-    let numbers = numbers(batches, "batch", "batches", threads, progress);
-    let (summary, found) = compare_batches(presses, &numbers, |number| {
+    fn batch(number: u64, most: usize) -> Batch {
         let mut batch = batch(number);
-        let left = count - (number - first) * CASES as u64;
-        batch.cases.truncate(left as usize);
+        batch.cases.truncate(most);
         batch
-    })?;
-    Ok((summary, found.map(|found| smaller(presses, found))))
-}
+    }
 
-/// Compares all batches of a list, as above.
-pub fn compare_list(presses: &dyn Presses, list: &[Batch], threads: usize) -> Compared {
-    let numbers = numbers(0..list.len() as u64, "table", "tables", threads, false);
-    let (summary, found) =
-        compare_batches(presses, &numbers, |number| list[number as usize].clone())?;
-    Ok((summary, found.map(|found| smaller(presses, found))))
+    fn take(&self, at: Place, batch: Batch, summary: &mut Summary) -> Option<Found> {
+        let expected = expected(&batch);
+        summary.count(&expected);
+        let (place, difference) = first_difference(self, &batch, &expected)?;
+        let case = Case {
+            state: Some(expected[place].state.clone()),
+            ..batch.cases[place].clone()
+        };
+        Some(Found {
+            at,
+            place,
+            table: batch.table,
+            case,
+            difference,
+        })
+    }
+
+    /// An accepted table stays accepted. What only shows after other presses on the same list stays as it is.
+    fn smaller(&self, found: Found) -> Found {
+        let is_of_press = |difference: &Difference| is_of_log(difference.expected.reply);
+        let difference = |table: &[u8], case: &Case| {
+            let batch = Batch {
+                table: table.to_vec(),
+                cases: vec![case.clone()],
+            };
+            let found = first_difference(self, &batch, &expected(&batch));
+            found.map(|one| one.1)
+        };
+        let stays = |table: &[u8], case: &Case| {
+            let seen = difference(table, case);
+            seen.is_some_and(|one| is_of_press(&one) == is_of_press(&found.difference))
+        };
+        if !stays(&found.table, &found.case) {
+            return found;
+        }
+        let (table, case) = shrink_case(&found.table, &found.case, SHRINKING, stays);
+        let difference = difference(&table, &case).unwrap_or(found.difference);
+        Found {
+            table,
+            case,
+            difference,
+            ..found
+        }
+    }
 }
 
 /// A batch with what it must give, to be compared with several implementations.
@@ -159,53 +184,6 @@ pub fn first_batch(presses: &dyn Presses, batches: &[Prepared]) -> Option<usize>
         first_difference(presses, batch, expected).is_some()
     };
     batches.iter().position(differs)
-}
-
-fn numbers(
-    range: Range<u64>,
-    word: &'static str,
-    words: &'static str,
-    threads: usize,
-    progress: bool,
-) -> Numbers {
-    Numbers {
-        range,
-        threads,
-        word,
-        words,
-        progress,
-    }
-}
-
-fn compare_batches(
-    presses: &dyn Presses,
-    numbers: &Numbers,
-    batch: impl Fn(u64) -> Batch + Sync,
-) -> Compared {
-    let (summaries, mut found) = numbers.take(|number, summary: &mut Summary| {
-        let batch = batch(number);
-        let expected = expected(&batch);
-        summary.count(&expected);
-        let (place, difference) = first_difference(presses, &batch, &expected)?;
-        let case = Case {
-            state: Some(expected[place].state.clone()),
-            ..batch.cases[place].clone()
-        };
-        Some(Found {
-            word: numbers.word,
-            number,
-            place,
-            table: batch.table,
-            case,
-            difference,
-        })
-    })?;
-    let mut summary = Summary::default();
-    for one in &summaries {
-        summary.add(one);
-    }
-    found.sort_by_key(|one: &Found| one.number);
-    Ok((summary, found.into_iter().next()))
 }
 
 /// What each case of the batch must give. The table is checked once.
@@ -313,73 +291,41 @@ fn differs(call: Call, expected: &Outcome, got: Outcome) -> Option<Difference> {
     })
 }
 
-/// Makes table and press smaller as long as they are answered in two ways; an accepted table stays accepted. What only shows
-/// after other presses on the same list stays as it is.
-fn smaller(presses: &dyn Presses, found: Found) -> Found {
-    let is_of_press = |difference: &Difference| is_of_log(difference.expected.reply);
-    let difference = |table: &[u8], case: &Case| {
-        let batch = Batch {
-            table: table.to_vec(),
-            cases: vec![case.clone()],
-        };
-        let found = first_difference(presses, &batch, &expected(&batch));
-        found.map(|one| one.1)
-    };
-    let stays = |table: &[u8], case: &Case| {
-        let seen = difference(table, case);
-        seen.is_some_and(|one| is_of_press(&one) == is_of_press(&found.difference))
-    };
-    if !stays(&found.table, &found.case) {
-        return found;
-    }
-    let (table, case) = shrink_case(&found.table, &found.case, SHRINKING, stays);
-    let difference = difference(&table, &case).unwrap_or(found.difference);
-    Found {
-        table,
-        case,
-        difference,
-        ..found
-    }
-}
-
 impl Summary {
     fn count(&mut self, cases: &[Expected]) {
         self.tables += 1;
         self.presses += cases.len() as u64;
         for Expected { press, preview, .. } in cases {
-            *self.replies.entry(press.reply.number).or_default() += 1;
+            self.replies.count(press.reply.number);
             self.only_pressed += u64::from(press.reply != preview.reply);
         }
     }
+}
 
+impl Sum for Summary {
     fn add(&mut self, other: &Summary) {
         self.tables += other.tables;
         self.presses += other.presses;
         self.only_pressed += other.only_pressed;
-        for (&number, count) in &other.replies {
-            *self.replies.entry(number).or_default() += count;
-        }
+        self.replies.add(&other.replies);
     }
+}
 
-    /// The counts as lines of text.
-    pub fn report(&self) -> String {
+impl Report for Summary {
+    fn report(&self) -> String {
         let mut text = format!(
             "{} tables, {} presses, each with a preview\n",
             self.tables, self.presses
         );
-        let performed = self.replies.get(&0).unwrap_or(&0);
+        text += &self.replies.report("performed");
         let only_pressed = self.only_pressed;
-        text += &format!("performed {performed}\nrefused");
-        for (number, count) in self.replies.iter().filter(|one| *one.0 > 0) {
-            text += &format!(" {number}:{count}");
-        }
-        text + &format!("\npreviews refused for the second list alone {only_pressed}\n")
+        text + &format!("previews refused for the second list alone {only_pressed}\n")
     }
 }
 
-impl Found {
-    /// The difference with its table, step and lists as lines of text.
-    pub fn report(&self) -> String {
+impl Report for Found {
+    /// The difference with its table, step and lists.
+    fn report(&self) -> String {
         let Difference {
             call,
             expected,
@@ -389,14 +335,9 @@ impl Found {
             Call::Press => "press",
             Call::Preview => "preview",
         };
-        let shown = |one: &Outcome| format!("{}, value {}", one.reply.number, one.reply.value);
         let mut text = format!(
-            "DIFFERENCE at {} {}, case {}, {call}\nexpected {}\ngot      {}\n",
-            self.word,
-            self.number,
-            self.place,
-            shown(expected),
-            shown(got)
+            "DIFFERENCE at {}, case {}, {call}\nexpected {}\ngot      {}\n",
+            self.at, self.place, expected.reply, got.reply
         );
         text += &first_record("first", &expected.first, &got.first);
         text += &first_record("second", &expected.second, &got.second);

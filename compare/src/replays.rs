@@ -1,17 +1,16 @@
 //! Compares an implementation of replay with this one over many tables and logs.
 
 use crate::against::Reply;
-use crate::campaign::shown_table;
+use crate::batches::{Batched, Replies};
+use crate::campaign::{shown_table, Report};
 use crate::checks::{accept, Refusal};
-use crate::numbers::Numbers;
+use crate::numbers::{Place, Sum};
 use crate::replay::machine::Machine;
 use crate::replay::{replay, Stop, OUTSIDE};
 use crate::rows::ROW_BYTES;
 use crate::runs::batch::{batch, Batch, LOGS};
 use crate::shrink::{shrink_pair, whole_rows};
 use crate::stack::on_thread;
-use std::collections::BTreeMap;
-use std::ops::Range;
 use std::time::Duration;
 
 /// Replay, as the C header has it.
@@ -30,15 +29,13 @@ pub struct Summary {
     pub tables: u64,
     pub logs: u64,
     /// Logs by the number of the reply, 0 for runs.
-    pub replies: BTreeMap<u64, u64>,
+    pub replies: Replies,
 }
 
 /// A table and a log with a difference, and later the smallest ones made from them.
 #[derive(Clone, Debug)]
 pub struct Found {
-    /// What the first number is.
-    pub word: &'static str,
-    pub number: u64,
+    pub at: Place,
     /// Which log of the batch, from 0.
     pub place: usize,
     pub table: Vec<u8>,
@@ -47,34 +44,51 @@ pub struct Found {
     pub got: Reply,
 }
 
-/// What was counted, and a difference if there is one.
-pub type Compared = Result<(Summary, Option<Found>), String>;
+impl Batched for dyn Replays + '_ {
+    type Batch = Batch;
+    type Summary = Summary;
+    type Found = Found;
+    const SIZE: usize = LOGS;
 
-/// Compares so many generated logs, from the batch `first` on, and stops at a difference, made smaller.
-pub fn compare(
-    replays: &dyn Replays,
-    first: u64,
-    logs: u64,
-    threads: usize,
-    progress: bool,
-) -> Compared {
-    let batches = first..first + logs.div_ceil(LOGS as u64);
-    let numbers = numbers(batches, "batch", "batches", threads, progress);
-    let (summary, found) = compare_batches(replays, &numbers, |number| {
+    fn batch(number: u64, most: usize) -> Batch {
         let mut batch = batch(number);
-        let left = logs - (number - first) * LOGS as u64;
-        batch.logs.truncate(left as usize);
+        batch.logs.truncate(most);
         batch
-    })?;
-    Ok((summary, found.map(|found| smaller(replays, found))))
-}
+    }
 
-/// Compares all batches of a list, as above.
-pub fn compare_list(replays: &dyn Replays, list: &[Batch], threads: usize) -> Compared {
-    let numbers = numbers(0..list.len() as u64, "table", "tables", threads, false);
-    let (summary, found) =
-        compare_batches(replays, &numbers, |number| list[number as usize].clone())?;
-    Ok((summary, found.map(|found| smaller(replays, found))))
+    fn take(&self, at: Place, batch: Batch, summary: &mut Summary) -> Option<Found> {
+        let expected = expected(&batch);
+        summary.count(&expected);
+        let (place, got) = first_difference(self, &batch, &expected)?;
+        Some(Found {
+            at,
+            place,
+            log: batch.logs[place].clone(),
+            table: batch.table,
+            expected: expected[place],
+            got,
+        })
+    }
+
+    /// An accepted table stays accepted.
+    fn smaller(&self, found: Found) -> Found {
+        let both = |table: &[u8], log: &[u8]| {
+            let got = on_thread(self.stack(), || self.replay(table, log));
+            (reply(replay(table, log)), got)
+        };
+        let (table, log) = shrink_pair(&found.table, &found.log, SHRINKING, |table, log| {
+            let (expected, got) = both(table, log);
+            expected != got && is_of_log(expected) == is_of_log(found.expected)
+        });
+        let (expected, got) = both(&table, &log);
+        Found {
+            table,
+            log,
+            expected,
+            got,
+            ..found
+        }
+    }
 }
 
 /// The first of so many batches that shows a difference, if one does; it isn't made smaller.
@@ -83,50 +97,6 @@ pub fn first_batch(replays: &dyn Replays, batches: u64) -> Option<u64> {
         let batch = batch(number);
         first_difference(replays, &batch, &expected(&batch)).is_some()
     })
-}
-
-fn numbers(
-    range: Range<u64>,
-    word: &'static str,
-    words: &'static str,
-    threads: usize,
-    progress: bool,
-) -> Numbers {
-    Numbers {
-        range,
-        threads,
-        word,
-        words,
-        progress,
-    }
-}
-
-fn compare_batches(
-    replays: &dyn Replays,
-    numbers: &Numbers,
-    batch: impl Fn(u64) -> Batch + Sync,
-) -> Compared {
-    let (summaries, mut found) = numbers.take(|number, summary: &mut Summary| {
-        let batch = batch(number);
-        let expected = expected(&batch);
-        summary.count(&expected);
-        let (place, got) = first_difference(replays, &batch, &expected)?;
-        Some(Found {
-            word: numbers.word,
-            number,
-            place,
-            log: batch.logs[place].clone(),
-            table: batch.table,
-            expected: expected[place],
-            got,
-        })
-    })?;
-    let mut summary = Summary::default();
-    for one in &summaries {
-        summary.add(one);
-    }
-    found.sort_by_key(|one: &Found| one.number);
-    Ok((summary, found.into_iter().next()))
 }
 
 /// What each log of the batch must give. The table is checked once.
@@ -173,66 +143,37 @@ pub fn is_of_log(reply: Reply) -> bool {
     reply.number == 0 || reply.number >= OUTSIDE as u64
 }
 
-/// Makes table and log smaller as long as they are answered in two ways; an accepted table stays accepted.
-fn smaller(replays: &dyn Replays, found: Found) -> Found {
-    let both = |table: &[u8], log: &[u8]| {
-        let got = on_thread(replays.stack(), || replays.replay(table, log));
-        (reply(replay(table, log)), got)
-    };
-    let (table, log) = shrink_pair(&found.table, &found.log, SHRINKING, |table, log| {
-        let (expected, got) = both(table, log);
-        expected != got && is_of_log(expected) == is_of_log(found.expected)
-    });
-    let (expected, got) = both(&table, &log);
-    Found {
-        table,
-        log,
-        expected,
-        got,
-        ..found
-    }
-}
-
 impl Summary {
     fn count(&mut self, replies: &[Reply]) {
         self.tables += 1;
         self.logs += replies.len() as u64;
         for reply in replies {
-            *self.replies.entry(reply.number).or_default() += 1;
+            self.replies.count(reply.number);
         }
-    }
-
-    fn add(&mut self, other: &Summary) {
-        self.tables += other.tables;
-        self.logs += other.logs;
-        for (&number, count) in &other.replies {
-            *self.replies.entry(number).or_default() += count;
-        }
-    }
-
-    /// The counts as lines of text.
-    pub fn report(&self) -> String {
-        let mut text = format!("{} tables, {} logs\n", self.tables, self.logs);
-        let runs = self.replies.get(&0).unwrap_or(&0);
-        text += &format!("runs {runs}\nrefused");
-        for (number, count) in self.replies.iter().filter(|one| *one.0 > 0) {
-            text += &format!(" {number}:{count}");
-        }
-        text + "\n"
     }
 }
 
-impl Found {
-    /// The difference with its table and log as lines of text.
-    pub fn report(&self) -> String {
-        let shown = |reply: Reply| format!("{}, value {}", reply.number, reply.value);
+impl Sum for Summary {
+    fn add(&mut self, other: &Summary) {
+        self.tables += other.tables;
+        self.logs += other.logs;
+        self.replies.add(&other.replies);
+    }
+}
+
+impl Report for Summary {
+    fn report(&self) -> String {
+        let counts = format!("{} tables, {} logs\n", self.tables, self.logs);
+        counts + &self.replies.report("runs")
+    }
+}
+
+impl Report for Found {
+    /// The difference with its table and log.
+    fn report(&self) -> String {
         let mut text = format!(
-            "DIFFERENCE at {} {}, log {}\nexpected {}\ngot      {}\n",
-            self.word,
-            self.number,
-            self.place,
-            shown(self.expected),
-            shown(self.got)
+            "DIFFERENCE at {}, log {}\nexpected {}\ngot      {}\n",
+            self.at, self.place, self.expected, self.got
         );
         text += &format!("the smallest table found, {} bytes:\n", self.table.len());
         text += &shown_table(&self.table);

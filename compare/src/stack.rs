@@ -1,5 +1,6 @@
 //! The stack that a call of the services needs: threads with exactly as much as is stated, and what a call uses.
 
+pub mod batches;
 pub mod press;
 pub mod replay;
 pub mod report;
@@ -17,6 +18,15 @@ use std::thread::{scope, Builder};
 /// Bytes of stack for a thread that calls the library, as include/sifthorma.h states them: the largest use measured
 /// (`compare stack`) and a third more, up to a multiple of 64 KB, which is whole pages on every system.
 pub const STACK: usize = 6 * 64 * 1024;
+
+/// The text with the largest use of all. An error if less is stated than that and a third more.
+fn judged(text: String, largest: usize) -> Result<String, String> {
+    let text = text + &format!("largest of all {largest}, stated {STACK}\n");
+    if largest + largest / 3 > STACK {
+        return Err(text + "less is stated than the largest and a third more");
+    }
+    Ok(text)
+}
 
 /// Makes the call on a thread with so many bytes of stack. The C library may reuse the stack of an ended thread that is up to
 /// four times as large; all other threads here have more than that.

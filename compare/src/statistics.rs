@@ -147,8 +147,8 @@ impl Statistics {
     }
 }
 
-fn count(counts: &mut Counts, number: i32) {
-    *counts.entry(number).or_default() += 1;
+fn count<K: Ord>(counts: &mut BTreeMap<K, usize>, key: K) {
+    *counts.entry(key).or_default() += 1;
 }
 
 /// The different refusals that the case's three calls meet.

@@ -4,7 +4,7 @@ mod common;
 
 use common::{reply, Fault, Faulty};
 use compare::against::{Call, Comparison, Effort, Reply, Services};
-use compare::campaign::{compare, shown_table, Found};
+use compare::campaign::{compare, shown_table, Found, Report};
 use compare::generate::random::Random;
 use compare::rows::{Row, ROW_BYTES};
 use compare::services::{check, spell_entry, write_sequent};

@@ -4,7 +4,7 @@ mod common;
 
 use common::{has, reply, Fault, Faulty, OPERATORS};
 use compare::against::{Call, Comparison, Effort, Reply, Services};
-use compare::campaign::compare_list;
+use compare::campaign::{compare_list, Report};
 use compare::checks::accept;
 use compare::formula::Sort::{Integer, Predicate};
 use compare::formula::*;

@@ -2,6 +2,7 @@
 
 mod common;
 
+use common::machine::{EVENTS, FORMULAS, IDENTIFIERS};
 use common::prefix::{laid_out, Named};
 use common::{refusal, rows, table, L};
 use compare::checks::{Refusal, FRAME, MISSING, USE};
@@ -10,63 +11,20 @@ use compare::replay::{NOT_A_RUN, OUTSIDE, UNDEFINED};
 use compare::rows::{bytes_of, ROW_BYTES};
 use std::mem::{align_of, offset_of, size_of};
 
-/// Constants c, k (boolean); parameters p of add, q (boolean) of set, y of mix; variables v, w, and s (boolean, shared). The
-/// abstract machine has a, b (boolean) and a parameter.
-const IDENTIFIERS: [[i32; 3]; 11] = [
-    [1, 1, 0], // 1 c
-    [5, 1, 4], // 2 p
-    [3, 1, 0], // 3 v
-    [6, 2, 0], // 4 s
-    [2, 1, 0], // 5 a
-    [1, 2, 0], // 6 k
-    [4, 2, 2], // 7 abstract
-    [5, 2, 6], // 8 q
-    [3, 1, 0], // 9 w
-    [2, 2, 0], // 10 b
-    [5, 1, 8], // 11 y
-];
+/// Identifiers 10 b, an abstract boolean variable, and 11 y, a parameter of mix.
+const MORE_IDENTIFIERS: [[i32; 3]; 2] = [[2, 2, 0], [5, 1, 8]];
 
-/// The concrete ones are 3 the initialisation, 4 add, 5 flip (convergent), 6 set (anticipated), 7 idle, 8 mix.
-const EVENTS: [[i32; 3]; 8] = [
-    [1, 0, 0],
-    [1, 1, 0],
-    [2, 0, 0],
-    [2, 1, 2],
-    [2, 2, 0],
-    [2, 3, 0],
-    [2, 1, 2],
-    [2, 3, 0],
-];
+/// Event 8.
+const MIX_EVENT: [i32; 3] = [2, 3, 0];
 
-const FORMULAS: [Named; 31] = [
-    (30, 0, 0, "< 0 i1"),                 // 0 < c
-    (30, 0, 0, "= i6 TRUE"),              // k = TRUE
-    (31, 0, 0, "= / 1 0 1"),              // never read
-    (32, 0, 0, "false"),                  // never read
-    (50, 2, 0, "= / 1 0 1"),              // never read
-    (50, 4, 0, "< 0 i2"),                 // add: 0 < p
-    (50, 4, 0, "<= + i3 i2 i1"),          // add: v + p ≤ c
-    (50, 5, 0, "< 0 i3"),                 // flip: 0 < v
-    (51, 1, 5, "0"),                      //
-    (51, 1, 4, "FALSE"),                  //
-    (51, 1, 10, "FALSE"),                 //
-    (51, 2, 5, "/ 1 0"),                  // never read
-    (51, 3, 3, "0"),                      //
-    (51, 3, 4, "FALSE"),                  //
-    (51, 4, 3, "+ i3 i2"),                // add: v := v + p
-    (51, 6, 4, "i8"),                     // set: s := q
-    (51, 8, 9, "+ i3 i11"),               // mix: w := v + y
-    (52, 3, 9, "<= 0 i9'"),               //
-    (52, 5, 4, "= i4' bool = i4 FALSE"),  // flip: s :| s' = bool(s = FALSE)
-    (52, 6, 9, "and <= i3 i9' < i9' i9"), // set: w :| v ≤ w' ∧ w' < w
-    (52, 8, 3, "< i3 i3'"),               // mix: v :| v < v'
-    (60, 3, 5, "true"),
+const MORE_FORMULAS: [Named; 10] = [
+    (50, 2, 0, "= / 1 0 1"), // never read
+    (51, 1, 10, "FALSE"),    //
+    (51, 2, 5, "/ 1 0"),     // never read
+    (51, 8, 9, "+ i3 i11"),  // mix: w := v + y
+    (52, 8, 3, "< i3 i3'"),  // mix: v :| v < v'
     (60, 3, 10, "true"),
-    (60, 4, 5, "true"),
-    (60, 4, 7, "true"),
     (60, 4, 10, "true"),
-    (60, 7, 5, "true"),
-    (60, 7, 7, "true"),
     (60, 7, 10, "true"),
     (52, 4, 9, "< i9 i9'"), // add: w :| w < w'
     (70, 0, 0, "/ 1 0"),    // never read
@@ -81,11 +39,17 @@ const SET: &str = "90 6 0 0; 91 8 1 0; 91 9 6 0";
 const IDLE: &str = "90 7 0 0";
 const MIX: &str = "90 8 0 0; 91 3 3 0; 91 11 10 0";
 
+fn identifiers() -> Vec<[i32; 3]> {
+    [&IDENTIFIERS[..], &MORE_IDENTIFIERS].concat()
+}
+
 /// The machine with more formulas before its own.
 fn machine_with(more: &[Named]) -> Vec<u8> {
     let mut formulas = more.to_vec();
     formulas.extend(FORMULAS);
-    laid_out(&IDENTIFIERS, &EVENTS, &formulas)
+    formulas.extend(MORE_FORMULAS);
+    let events = [&EVENTS[..], &[MIX_EVENT]].concat();
+    laid_out(&identifiers(), &events, &formulas)
 }
 
 fn machine() -> Vec<u8> {
@@ -103,7 +67,7 @@ fn records(identifiers: &[[i32; 3]], values: &[i64]) -> Vec<Record> {
 }
 
 fn state() -> Vec<Record> {
-    records(&IDENTIFIERS, &VALUES)
+    records(&identifiers(), &VALUES)
 }
 
 /// The state with other values of these identifiers.
@@ -245,8 +209,8 @@ fn a_list_of_another_length_is_refused() {
 /// Those of constants, parameters and abstract variables too, whatever the event.
 #[test]
 fn every_record_has_its_identifiers_type() {
-    for place in 0..IDENTIFIERS.len() {
-        let right = IDENTIFIERS[place][1] as u64;
+    for (place, one) in identifiers().iter().enumerate() {
+        let right = one[1] as u64;
         for type_number in [0, 1, 2, 3, 257, (1 << 32) + right, 1 << 63, u64::MAX] {
             let mut list = with(&[(place + 1, 1)]);
             list[place].type_number = type_number;
@@ -261,7 +225,7 @@ fn every_record_has_its_identifiers_type() {
 
 #[test]
 fn every_boolean_record_holds_0_or_1() {
-    for (place, one) in IDENTIFIERS.iter().enumerate() {
+    for (place, one) in identifiers().iter().enumerate() {
         for value in [
             -1,
             0,

@@ -2,21 +2,18 @@
 
 mod common;
 
+use common::faults::{assert_all_found, assert_same, assert_shown, assert_small, found, GATE};
 use common::plain_press::{Mistake, Plain};
 use common::plain_replay::Mistake as Term;
+use compare::batches::{compare, compare_list};
+use compare::campaign::Report;
 use compare::press::Record;
-use compare::presses::{
-    compare, compare_list, first_batch, lent, within, Call, Found, Prepared, MARGIN,
-};
-use compare::rows::ROW_BYTES;
+use compare::presses::{first_batch, lent, within, Call, Found, Prepared, Presses, MARGIN};
 use compare::states::batch::{batch, CASES};
 use compare::states::family::whole_family;
 use std::sync::LazyLock;
 
-/// So many presses are compared in the gate.
-const GATE: u64 = 20_000;
-
-/// All of them.
+/// All presses of the gate.
 static BATCHES: LazyLock<Vec<Prepared>> = LazyLock::new(|| {
     let numbers = 0..GATE / CASES as u64;
     numbers.map(|number| Prepared::new(batch(number))).collect()
@@ -148,11 +145,10 @@ fn no_mistake_is_no_difference() {
 #[test]
 fn as_many_presses_are_compared_as_are_asked_for() {
     let count = 4 * CASES as u64 + 7;
-    let compared = compare(&Plain(Mistake::None), 40, count, 1, false);
-    let (summary, found) = compared.expect("no panic");
-    assert!(found.is_none());
+    let plain: &dyn Presses = &Plain(Mistake::None);
+    let summary = assert_same(compare(plain, 40, count, 1, false));
     assert_eq!((summary.tables, summary.presses), (5, count));
-    assert_eq!(summary.replies.values().sum::<u64>(), count);
+    assert_eq!(summary.replies.0.values().sum::<u64>(), count);
     let report = summary.report();
     assert!(
         report.starts_with("5 tables, 107 presses, each with a preview\nperformed "),
@@ -162,41 +158,24 @@ fn as_many_presses_are_compared_as_are_asked_for() {
 
 #[test]
 fn no_mistake_is_no_difference_in_the_family() {
-    let compared = compare_list(&Plain(Mistake::None), &whole_family(), 1);
-    let (_, found) = compared.expect("no panic");
-    assert!(
-        found.is_none(),
-        "{}",
-        found.map_or(String::new(), |one| one.report())
-    );
+    let plain: &dyn Presses = &Plain(Mistake::None);
+    assert_same(compare_list(plain, &whole_family(), 1));
 }
 
 /// Each is found by the generated presses alone, within those of the gate.
 #[test]
 fn every_mistake_is_found() {
     let terms = TERMS.iter().map(|&one| Mistake::Term(one));
-    let mut missed = Vec::new();
-    for mistake in MISTAKES.iter().copied().chain(terms) {
-        match first_batch(&Plain(mistake), &BATCHES) {
-            Some(number) => println!("{mistake:?}: batch {number}"),
-            None => missed.push(mistake),
-        }
-    }
-    assert!(missed.is_empty(), "{missed:?}");
-}
-
-/// The difference that a mistake makes, on the smallest table and press found.
-fn found(mistake: Mistake) -> Found {
-    let compared = compare(&Plain(mistake), 0, GATE, 1, false);
-    let (_, found) = compared.expect("no panic");
-    found.expect("found")
+    assert_all_found(MISTAKES.iter().copied().chain(terms), |mistake| {
+        first_batch(&Plain(mistake), &BATCHES)
+    });
 }
 
 /// What is shown, at most so many rows of table and step.
-fn assert_small(mistake: Mistake, table: usize, step: usize) -> Found {
-    let found = found(mistake);
-    let small = found.table.len() <= table * ROW_BYTES && found.case.step.len() <= step * ROW_BYTES;
-    assert!(small, "{}", found.report());
+fn small(mistake: Mistake, table: usize, step: usize) -> Found {
+    let found = found::<dyn Presses>(&Plain(mistake));
+    assert_small(&found, &found.table, table);
+    assert_small(&found, &found.case.step, step);
     found
 }
 
@@ -211,7 +190,7 @@ fn differences_are_shown_on_small_tables_and_steps() {
         Mistake::SecondTypesUnwritten,
         Mistake::Term(Term::Wraps),
     ] {
-        let found = assert_small(mistake, 20, 4);
+        let found = small(mistake, 20, 4);
         let records = found.case.state.expect("always there");
         assert!(records.len() <= 5, "{mistake:?}: {records:?}");
     }
@@ -220,35 +199,28 @@ fn differences_are_shown_on_small_tables_and_steps() {
 /// Nothing but a row too many is needed.
 #[test]
 fn a_difference_is_shown_with_its_table_step_and_lists_as_text() {
-    let found = assert_small(Mistake::RowAfterAccepted, 7, 2);
-    let report = found.report();
-    assert!(report.starts_with("DIFFERENCE at batch "), "{report}");
-    assert!(
-        report.contains("\nexpected 18, value 0\ngot      0, value 0\n"),
-        "{report}"
-    );
-    assert!(report.contains("\nits step, 76 bytes:\n90 "), "{report}");
-    assert!(
-        report.contains("\nthe second list before, 0 of them:\n"),
-        "{report}"
-    );
+    let found = small(Mistake::RowAfterAccepted, 7, 2);
+    let words = [
+        "\nexpected 18, value 0\ngot      0, value 0\n",
+        "\nits step, 76 bytes:\n90 ",
+        "\nthe second list before, 0 of them:\n",
+    ];
+    assert_shown(&found, &words);
 }
 
 /// A record that differs is shown, counted from 1; before the list is 0.
 #[test]
 fn a_record_that_differs_is_shown() {
-    let found = found(Mistake::BeforeTheStart);
+    let found = found::<dyn Presses>(&Plain(Mistake::BeforeTheStart));
     assert_eq!(found.difference.call, Call::Press);
-    let report = found.report();
     let words = "\nthe first list differs first at record 0\nexpected ";
-    assert!(report.contains(words), "{report}");
-    assert!(report.contains("\ngot      0 0\n"), "{report}");
+    assert_shown(&found, &[words, "\ngot      0 0\n"]);
 }
 
 /// A table that is refused stays one that is refused.
 #[test]
 fn a_difference_on_a_refused_table_is_shown_on_one() {
-    let found = assert_small(Mistake::ListBeforeTable, 2, 0);
+    let found = small(Mistake::ListBeforeTable, 2, 0);
     assert!((1..=12).contains(&found.difference.expected.reply.number));
     assert_eq!(found.difference.got.reply.number, 18);
 }

@@ -2,14 +2,12 @@
 
 mod common;
 
+use common::faults::{assert_all_found, assert_same, assert_shown, assert_small, found, GATE};
 use common::plain_replay::{Mistake, Plain};
-use compare::replays::{compare, compare_list, first_batch, shown_log, Found};
-use compare::rows::ROW_BYTES;
+use compare::batches::{compare, compare_list};
+use compare::replays::{first_batch, shown_log, Found, Replays};
 use compare::runs::batch::LOGS;
 use compare::runs::family::whole_family;
-
-/// So many logs are compared in the gate.
-const GATE: u64 = 20_000;
 
 const MISTAKES: &[Mistake] = &[
     Mistake::NoAxioms,
@@ -86,47 +84,25 @@ const MISTAKES: &[Mistake] = &[
 
 #[test]
 fn no_mistake_is_no_difference() {
-    let plain = Plain(Mistake::None);
-    let (summary, found) = compare(&plain, 0, GATE, 1, false).expect("no panic");
-    assert!(
-        found.is_none(),
-        "{}",
-        found.map_or(String::new(), |one| one.report())
-    );
+    let plain: &dyn Replays = &Plain(Mistake::None);
+    let summary = assert_same(compare(plain, 0, GATE, 1, false));
     assert_eq!(summary.logs, GATE);
-    let (_, found) = compare_list(&plain, &whole_family(), 1).expect("no panic");
-    assert!(
-        found.is_none(),
-        "{}",
-        found.map_or(String::new(), |one| one.report())
-    );
+    assert_same(compare_list(plain, &whole_family(), 1));
 }
 
 /// Each is found by the generated logs alone, within those of the gate.
 #[test]
 fn every_mistake_is_found() {
-    let mut missed = Vec::new();
-    for &mistake in MISTAKES {
-        match first_batch(&Plain(mistake), GATE / LOGS as u64) {
-            Some(number) => println!("{mistake:?}: batch {number}"),
-            None => missed.push(mistake),
-        }
-    }
-    assert!(missed.is_empty(), "{missed:?}");
-}
-
-/// The difference that a mistake makes, on the smallest table and log found.
-fn found(mistake: Mistake) -> Found {
-    let compared = compare(&Plain(mistake), 0, GATE, 1, false);
-    let (_, found) = compared.expect("no panic");
-    found.expect("found")
+    assert_all_found(MISTAKES.iter().copied(), |mistake| {
+        first_batch(&Plain(mistake), GATE / LOGS as u64)
+    });
 }
 
 /// What is shown, at most so many rows of table and log.
-fn assert_small(mistake: Mistake, table: usize, log: usize) -> Found {
-    let found = found(mistake);
-    let small = found.table.len() <= table * ROW_BYTES && found.log.len() <= log * ROW_BYTES;
-    assert!(small, "{}", found.report());
+fn small(mistake: Mistake, table: usize, log: usize) -> Found {
+    let found = found::<dyn Replays>(&Plain(mistake));
+    assert_small(&found, &found.table, table);
+    assert_small(&found, &found.log, log);
     found
 }
 
@@ -142,27 +118,22 @@ fn differences_are_shown_on_small_tables_and_logs() {
         Mistake::EquivalentReadsBoth,
         Mistake::NoSecondGuard,
     ] {
-        assert_small(mistake, 30, 12);
+        small(mistake, 30, 12);
     }
 }
 
 /// Two rows and a byte: the step isn't allowed, but what follows is looked at first.
 #[test]
 fn a_difference_is_shown_with_its_table_and_log_as_text() {
-    let found = assert_small(Mistake::NextRowsFirst, 8, 3);
-    let report = found.report();
-    assert!(report.starts_with("DIFFERENCE at batch "), "{report}");
-    assert!(
-        report.contains("\nexpected 18, value 1\ngot      18, value "),
-        "{report}"
-    );
-    assert!(report.contains("\nits log, "), "{report}");
+    let found = small(Mistake::NextRowsFirst, 8, 3);
+    let replies = "\nexpected 18, value 1\ngot      18, value ";
+    assert_shown(&found, &[replies, "\nits log, "]);
 }
 
 /// A table that is refused stays one that is refused.
 #[test]
 fn a_difference_on_a_refused_table_is_shown_on_one() {
-    let found = assert_small(Mistake::LogFirst, 2, 0);
+    let found = small(Mistake::LogFirst, 2, 0);
     assert!((1..=12).contains(&found.expected.number));
     assert_eq!(found.got.number, 18);
 }

@@ -30,7 +30,7 @@ const WILD_STARTS: usize = 4;
 /// Initialisations of which the best is taken.
 const STARTS: usize = 3;
 
-pub const MODELS: [&str; 4] = [
+const MODELS: [&str; 4] = [
     include_str!("../../../models/L.txt"),
     include_str!("../../../models/counter.txt"),
     include_str!("../../../models/placing_head.txt"),
@@ -42,17 +42,25 @@ pub const MODELS: [&str; 4] = [
 pub fn batch(number: u64) -> Batch {
     let mut random = Random::new(number ^ 0x5EED_0F10);
     let table = match number % 40 {
-        slot @ (0 | 1) => {
-            // All refusals in turn: the first slots of a round of seeds.
-            let turn = (number / 40 * 2 + slot) % 27;
-            generate::table(generate::ROUND * number + turn)
-        }
-        2 => bytes_of(&layout(random.pick(&MODELS)).expect("a model")),
+        0 | 1 => refused_in_turn(number),
+        2 => model(&mut random),
         3..=8 => bytes_of(&accepted_draft(&mut random).rows(&mut random)),
         9 => bytes_of(&large(&mut random).rows(&mut random)),
         _ => bytes_of(&replayed(&mut random).rows(&mut random)),
     };
     batch_of(table, &mut random)
+}
+
+/// A table that may be refused, for the first two of forty numbers: all refusals in turn, by the first slots of a round of
+/// seeds.
+pub fn refused_in_turn(number: u64) -> Vec<u8> {
+    let turn = (number / 40 * 2 + number % 40) % 27;
+    generate::table(generate::ROUND * number + turn)
+}
+
+/// The table of any of the models.
+pub fn model(random: &mut Random) -> Vec<u8> {
+    bytes_of(&layout(random.pick(&MODELS)).expect("a model"))
 }
 
 /// The table with logs for it.

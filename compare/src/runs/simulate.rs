@@ -197,8 +197,13 @@ impl<'a> Simulator<'a> {
 
 /// The rows of a step with these values.
 pub fn rows_of(step: &Step, state: &State) -> Vec<Row> {
+    rows_with(step, &step.logged, state)
+}
+
+/// The row 90 of a step, and rows 91 of these identifiers with their values.
+pub fn rows_with(step: &Step, identifiers: &[Logged], state: &State) -> Vec<Row> {
     let mut rows = vec![Row::new(90, step.event, 0, 0)];
-    for one in &step.logged {
+    for one in identifiers {
         let values = if one.variable {
             &state.after
         } else {

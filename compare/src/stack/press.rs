@@ -1,45 +1,22 @@
 //! Measures the stack that press and preview use: with the deepest formulas, at the limits, and with generated presses.
 
-use super::{measure_press, STACK};
-use crate::generate::plan::{extreme, EXTREMES};
-use crate::generate::random::Random;
+use super::batches::groups;
+use super::{judged, measure_press};
 use crate::presses::Presses;
-use crate::rows::bytes_of;
 use crate::states::batch::{batch, batch_of, Batch};
 use crate::states::family::deep_family;
 
-/// So many generated batches are measured.
-const BATCHES: u64 = 400;
-
 /// A line for each group of tables. An error if less is stated than the largest use and a third more.
 pub fn report(presses: &dyn Presses) -> Result<String, String> {
-    let groups: [(&str, Vec<Batch>); 3] = [
-        ("deepest formulas", deep_family()),
-        (
-            "tables at the limits",
-            (0..EXTREMES).map(at_limits).collect(),
-        ),
-        ("generated", (0..BATCHES).map(batch).collect()),
-    ];
     let mut text = "bytes of stack                 presses  press preview\n".to_string();
     let mut largest = 0;
-    for (name, batches) in groups {
+    for (name, batches) in groups(deep_family(), batch_of, batch) {
         let count: usize = batches.iter().map(|batch| batch.cases.len()).sum();
         let [press, preview] = most(presses, &batches);
         text += &format!("{name:<30} {count:>7} {press:>6} {preview:>7}\n");
         largest = largest.max(press).max(preview);
     }
-    text += &format!("largest of all {largest}, stated {STACK}\n");
-    if largest + largest / 3 > STACK {
-        return Err(text + "less is stated than the largest and a third more");
-    }
-    Ok(text)
-}
-
-fn at_limits(number: usize) -> Batch {
-    let mut random = Random::new(number as u64);
-    let draft = extreme(number, &mut random);
-    batch_of(bytes_of(&draft.rows(&mut random)), &mut random)
+    judged(text, largest)
 }
 
 /// The largest use by a press and by a preview. Presses one after another are made on one list.

@@ -1,7 +1,7 @@
 //! Measures the stack that each service uses on the tables at the limits.
 
 use super::tables::{groups, Group};
-use super::{measure, STACK};
+use super::{judged, measure};
 use crate::against::{Call, Services};
 use crate::checks::accept;
 use crate::rows::ROW_BYTES;
@@ -45,11 +45,7 @@ pub fn report(services: &dyn Services) -> Result<String, String> {
     others.retain(|one| one.bytes > one.check + OWN);
     text += &list("largest: check", checks);
     text += &list("largest: where check of the same table uses less", others);
-    text += &format!("\nlargest of all {largest}, stated {STACK}\n");
-    if largest + largest / 3 > STACK {
-        return Err(text + "less is stated than the largest and a third more");
-    }
-    Ok(text)
+    judged(text + "\n", largest)
 }
 
 fn line<T: Display>(name: &str, cells: [T; 5]) -> String {

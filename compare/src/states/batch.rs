@@ -5,12 +5,11 @@ use super::maker::{Maker, WANTED};
 use super::tables::{full, pressed};
 use super::values::second_list;
 use crate::checks::accept;
-use crate::generate;
 use crate::generate::accepted_draft;
 use crate::generate::random::Random;
 use crate::press::{Panel, Record};
-use crate::rows::{bytes_of, layout};
-use crate::runs::batch::MODELS;
+use crate::rows::bytes_of;
+use crate::runs::batch::{model, refused_in_turn};
 use crate::table::Table;
 
 /// A step to press and to preview.
@@ -42,12 +41,8 @@ const SEARCHED: usize = 10;
 pub fn batch(number: u64) -> Batch {
     let mut random = Random::new(number ^ 0x9E55_0F10);
     let table = match number % 40 {
-        slot @ (0 | 1) => {
-            // All refusals in turn: the first slots of a round of seeds.
-            let turn = (number / 40 * 2 + slot) % 27;
-            generate::table(generate::ROUND * number + turn)
-        }
-        2 => bytes_of(&layout(random.pick(&MODELS)).expect("a model")),
+        0 | 1 => refused_in_turn(number),
+        2 => model(&mut random),
         3..=5 => bytes_of(&accepted_draft(&mut random).rows(&mut random)),
         6 => bytes_of(&full(&mut random).rows(&mut random)),
         _ => bytes_of(&pressed(&mut random).rows(&mut random)),

@@ -6,7 +6,8 @@ use crate::press::{given, Panel, Record};
 use crate::replay::log::Log;
 use crate::replay::machine::Step;
 use crate::replay::term::State;
-use crate::rows::{bytes_of, Row};
+use crate::rows::bytes_of;
+use crate::runs::simulate::rows_with;
 use crate::table::Table;
 
 /// A log's initialisation as a list of records, then its steps.
@@ -39,7 +40,7 @@ pub fn reduced(table: &Table, panel: &Panel, log: &[u8], random: &mut Random) ->
         steps: vec![],
     };
     while let Ok(step) = panel.machine.read(&mut log, false, &mut state) {
-        let rows = given_rows(step, &state);
+        let rows = rows_with(step, &given(step), &state);
         settle(step, &mut state, &mut list);
         reduced.steps.push(Pressed {
             step: bytes_of(&rows),
@@ -54,18 +55,4 @@ fn settle(step: &Step, state: &mut State, list: &mut [Record]) {
     for &(place, _) in &step.variables {
         list[place].value = state.now[place];
     }
-}
-
-/// The rows of a step to press, with these values.
-fn given_rows(step: &Step, state: &State) -> Vec<Row> {
-    let mut rows = vec![Row::new(90, step.event, 0, 0)];
-    for one in given(step) {
-        let values = if one.variable {
-            &state.after
-        } else {
-            &state.now
-        };
-        rows.push(Row::new(91, one.number, values[one.place()] as i32, 0));
-    }
-    rows
 }

@@ -1,7 +1,7 @@
 //! What the presses of many batches give, and what those that are performed do.
 
-use super::replays::features;
-use crate::checks::{accept, Refusal};
+use super::count;
+use super::replays::accepted;
 use crate::press::{Cause, Panel, Record};
 use crate::replay;
 use crate::replay::machine::Change;
@@ -36,19 +36,13 @@ impl Presses {
 
     pub fn add(&mut self, Batch { table, cases }: &Batch) {
         self.presses += cases.len();
-        match accept(table) {
-            Ok(read) => self.add_cases(&read, cases),
-            Err(Refusal { number, .. }) => {
-                let word = format!("table {number:>2}");
-                *self.answers.entry(word).or_default() += cases.len();
-            }
+        let read = accepted(table, cases.len(), &mut self.tables, &mut self.answers);
+        if let Some(table) = read {
+            self.add_cases(&table, cases);
         }
     }
 
     fn add_cases(&mut self, table: &Table, cases: &[Case]) {
-        for word in features(table) {
-            *self.tables.entry(word).or_default() += 1;
-        }
         let panel = Panel::of(table);
         let mut now = Vec::new();
         for case in cases {
@@ -67,7 +61,7 @@ impl Presses {
                 }
                 Err(cause) => format!("{} {}", cause.number(), words(table, cause, &before)),
             };
-            *self.answers.entry(word).or_default() += 1;
+            count(&mut self.answers, word);
         }
     }
 
@@ -100,7 +94,7 @@ impl Presses {
             ),
         ];
         for (word, _) in words.iter().filter(|one| one.1) {
-            *self.performed.entry(word).or_default() += 1;
+            count(&mut self.performed, *word);
         }
     }
 

@@ -1,5 +1,6 @@
 //! What the batches of many numbers contain, and what their logs give.
 
+use super::count;
 use super::terms::Terms;
 use crate::checks::{accept, Refusal};
 use crate::replay::machine::Machine;
@@ -32,19 +33,13 @@ impl Replays {
 
     pub fn add(&mut self, Batch { table, logs }: &Batch) {
         self.pairs += logs.len();
-        match accept(table) {
-            Ok(read) => self.add_logs(&read, logs),
-            Err(Refusal { number, .. }) => {
-                let word = format!("table {number:>2}");
-                *self.answers.entry(word).or_default() += logs.len();
-            }
+        let read = accepted(table, logs.len(), &mut self.tables, &mut self.answers);
+        if let Some(table) = read {
+            self.add_logs(&table, logs);
         }
     }
 
     fn add_logs(&mut self, table: &Table, logs: &[Vec<u8>]) {
-        for word in features(table) {
-            *self.tables.entry(word).or_default() += 1;
-        }
         let machine = Machine::of(table);
         for log in logs {
             let answer = machine.replay(log);
@@ -56,7 +51,7 @@ impl Replays {
                 Ok(steps) => success(steps).to_string(),
                 Err(stop) => format!("{} {}", stop.cause.number(), cause(stop.cause, first)),
             };
-            *self.answers.entry(word).or_default() += 1;
+            count(&mut self.answers, word);
         }
     }
 
@@ -96,8 +91,30 @@ fn cause(cause: Cause, first: bool) -> String {
     }
 }
 
+/// The table, if it is accepted, with what it has counted; else its refusal is counted for each of so many calls.
+pub fn accepted(
+    bytes: &[u8],
+    calls: usize,
+    tables: &mut BTreeMap<&'static str, usize>,
+    answers: &mut BTreeMap<String, usize>,
+) -> Option<Table> {
+    match accept(bytes) {
+        Ok(table) => {
+            for word in features(&table) {
+                count(tables, word);
+            }
+            Some(table)
+        }
+        Err(Refusal { number, .. }) => {
+            let word = format!("table {number:>2}");
+            *answers.entry(word).or_default() += calls;
+            None
+        }
+    }
+}
+
 /// What a table has that a log depends on.
-pub fn features(table: &Table) -> Vec<&'static str> {
+fn features(table: &Table) -> Vec<&'static str> {
     let kind = |kind| table.identifiers.iter().filter(move |one| one.kind == kind);
     let none = |wanted| kind(wanted).next().is_none();
     let class = |class| table.events.iter().any(|event| event.class == class);

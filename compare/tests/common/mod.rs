@@ -1,6 +1,8 @@
 //! Tables that several tests share.
 #![allow(dead_code)]
 
+pub mod faults;
+pub mod machine;
 pub mod plain_press;
 pub mod plain_replay;
 pub mod prefix;
