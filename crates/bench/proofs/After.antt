@@ -29,11 +29,6 @@ module _ (t : Rows) (e : ℕ) where
   with-size : (vs : Values) (y : ℕ) → Sized vs → Sized (with vs y)
   with-size vs y s = record { present = s .present; after = length-set (vs .after) y (afterBy t vs y (machineOf t .action e y)) ∙ s .after }
 
-  pub complete-size : (xs : List ℕ) (vs : Values) → Sized vs → Sized (complete t e xs vs)
-  unfolding complete
-  complete-size [] vs s = s
-  complete-size (y ∷ ys) vs s = complete-size ys (with vs y) (with-size vs y s)
-
   complete-kept : (xs : List ℕ) (vs : Values) (x : ℕ) → (In x xs → ⊥) → getD (complete t e xs vs .after) x (pos 0) ≡ getD (vs .after) x (pos 0)
   unfolding complete
   complete-kept [] vs x out = refl

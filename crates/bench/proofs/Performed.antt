@@ -109,10 +109,7 @@ module _ (t : Rows) where
       afterValues = afters;
     }
 
-    -- the values at hand, taken as they are
-    abbrev pub parametersRead : State machine
-    parametersRead = stored (machine .type) (ws .present)
-
+    -- the after values, taken as they are
     abbrev pub stateMade : State machine
     stateMade = stored (machine .type) us
 

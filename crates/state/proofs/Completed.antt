@@ -16,7 +16,8 @@ use Rattle.machine.proofs.Described.{action-by-row}
 use Rattle.log.specs.Rows.{isStateVariable}
 use Rattle.log.specs.Replay.{Values}
 use Rattle.values.specs.Values.{valuesOf}
-use Rattle.values.proofs.Behind.{behind, behind-all, behind-next, behind-none}
+use Rattle.values.proofs.Behind.{behind-all, behind-next, behind-none}
+use Rattle.values.proofs.Moving.{variablesFrom}
 use Rattle.bench.specs.Press.{answered, afterBy, complete, completed}
 
 module _ (t : Rows) (e : ℕ) (vs : Values) (x i : ℕ) (found : i ≡ first (sets t e x) (t .size) 0) where
@@ -33,27 +34,23 @@ module _ (t : Rows) (e : ℕ) (vs : Values) (x i : ℕ) (found : i ≡ first (se
   such-after h k = sym (ap (afterBy t vs x) (action-by-row t e x i found true false (lt-ltb i (t .size) h) (ne-eqb (t .tag i) 51 k)))
 
 module _ (t : Rows) (e : ℕ) where
-  -- the variables behind x
-  abbrev pub variablesFrom : ℕ → List ℕ
-  variablesFrom x = behind (isStateVariable t) (count t 10) x
-
-  pub complete-start : (vs : Values) → complete t e (variablesFrom 0) vs ≡ completed t e vs
+  pub complete-start : (vs : Values) → complete t e (variablesFrom t 0) vs ≡ completed t e vs
   unfolding machineOf variablesOf
   complete-start vs = ap (λ xs. complete t e xs vs) (behind-all (isStateVariable t) (count t 10))
 
   pub complete-next : (x : ℕ) → x < count t 10 → (present after next : List ℤ)
       → next ≡ pick (isStateVariable t (x + 1)) (set after (x + 1) (afterBy t (valuesOf present after) (x + 1) (machineOf t .action e (x + 1)))) after
-      → complete t e (variablesFrom (x + 1)) (valuesOf present next) ≡ complete t e (variablesFrom x) (valuesOf present after)
+      → complete t e (variablesFrom t (x + 1)) (valuesOf present next) ≡ complete t e (variablesFrom t x) (valuesOf present after)
   unfolding complete
   complete-next x h present after next q =
-      ap (λ a. complete t e (variablesFrom (x + 1)) (valuesOf present a)) q ∙ go (isStateVariable t (x + 1))
+      ap (λ a. complete t e (variablesFrom t (x + 1)) (valuesOf present a)) q ∙ go (isStateVariable t (x + 1))
       ∙ sym (ap (λ xs. complete t e xs (valuesOf present after)) (behind-next (isStateVariable t) (count t 10) x h))
     where
-      go : (b : Bool) → complete t e (variablesFrom (x + 1)) (valuesOf present (pick b (set after (x + 1) (afterBy t (valuesOf present after) (x + 1) (machineOf t .action e (x + 1)))) after))
-          ≡ complete t e (pick b ((x + 1) ∷ variablesFrom (x + 1)) (variablesFrom (x + 1))) (valuesOf present after)
+      go : (b : Bool) → complete t e (variablesFrom t (x + 1)) (valuesOf present (pick b (set after (x + 1) (afterBy t (valuesOf present after) (x + 1) (machineOf t .action e (x + 1)))) after))
+          ≡ complete t e (pick b ((x + 1) ∷ variablesFrom t (x + 1)) (variablesFrom t (x + 1))) (valuesOf present after)
       go true = refl
       go false = refl
 
-  pub complete-end : (x : ℕ) → count t 10 ≤ x → (vs : Values) → vs ≡ complete t e (variablesFrom x) vs
+  pub complete-end : (x : ℕ) → count t 10 ≤ x → (vs : Values) → vs ≡ complete t e (variablesFrom t x) vs
   unfolding complete
   complete-end x h vs = sym (ap (λ xs. complete t e xs vs) (behind-none (isStateVariable t) (count t 10) x h))

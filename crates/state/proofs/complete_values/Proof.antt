@@ -7,15 +7,16 @@ use borrow.Author.Needs.{needs}
 use Rattle.table.specs.Rows.{rowsOf}
 use Rattle.table.proofs.Counts.{counts-identifiers}
 use Rattle.values.specs.Values.{valuesOf}
+use Rattle.values.proofs.Moving.{variablesFrom}
 use Rattle.bench.specs.Press.{complete, completed}
-use Rattle.state.proofs.Completed.{variablesFrom, complete-start, complete-next, complete-end}
+use Rattle.state.proofs.Completed.{complete-start, complete-next, complete-end}
 use Rattle.state.proofs.complete_values.Statement.{statement}
 use Rattle.state.proofs.complete_values.Tie as tie
 
 abbrev Inv-loop : tie.InvT-loop
 Inv-loop words table spans e present after₀ x₀ after x =
     let t = rowsOf words in
-    (length after ≡ length after₀) × (complete t e (variablesFrom t e x) (valuesOf present after) ≡ completed t e (valuesOf present after₀))
+    (length after ≡ length after₀) × (complete t e (variablesFrom t x) (valuesOf present after) ≡ completed t e (valuesOf present after₀))
 
 abbrev μ-loop : tie.MeasureT-loop
 μ-loop words table spans e present after₀ x₀ after x = table .identifiers - x
