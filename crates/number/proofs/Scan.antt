@@ -2,18 +2,18 @@
 use mathlib.Core.Path.{_≡_, refl, ap, sym, _∙_}
 use mathlib.Core.List.{List, [], _∷_}
 use mathlib.Core.Bool.{Bool, true, false, true≢false, _||_}
-use Prim.Native.Nat.{ℕ, suc, _≤_, _<_, _+_, _-_, _*_}
+use Prim.Native.Nat.{ℕ, zero, suc, _≤_, _<_, _+_, _-_, _*_}
 use native.Mathlib.Numerals.{add-one}
 use native.Mathlib.Omega.{arith}
 use borrow.Author.Tests.{lt-ltb, le-ltb, ne-eqb, ltb-false}
-use lib.Dec.{ltb}
+use lib.Dec.{ltb, eqb}
 use lib.ListN.{length, drop, getD, drop-of-length-le}
 use lib.Seq.{drop-cons}
 use Rattle.lists.specs.Choice.{pick}
 use Rattle.number.specs.declared.Number.{Number}
 use Rattle.number.specs.declared.Number.the-variants.{Value, Malformed}
 use Rattle.number.specs.Number.{space, minus, digitZero, Spaces, Minus, Digits, mostOf}
-use Rattle.number.specs.Reading.{digitNine, Scan, Prefix, Wrong, wordOf, digitOf, stepOf, scanFrom, valueOf, numberOf}
+use Rattle.number.specs.Reading.{digitNine, Scan, Prefix, Wrong, wordOf, digitOf, afterSpaces, stepOf, scanFrom, valueOf, numberOf}
 
 pub most-le : (greatest : ℕ) (negative : Bool) → mostOf greatest negative ≤ greatest + 1
 most-le greatest true = omega arith
@@ -98,6 +98,38 @@ module _ (greatest : ℕ) where
 
     pub no-number : length columns ≤ i → Malformed ≡ numberOf greatest columns
     no-number h = scanned (ap valueOf (sym (scan-done (Prefix Spaces) columns i h)))
+
+  -- the last column, where all before it are spaces
+  module _ (b : ℕ) where
+    pub last-none : ltb b digitZero || ltb digitNine b ≡ true → Malformed ≡ valueOf (afterSpaces greatest b)
+    last-none t = go (eqb b space) (eqb b minus)
+      where
+        go : (x y : Bool) → Malformed ≡ valueOf (pick x (Prefix Spaces) (pick y (Prefix Minus) (digitOf greatest false 0 b)))
+        go true y = refl
+        go false true = refl
+        go false false = ap valueOf (sym (not-digit (ltb b digitZero) (ltb digitNine b) t _))
+
+    module _ (digit : ltb b digitZero || ltb digitNine b ≡ false) where
+      last-read : (x : Bool) → ltb (mostOf greatest false) (b - digitZero) ≡ x → afterSpaces greatest b ≡ pick x Wrong (Prefix (Digits false (b - digitZero)))
+      last-read x e =
+          let d = both-false (ltb b digitZero) (ltb digitNine b) digit in
+          let l = ltb-false b digitZero (d .0) in
+          let first : 0 * 10 + (b - digitZero) ≡ b - digitZero = omega arith in
+          simp (ne-eqb b space (λ q. omega (arith, l, q)), ne-eqb b minus (λ q. omega (arith, l, q)), d .0, d .1, first, e)
+
+      pub last-over : greatest < b - digitZero → Malformed ≡ valueOf (afterSpaces greatest b)
+      last-over l = ap valueOf (sym (last-read true (lt-ltb greatest (b - digitZero) l)))
+
+      pub last-digit : b - digitZero ≤ greatest → Value (b - digitZero) ≡ valueOf (afterSpaces greatest b)
+      last-digit l = ap Value (sym (magnitude (b - digitZero))) ∙ ap valueOf (sym (last-read false (le-ltb greatest (b - digitZero) l)))
+        where
+          magnitude : (m : ℕ) → wordOf false m ≡ m
+          magnitude zero = refl
+          magnitude (suc m) = simp (ne-eqb (suc m) 0 (omega arith))
+
+  -- the last column from at on
+  pub last-column : (columns : List ℕ) (at : ℕ) → length columns - at ≡ 1 → scanFrom greatest (Prefix Spaces) (drop at columns) ≡ afterSpaces greatest (getD columns at 0)
+  last-column columns at e = scan-next (Prefix Spaces) columns at (omega arith) ∙ scan-done (afterSpaces greatest (getD columns at 0)) columns (at + 1) (omega arith)
 
   module _ (negative : Bool) where
     -- digits after the magnitude m

@@ -6,7 +6,7 @@ ghost use Prim.Native.Nat.{_≤_, _<_, _+_, _-_, _^_};
 ghost use Rattle.lists.specs.Over.{over};
 ghost use Rattle.lists.specs.Choice.{pick};
 ghost use Rattle.number.specs.Number.{space, digitZero, Spaces, Minus, Digits, mostOf, textOf, columnsOf};
-ghost use Rattle.number.specs.Reading.{Prefix, wordOf, digitOf, scanFrom, valueOf, numberOf, BlankTo};
+ghost use Rattle.number.specs.Reading.{Prefix, wordOf, digitOf, afterSpaces, scanFrom, valueOf, numberOf, BlankTo};
 
 // ASCII.
 const SPACE: u8 = 32;
@@ -130,11 +130,9 @@ fn blank_on(columns: &[u8], at: usize) -> usize
 
 // How many of the first columns are seen to be spaces at two glances: ten, eight or none.
 fn blank_start(columns: &[u8]) -> usize
+    requires { ⌜ 8 ≤ length (now columns) ⌝ }
     ensures { λ r. ⌜ BlankTo r (now (columns .entry)) ⌝ }
 {
-    if columns.len() < 8 {
-        return 0;
-    }
     let first = (columns[0] == SPACE)
         & (columns[1] == SPACE)
         & (columns[2] == SPACE)
@@ -149,12 +147,12 @@ fn blank_start(columns: &[u8]) -> usize
     0
 }
 
-// The number that the columns hold, all of them.
-pub fn read_number(greatest: u64, columns: &[u8]) -> Number
-    requires { ⌜ greatest < 2 ^ 63 ⌝ }
+// The number that the columns hold, where those before at are spaces.
+fn read_from(greatest: u64, columns: &[u8], at: usize) -> Number
+    requires { ⌜ (greatest < 2 ^ 63) × BlankTo at (now columns) ⌝ }
     ensures { λ r. ⌜ r ≡ numberOf greatest (now (columns .entry)) ⌝ }
 {
-    let mut i = blank_start(columns);
+    let mut i = at;
     while i < columns.len() {
         if columns[i] != SPACE {
             return after_spaces(greatest, columns, i);
@@ -162,6 +160,35 @@ pub fn read_number(greatest: u64, columns: &[u8]) -> Number
         i += 1;
     }
     Number::Malformed
+}
+
+// The number that the last column holds, where all before it are spaces.
+fn read_last(greatest: u64, b: u8) -> Number
+    ensures { λ r. ⌜ r ≡ valueOf (afterSpaces greatest b) ⌝ }
+{
+    if (b < ZERO) | (NINE < b) {
+        return Number::Malformed;
+    }
+    let m = (b - ZERO) as u64;
+    if greatest < m {
+        return Number::Malformed;
+    }
+    Number::Value(m)
+}
+
+// The number that the columns hold, all of them: few columns, as a tag's, or many, of which mostly the last one alone is no space.
+pub fn read_number(greatest: u64, columns: &[u8]) -> Number
+    requires { ⌜ greatest < 2 ^ 63 ⌝ }
+    ensures { λ r. ⌜ r ≡ numberOf greatest (now (columns .entry)) ⌝ }
+{
+    if columns.len() < 8 {
+        return read_from(greatest, columns, blank_on(columns, 0));
+    }
+    let at = blank_start(columns);
+    if columns.len() - at == 1 {
+        return read_last(greatest, columns[at]);
+    }
+    read_from(greatest, columns, at)
 }
 
 // Spaces in the first columns of out, as many as width says.

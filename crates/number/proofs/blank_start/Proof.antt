@@ -15,7 +15,6 @@ blank-start-spec = tie.close (tie.spec
     (λ c. search needs)
     (λ c. search needs)
     (λ c. search needs)
-    (λ c. search needs)
-    (λ c κs. let s = c .before .before .before .before .before .before .before .before .before .before .before in eight-blank (s .args .columns .now) (omega arith) (c .if2 .taken))
+    (λ c κs. let s = c .before .before .before .before .before .before .before .before .before .before in eight-blank (s .args .columns .now) (omega arith) (c .if1 .taken))
     (λ c. search needs)
     (λ c. search needs))

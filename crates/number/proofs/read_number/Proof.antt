@@ -1,38 +1,25 @@
--- The loop's invariant: the columns from i on read as all of them do.
-use Prim.Native.Nat.{_≤_, _-_}
-use mathlib.Core.Path.{_≡_, sym, _∙_}
-use native.Mathlib.Omega.{arith}
-use lib.ListN.{length, drop}
+-- Few columns, the last column alone, or those after the spaces.
 use borrow.Author.Needs.{needs}
-use Rattle.number.specs.Number.{Spaces}
-use Rattle.number.specs.Reading.{Prefix, scanFrom}
+use native.Mathlib.Omega.{arith}
+use mathlib.Core.Path.{ap, sym, _∙_}
+use Rattle.number.specs.Reading.{valueOf}
 use Rattle.number.proofs.Leading.{blank-skipped}
-use Rattle.number.proofs.Scan.{first-space, scanned, no-number}
+use Rattle.number.proofs.Scan.{scanned, last-column}
 use Rattle.number.proofs.read_number.Statement.{statement}
 use Rattle.number.proofs.read_number.Tie as tie
 
-abbrev Inv-loop : tie.InvT-loop
-Inv-loop greatest columns i₀ i = (i ≤ length columns) × (scanFrom greatest (Prefix Spaces) (drop i columns) ≡ scanFrom greatest (Prefix Spaces) columns)
-
-abbrev μ-loop : tie.MeasureT-loop
-μ-loop greatest columns i₀ i = length columns - i
-
 pub read-number-spec : {M : Type 1} → statement M
 read-number-spec = tie.close (tie.spec
-    Inv-loop
-    μ-loop
+    (λ c κs. (omega arith, λ j l. absurd (omega (arith, l))))
     (λ c κs. search needs)
-    (λ c. let s = c .before .before in (c .blank-start .ensures .0, blank-skipped (s .args .greatest) (s .args .columns .now) (c .blank-start .result) (c .blank-start .ensures)))
+    (λ c. search needs)
+    (λ c κs. omega (arith, c .if1 .left))
+    (λ c. c .blank-start .ensures .0)
     (λ c. omega arith)
-    (λ c κs. (search needs, omega arith, c .if1 .taken))
-    (λ c. let turn = c .before .before .before .before in
-    let a = turn .before .before .before .args in
-    scanned (a .greatest) (a .columns .now) (turn .loop .i) (turn .loop .inv .1) (c .after-spaces .ensures))
-    (λ c. omega arith)
-    (λ c. omega arith)
-    (λ c. let turn = c .before .before .before in
-    let a = turn .before .before .before .args in
-    (omega arith, sym (first-space (a .greatest) (a .columns .now) (turn .loop .i) (c .before .before .loop-test .taken) (c .if1 .left)) ∙ turn .loop .inv .1))
-    (λ c. let turn = c .before in
-    let a = turn .before .before .before .args in
-    no-number (a .greatest) (a .columns .now) (turn .loop .i) (turn .loop .inv .1) (c .loop-test .left)))
+    (λ c κs. search needs)
+    (λ c. let found = c .before .before .before .blank-start in
+    let a = c .before .before .before .before .before .before .args in
+    scanned (a .greatest) (a .columns .now) (found .result) (blank-skipped (a .greatest) (a .columns .now) (found .result) (found .ensures))
+    (c .read-last .ensures ∙ ap valueOf (sym (last-column (a .greatest) (a .columns .now) (found .result) (c .before .before .if2 .taken)))))
+    (λ c κs. search needs)
+    (λ c. search needs))
