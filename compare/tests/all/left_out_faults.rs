@@ -1,8 +1,6 @@
 //! A mistake in what request 4 leaves out, or in row 84, shows on explicit tables and on generated ones.
 
-mod common;
-
-use common::{reply, table, INVARIANTS, L, PLACES, RICH};
+use crate::common::{reply, table, INVARIANTS, L, PLACES, RICH};
 use compare::against::{Comparison, Effort, Reply, Services};
 use compare::campaign::compare;
 use compare::checks::{accept, Refusal, ENTRY, ROOM, SEQUENT};

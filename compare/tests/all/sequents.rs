@@ -1,8 +1,6 @@
 //! The whole list of the rich table, and the spelling of each form.
 
-mod common;
-
-use common::{rows, table, L, RICH};
+use crate::common::{rows, table, L, RICH};
 use compare::rows::{Row, ROW_BYTES};
 use compare::sequents::{sequents, spell_out, Entry};
 use compare::services::{check, print, spell_entry, write_sequent};

@@ -1,7 +1,5 @@
 //! What must hold of every generated table.
 
-mod common;
-
 use compare::checks::accept;
 use compare::evaluate::{evaluate, NoValue, Reading, Value, Values};
 use compare::generate::random::Random;

@@ -1,8 +1,6 @@
 //! Generated logs: real runs are runs, and damage gives what it must.
 
-mod common;
-
-use common::{refusal, table, L};
+use crate::common::{refusal, table, L};
 use compare::checks::{accept, Refusal};
 use compare::generate::random::Random;
 use compare::replay::log::Logged;
@@ -19,12 +17,12 @@ use std::collections::{BTreeMap, BTreeSet};
 
 /// The models, and the concrete events of each but the initialisation.
 const MODELS: [(&str, &[i32]); 3] = [
-    (include_str!("../../models/counter.txt"), &[5, 6, 7]),
+    (include_str!("../../../models/counter.txt"), &[5, 6, 7]),
     (
-        include_str!("../../models/free_list.txt"),
+        include_str!("../../../models/free_list.txt"),
         &[5, 6, 7, 8, 9, 10, 11, 12, 13],
     ),
-    (include_str!("../../models/placing_head.txt"), &[4, 5, 6]),
+    (include_str!("../../../models/placing_head.txt"), &[4, 5, 6]),
 ];
 
 /// The events of a log, the first one too.

@@ -1,8 +1,6 @@
 //! Anticipated events (class 3): what refuses them, their sequents, form 9, and the runs that these allow.
 
-mod common;
-
-use common::{changed, refusal, rows, table, RICH};
+use crate::common::{changed, refusal, rows, table, RICH};
 use compare::checks::accept;
 use compare::evaluate::{evaluate, Reading, Value, Values};
 use compare::formula::spell;

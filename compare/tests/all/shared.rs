@@ -1,8 +1,6 @@
 //! Shared variables (kind 6): what refuses them, their sequents, form 10, and what these rule out.
 
-mod common;
-
-use common::{changed, refusal, rows, table, RICH};
+use crate::common::{changed, refusal, rows, table, RICH};
 use compare::checks::accept;
 use compare::refute::counterexample;
 use compare::rows::{bytes_of, Row};

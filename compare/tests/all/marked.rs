@@ -1,8 +1,6 @@
 //! The marked cases P1 to P10.
 
-mod common;
-
-use common::{refusal, rows, table, L};
+use crate::common::{refusal, rows, table, L};
 use compare::evaluate::{evaluate, NoValue, Reading, Value, Values};
 use compare::formula::*;
 use compare::rows::{bytes_of, Row};

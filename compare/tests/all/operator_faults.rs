@@ -1,8 +1,6 @@
 //! A mistake in the sort, the columns or the well-definedness of any one operator shows on the tables of operators.
 
-mod common;
-
-use common::{has, reply, Fault, Faulty, OPERATORS};
+use crate::common::{has, reply, Fault, Faulty, OPERATORS};
 use compare::against::{Call, Comparison, Effort, Reply, Services};
 use compare::campaign::{compare_list, Report};
 use compare::checks::accept;

@@ -1,19 +1,17 @@
 //! The examples of ../docs/GUIDE.md: every reply that stands beside typed rows is the one that is given.
 
-mod common;
-
-use common::{rows, table};
+use crate::common::{rows, table};
 use compare::rows::{bytes_of, layout, Row, ROW_BYTES};
 use compare::services::{print, refusal_row, Answers};
 
-const GUIDE: &str = include_str!("../../docs/GUIDE.md");
+const GUIDE: &str = include_str!("../../../docs/GUIDE.md");
 
 fn model(name: &str) -> &'static str {
     match name {
-        "L" => include_str!("../../models/L.txt"),
-        "counter" => include_str!("../../models/counter.txt"),
-        "placing_head" => include_str!("../../models/placing_head.txt"),
-        "free_list" => include_str!("../../models/free_list.txt"),
+        "L" => include_str!("../../../models/L.txt"),
+        "counter" => include_str!("../../../models/counter.txt"),
+        "placing_head" => include_str!("../../../models/placing_head.txt"),
+        "free_list" => include_str!("../../../models/free_list.txt"),
         _ => panic!("no model {name}"),
     }
 }

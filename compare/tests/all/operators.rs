@@ -1,8 +1,6 @@
 //! The tables of operators: they show all that is asked of them, and replies are the paper's.
 
-mod common;
-
-use common::{has, table, OPERATORS};
+use crate::common::{self, has, table, OPERATORS};
 use compare::checks::accept;
 use compare::formula::Sort::{Boolean, Integer, Predicate};
 use compare::formula::*;

@@ -1,8 +1,6 @@
 //! Commands that replay logs: a program in files, and the times.
 
-mod common;
-
-use common::plain_replay::{Mistake, Plain};
+use crate::common::plain_replay::{Mistake, Plain};
 use compare::bench::replay::report;
 use compare::program::replay::{compare, Replayer};
 use std::path::Path;

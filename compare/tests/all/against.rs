@@ -1,8 +1,6 @@
 //! The comparison finds faults that are put in on purpose, and shows them on small tables.
 
-mod common;
-
-use common::{reply, Fault, Faulty};
+use crate::common::{self, reply, Fault, Faulty};
 use compare::against::{Call, Comparison, Effort, Reply, Services};
 use compare::campaign::{compare, shown_table, Found, Report};
 use compare::generate::random::Random;

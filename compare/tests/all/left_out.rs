@@ -1,8 +1,6 @@
 //! Request 4 on explicit tables: which WD and INV are left out, row 84, and that what is left out is valid.
 
-mod common;
-
-use common::{changed, refusal, rows, table, INVARIANTS, PLACES, RICH};
+use crate::common::{self, changed, refusal, rows, table, INVARIANTS, PLACES, RICH};
 use compare::checks::accept;
 use compare::formula::{spell, Symbol, DIVIDE, IDENTIFIER, MOD};
 use compare::generate;

@@ -1,10 +1,8 @@
 //! The values of terms in a replay: at the ends of 64 bits, undefined, and which of two faults counts. Every predicate is read as
 //! an axiom, a guard, and both sorts of action, at the initialisation and later.
 
-mod common;
-
-use common::prefix::laid_out;
-use common::{refusal, table};
+use crate::common::prefix::laid_out;
+use crate::common::{refusal, table};
 use compare::checks::Refusal;
 use compare::replay::{replay, NOT_A_RUN, OUTSIDE, UNDEFINED};
 

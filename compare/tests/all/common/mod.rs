@@ -1,5 +1,4 @@
 //! Tables that several tests share.
-#![allow(dead_code)]
 
 pub mod faults;
 pub mod machine;

@@ -1,10 +1,8 @@
 //! Request 6 sentence by sentence: presses and previews whose replies are counted by hand.
 
-mod common;
-
-use common::machine::{EVENTS, FORMULAS, IDENTIFIERS};
-use common::prefix::{laid_out, Named};
-use common::{refusal, rows, table, L};
+use crate::common::machine::{EVENTS, FORMULAS, IDENTIFIERS};
+use crate::common::prefix::{laid_out, Named};
+use crate::common::{refusal, rows, table, L};
 use compare::checks::{Refusal, FRAME, MISSING, USE};
 use compare::press::{press, preview, Record};
 use compare::replay::{NOT_A_RUN, OUTSIDE, UNDEFINED};

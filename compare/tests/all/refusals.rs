@@ -1,8 +1,6 @@
 //! Every refusal with its row, met in each way that the paper names.
 
-mod common;
-
-use common::{refusal, rows, table, L, RICH};
+use crate::common::{refusal, rows, table, L, RICH};
 use compare::rows::{bytes_of, Row, ROW_BYTES};
 use compare::services::{check, print, spell_entry, write_sequent};
 

@@ -1,8 +1,6 @@
 //! The sizes that the paper wants run, and the largest answers found.
 
-mod common;
-
-use common::{refusal, table};
+use crate::common::{refusal, table};
 use compare::generate::plan::{extreme, EXTREMES};
 use compare::generate::random::Random;
 use compare::plain::may_lack_inv;

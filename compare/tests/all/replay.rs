@@ -1,10 +1,8 @@
-//! Request 5 sentence by sentence: logs whose replies are counted by hand. tests/replay_terms.rs has the values of terms.
+//! Request 5 sentence by sentence: logs whose replies are counted by hand. tests/all/replay_terms.rs has the values of terms.
 
-mod common;
-
-use common::machine::{EVENTS, FORMULAS, IDENTIFIERS};
-use common::prefix::{laid_out, Named};
-use common::{refusal, rows, table, L};
+use crate::common::machine::{EVENTS, FORMULAS, IDENTIFIERS};
+use crate::common::prefix::{laid_out, Named};
+use crate::common::{self, refusal, rows, table, L};
 use compare::checks::{Refusal, FRAME, MISSING, USE};
 use compare::replay::{replay, NOT_A_RUN, OUTSIDE, UNDEFINED};
 use compare::rows::{bytes_of, Row, ROW_BYTES};

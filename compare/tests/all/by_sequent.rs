@@ -1,8 +1,6 @@
 //! What is printed is held against the list made sequent by sequent: faults put in on purpose on either side are found.
 
-mod common;
-
-use common::{table, Fault, Faulty, L, RICH};
+use crate::common::{table, Fault, Faulty, L, RICH};
 use compare::against::{Call, Reply};
 use compare::by_sequent::{hold, hold_chosen, Difference, Fault as Found, Held};
 use compare::generate;
@@ -38,7 +36,7 @@ fn ends(table: &[u8]) -> Vec<usize> {
 
 #[test]
 fn what_is_the_same_is_accepted() {
-    for text in [L, RICH, include_str!("../../models/refused.txt")] {
+    for text in [L, RICH, include_str!("../../../models/refused.txt")] {
         let table = table(text);
         assert_eq!(held(&table, &print(&table)).difference, None);
     }

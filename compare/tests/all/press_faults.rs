@@ -1,10 +1,10 @@
 //! The comparison of presses finds mistakes that are put in on purpose, and shows them on small tables and lists.
 
-mod common;
-
-use common::faults::{assert_all_found, assert_same, assert_shown, assert_small, found, GATE};
-use common::plain_press::{Mistake, Plain};
-use common::plain_replay::Mistake as Term;
+use crate::common::faults::{
+    assert_all_found, assert_same, assert_shown, assert_small, found, GATE,
+};
+use crate::common::plain_press::{Mistake, Plain};
+use crate::common::plain_replay::Mistake as Term;
 use compare::batches::{compare, compare_list};
 use compare::campaign::Report;
 use compare::press::Record;

@@ -1,8 +1,6 @@
 //! Press after press is replay, and a preview is a press on a copy.
 
-mod common;
-
-use common::table;
+use crate::common::table;
 use compare::checks::accept;
 use compare::generate::random::Random;
 use compare::press::{Cause, Panel, Record};
@@ -21,9 +19,9 @@ use compare::table::Table;
 use std::collections::BTreeMap;
 
 const MODELS: [&str; 3] = [
-    include_str!("../../models/counter.txt"),
-    include_str!("../../models/free_list.txt"),
-    include_str!("../../models/placing_head.txt"),
+    include_str!("../../../models/counter.txt"),
+    include_str!("../../../models/free_list.txt"),
+    include_str!("../../../models/placing_head.txt"),
 ];
 
 /// Tables made to be pressed, to be replayed, and large ones.

@@ -11,7 +11,7 @@ use std::hint::black_box;
 
 #[test]
 fn the_header_states_the_stack() {
-    let header = include_str!("../../include/sifthorma.h");
+    let header = include_str!("../../../include/sifthorma.h");
     let line = format!("#define SIFTHORMA_STACK {STACK}");
     assert!(header.lines().any(|one| one == line), "{line}");
 }

@@ -1,9 +1,10 @@
 //! The comparison of replays finds mistakes that are put in on purpose, and shows them on small tables and logs.
 
-mod common;
-
-use common::faults::{assert_all_found, assert_same, assert_shown, assert_small, found, GATE};
-use common::plain_replay::{Mistake, Plain};
+use crate::common;
+use crate::common::faults::{
+    assert_all_found, assert_same, assert_shown, assert_small, found, GATE,
+};
+use crate::common::plain_replay::{Mistake, Plain};
 use compare::batches::{compare, compare_list};
 use compare::replays::{first_batch, shown_log, Found, Replays};
 use compare::runs::batch::LOGS;

@@ -1,0 +1,30 @@
+//! The integration tests as one program, a module for each subject.
+
+mod against;
+mod anticipated;
+mod by_sequent;
+mod common;
+mod generated;
+mod guide;
+mod left_out;
+mod left_out_faults;
+mod long_logs;
+mod marked;
+mod models;
+mod operator_faults;
+mod operators;
+mod press;
+mod press_faults;
+mod press_laws;
+mod press_statistics;
+mod refusals;
+mod replay;
+mod replay_commands;
+mod replay_faults;
+mod replay_statistics;
+mod replay_terms;
+mod runs;
+mod sequents;
+mod shared;
+mod sizes;
+mod stack;
