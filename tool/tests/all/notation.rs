@@ -1,8 +1,6 @@
 //! The notation: formulas as typed and as written back, other spellings of one text, and every mistake with its place.
 
-mod common;
-
-use common::{edited, model, read};
+use crate::common::{edited, model, read};
 use sifthorma::formula::{operand_count, operator, written as write_formula, Formula};
 use sifthorma::library;
 use sifthorma::rows::lay_out;

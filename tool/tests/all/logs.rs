@@ -1,8 +1,6 @@
 //! Logs of generated tables: as texts and back, byte for byte, and the reason of every refusal.
 
-mod common;
-
-use common::{model, on_a_stack};
+use crate::common::{model, on_a_stack};
 use compare::checks::accept;
 use compare::generate::random::Random;
 use compare::replay::machine::Machine;

@@ -1,8 +1,6 @@
 //! Sessions at the bench, through a pipe: what is asked, shown, pressed, taken back and written.
 
-mod common;
-
-use common::{file, is_shown, play, program, run, run_on, Ran};
+use crate::common::{file, is_shown, play, program, run, run_on, Ran};
 use std::fs::{read_to_string, remove_file, File};
 use std::path::Path;
 use std::process::Stdio;

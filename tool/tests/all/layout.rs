@@ -1,8 +1,6 @@
 //! Texts of rows against `models/layout`, byte for byte, and the line that each row comes from.
 
-mod common;
-
-use common::{model, models, on_a_stack, read, text_of};
+use crate::common::{model, models, on_a_stack, read, text_of};
 use compare::generate::random::Random;
 use sifthorma::formula::{operator, sign};
 use sifthorma::library::check;

@@ -1,11 +1,8 @@
 //! Sequents in SMT-LIB: a script word for word, scripts that declare what they mention, and terms with the formulas' values.
 
-mod common;
-mod script;
-
-use common::{model, read, run, spelled};
+use crate::common::{model, read, run, spelled};
+use crate::script::{commands, value, Functions, Known, Reading};
 use compare::generate::random::Random;
-use script::{commands, value, Functions, Known, Reading};
 use sifthorma::evaluate::{evaluate, is_boolean, NoValue, Value, Values};
 use sifthorma::formula::operator::*;
 use sifthorma::formula::{Formula, Mention};

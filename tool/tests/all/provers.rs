@@ -1,8 +1,6 @@
 //! Provers as programs: each of these is a script of sh, so that no prover need be installed.
 
-mod common;
-
-use common::{file, program, run, Ran};
+use crate::common::{file, program, run, Ran};
 use sifthorma::answers::{answer, Answer};
 use sifthorma::evaluate::{Value, Values};
 use sifthorma::formula::Mention;

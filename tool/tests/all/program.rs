@@ -1,8 +1,6 @@
 //! The program by its commands: what each writes where, and the exit status.
 
-mod common;
-
-use common::{file, model, program, run, run_on, text_of, Ran};
+use crate::common::{file, model, program, run, run_on, text_of, Ran};
 use std::fs::File;
 use std::process::Stdio;
 
@@ -380,7 +378,7 @@ discharge FILE --jobs x → expected a number, found `x`
 /// The lines of ../README.md that run the program. Provers are optional.
 #[test]
 fn what_the_readme_runs() {
-    let readme = include_str!("../../README.md");
+    let readme = include_str!("../../../README.md");
     let start = "    tool/target/release/sifthorma ";
     let lines = readme.lines().filter_map(|line| line.strip_prefix(start));
     let lines: Vec<&str> = lines

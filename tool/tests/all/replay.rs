@@ -1,8 +1,6 @@
 //! Replays of logs in words: the library's number and row, the step, its event and why it isn't allowed.
 
-mod common;
-
-use common::{edited, file, read, run, text_of};
+use crate::common::{edited, file, read, run, text_of};
 use compare::checks::accept;
 use compare::runs::simulate::simulate;
 use sifthorma::library::replay;

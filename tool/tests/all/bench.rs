@@ -1,8 +1,6 @@
 //! The bench without a terminal: runs of models and of generated tables pressed step by step, and what it keeps of them.
 
-mod common;
-
-use common::{model, on_a_stack};
+use crate::common::{model, on_a_stack};
 use compare::checks::accept;
 use compare::generate::random::Random;
 use compare::runs::batch::batch;

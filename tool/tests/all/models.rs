@@ -1,8 +1,6 @@
 //! The models of ../models: their tables, what is stored beside them, and which sequents small values refute.
 
-mod common;
-
-use common::{edited, model, models, read, run, spelled, text_of};
+use crate::common::{edited, model, models, read, run, spelled, text_of};
 use sifthorma::formula::Formula;
 use sifthorma::library::entry;
 use sifthorma::refute::{refutes, search, Found};

@@ -1,5 +1,4 @@
 //! What several tests share.
-#![allow(dead_code)]
 
 use sifthorma::library::check;
 use sifthorma::sequents::{Answers, Spelled};

@@ -1,8 +1,6 @@
 //! Accepted tables as texts of the notation and back, byte for byte; refused ones with number, word and row.
 
-mod common;
-
-use common::{model, models, on_a_stack, read};
+use crate::common::{model, models, on_a_stack, read};
 use compare::generate::plan::{extreme, EXTREMES};
 use compare::generate::random::Random;
 use compare::rows::bytes_of;

@@ -1,8 +1,6 @@
 //! Damaged and hostile texts: each is a mistake with its place, a refusal that is told, or a model that comes back.
 
-mod common;
-
-use common::model;
+use crate::common::model;
 use compare::generate::random::Random;
 use sifthorma::library::check;
 use sifthorma::notation::write::write;

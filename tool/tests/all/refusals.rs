@@ -1,8 +1,6 @@
 //! Refusals in words: the library's number and row, the line where the fault was typed, what is wrong in the model's names.
 
-mod common;
-
-use common::{edited, file, run, text_of};
+use crate::common::{edited, file, run, text_of};
 use sifthorma::library::check;
 use sifthorma::refusal::{report, word};
 use sifthorma::source::Source;

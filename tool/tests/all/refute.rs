@@ -1,8 +1,6 @@
 //! The search for counterexamples: what it finds, what it doesn't, and what it leaves open.
 
-mod common;
-
-use common::{file, read, run, spelled};
+use crate::common::{file, read, run, spelled};
 use sifthorma::evaluate::{Value, Values};
 use sifthorma::formula::Mention;
 use sifthorma::refute::{search, Found};

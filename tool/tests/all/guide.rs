@@ -1,12 +1,10 @@
 //! The examples of ../docs/GUIDE.md: what is shown after a `$` is what the program answers, and texts are those of the models.
 
-mod common;
-
-use common::{is_shown, play, run, text_of};
+use crate::common::{is_shown, play, run, text_of};
 use std::path::Path;
 use std::process::Command;
 
-const GUIDE: &str = include_str!("../../docs/GUIDE.md");
+const GUIDE: &str = include_str!("../../../docs/GUIDE.md");
 
 /// The indented blocks of the guide; empty lines between indented ones belong to them.
 fn blocks() -> Vec<Vec<&'static str>> {
