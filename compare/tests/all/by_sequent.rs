@@ -209,16 +209,20 @@ fn a_program_is_run() {
 #[cfg(library)]
 #[test]
 fn the_command_fails() {
-    use std::fs::{remove_file, set_permissions, write, Permissions};
-    use std::os::unix::fs::PermissionsExt;
+    use std::fs::remove_file;
     use std::process::Command;
 
     let compare = env!("CARGO_BIN_EXE_compare");
     let name = format!("compare-{}-wrong", std::process::id());
     let script = std::env::temp_dir().join(name);
     let text = format!("#!/bin/sh\n'{compare}' print | sed '1s/^ /x/'\n");
-    write(&script, text).expect("a script is written");
-    set_permissions(&script, Permissions::from_mode(0o700)).expect("and can be run");
+    // another process writes it: this one may be starting others, and a script that one of them holds open can't be run
+    let mut writer = Command::new("sh");
+    writer
+        .arg("-c")
+        .arg("printf %s \"$1\" >\"$0\" && chmod 700 \"$0\"");
+    let written = writer.arg(&script).arg(text).status();
+    assert!(written.expect("a script is written").success());
     let mut command = Command::new(compare);
     command.arg("by-sequent").arg(&script);
     let output = command.arg("../models/L.txt").output().expect("runs");
