@@ -1,11 +1,11 @@
 -- A test that every row of the operators' table passes, which is computed, and a row for an unknown number too, is passed by the row that a number names;
--- and that row has the number. So in every row the operator's sort gives the type that its node has as a tree.
+-- and that row has the number, or none has it. So in every row the operator's sort gives the type that its node has as a tree.
 use Prim.Native.Nat.{ℕ}
-use mathlib.Core.Path.{_≡_, refl, subst}
+use mathlib.Core.Path.{_≡_, refl, sym, subst}
 use mathlib.Core.Bool.{Bool, true, false, _&&_}
 use mathlib.Core.List.{List, [], _∷_}
 use lib.Dec.{T, eqb}
-use borrow.Author.Tests.{eqb-true}
+use borrow.Author.Tests.{eqb-true, ne-eqb}
 use Rattle.lists.specs.Choice.{pick}
 use Rattle.formula.specs.Values.{ValueType, integer, boolean}
 use Rattle.formula.proofs.Sort.{constantType, unaryType, binaryType}
@@ -24,6 +24,21 @@ row-number (o ∷ os) n = either (eqb (o .number) n) refl (row-number os n)
     either : (b : Bool) → eqb (o .number) n ≡ b → rowNumbered os n .number ≡ n → pick b o (rowNumbered os n) .number ≡ n
     either true e h = eqb-true (o .number) n e
     either false e h = h
+
+-- what a match knows behind its arms, one a row: the number is none of theirs
+abbrev pub Other : ℕ → List Numbered → Type 0 → Type 0
+Other n [] arms = arms
+Other n (o ∷ os) arms = Other n os (arms × (n ≡ o .number → ⊥))
+
+other-arms : (n : ℕ) (os : List Numbered) (arms : Type 0) → Other n os arms → arms
+other-arms n [] arms h = h
+other-arms n (o ∷ os) arms h = other-arms n os (arms × (n ≡ o .number → ⊥)) h .0
+
+pub row-other : (n : ℕ) (os : List Numbered) (arms : Type 0) → Other n os arms → rowNumbered [] n ≡ rowNumbered os n
+row-other n [] arms h = refl
+row-other n (o ∷ os) arms h =
+    let more = arms × (n ≡ o .number → ⊥) in
+    rw (ne-eqb (o .number) n (λ e. other-arms n os more h .1 (sym e)), rowNumbered) (row-other n os more h)
 
 module _ (P : Numbered → Bool) (other : (n : ℕ) → T (P (is n unknown 0 0))) where
   passes-in : (os : List Numbered) → T (allPass P os) → (n : ℕ) → T (P (rowNumbered os n))

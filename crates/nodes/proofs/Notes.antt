@@ -15,7 +15,7 @@ use Rattle.machine.specs.Operator.{Operator, literalOf, identifierOf, afterOf, 
 use Rattle.machine.specs.Described.{node, treeOf}
 use Rattle.machine.proofs.Described.{tree-step}
 use Rattle.rules.specs.Sorts.{shape, shapeOf}
-use Rattle.operators.specs.Condition.{conditionOf}
+use Rattle.conditions.specs.Condition.{conditionOf}
 use Rattle.sets.specs.Set.{setOf}
 use Rattle.sets.proofs.Set.{set-none, set-join}
 use Rattle.nodes.specs.declared.Note.{Note}

@@ -25,8 +25,8 @@ use Rattle.machine.specs.Described.{treeTo, treeOf, sets}
 use Rattle.machine.proofs.Described.{operand-falls}
 use Rattle.machine.specs.Operator.{operatorNumbered}
 use Rattle.rules.specs.Sorts.{Shape, shapeOf}
-use Rattle.operators.specs.declared.Condition.{Condition}
-use Rattle.operators.specs.Condition.{conditionOf}
+use Rattle.conditions.specs.declared.Condition.{Condition}
+use Rattle.conditions.specs.Condition.{conditionOf}
 use Rattle.scan.specs.declared.Span.{Span}
 use Rattle.scan.specs.Spans.{ofTag, tagSpan, actionAt, eventLimit, nodesAt, eventsAt, spanWords, Spanned}
 use Rattle.scan.proofs.Spans.{to-at-most, from-to}

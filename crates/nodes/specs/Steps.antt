@@ -12,8 +12,8 @@ use Rattle.formula.specs.Tree.{bottom, constant}
 use Rattle.table.specs.Rows.{Rows}
 use Rattle.machine.specs.Described.{treeOf, sets}
 use Rattle.rules.specs.Sorts.{Shape, value, anIdentifier, aVariable, none, one, two, unknown}
-use Rattle.operators.specs.declared.Condition.{Condition}
-use Rattle.operators.specs.declared.Condition.the-variants.{Nothing, Divisor, LeftTrue, LeftFalse}
+use Rattle.conditions.specs.declared.Condition.{Condition}
+use Rattle.conditions.specs.declared.Condition.the-variants.{Nothing, Divisor, LeftTrue, LeftFalse}
 use Rattle.scan.specs.Spans.{eventLimit, nodesAt, eventsAt, Spanned}
 use Rattle.sets.specs.Set.{setOf, setWhere}
 use Rattle.nodes.specs.declared.Note.{Note}

@@ -1,8 +1,8 @@
 // What is noted once for a table, behind the spans of its tags: of each node the sets of the identifiers that its formula and its well-definedness mention
 // and whether it divides, and of each event the set of those that it assigns.
-use operators::Condition;
+use conditions::Condition;
+use conditions::find_condition;
 use operators::Shape;
-use operators::find_condition;
 use operators::find_operator;
 use scan::Span;
 use scan::fill_spans;

@@ -1,15 +1,11 @@
 -- What the operators' table gives: at one of its numbers, where its row is computed, at any other number, and in each column.
 use Prim.Native.Nat.{ℕ}
 use mathlib.Core.Path.{_≡_, refl, ap, sym, _∙_, subst}
-use mathlib.Core.List.{List, [], _∷_}
-use borrow.Author.Tests.{ne-eqb}
 use Rattle.machine.specs.Operator.{Numbered, operators, rowNumbered, operatorNumbered, operandSort, resultSort}
+use Rattle.machine.proofs.Operator.{Other, row-other}
 use Rattle.rules.specs.Sorts.{Shape, shape, shapeOf}
 use Rattle.operators.specs.declared.Operator.{Operator}
 use Rattle.operators.specs.declared.Shape as held
-use Rattle.operators.specs.declared.Condition.{Condition}
-use Rattle.operators.specs.declared.Condition.the-variants.{Nothing}
-use Rattle.operators.specs.Condition.{conditionOf}
 use Rattle.operators.specs.Operator.{Usage, usageOf, meant, meantShape}
 
 abbrev usage : Shape → ℕ → ℕ → ℕ → Usage
@@ -31,33 +27,9 @@ pub found-at : (k : ℕ) {made : Operator} {n o r : ℕ} {s : held.Shape} → ma
     → n ≡ k → usage (meantShape s) o r k ≡ tabled k → meant made ≡ usageOf n
 found-at k {n} {o} {r} {s} made e row = ap meant made ∙ subst (λ n. usage (meantShape s) o r n ≡ tabled n) (sym e) row ∙ tabled-used n
 
--- what a match knows behind its arms, one a row: the number is none of theirs
-abbrev pub Other : ℕ → List Numbered → Type 0 → Type 0
-Other n [] arms = arms
-Other n (o ∷ os) arms = Other n os (arms × (n ≡ o .number → ⊥))
-
-other-arms : (n : ℕ) (os : List Numbered) (arms : Type 0) → Other n os arms → arms
-other-arms n [] arms h = h
-other-arms n (o ∷ os) arms h = other-arms n os (arms × (n ≡ o .number → ⊥)) h .0
-
-row-other : (n : ℕ) (os : List Numbered) (arms : Type 0) → Other n os arms → rowNumbered [] n ≡ rowNumbered os n
-row-other n [] arms h = refl
-row-other n (o ∷ os) arms h =
-    let more = arms × (n ≡ o .number → ⊥) in
-    rw (ne-eqb (o .number) n (λ e. other-arms n os more h .1 (sym e)), rowNumbered) (row-other n os more h)
-
 pub found-other : {made : Operator} {n : ℕ} → made ≡ record { number = n; shape = held.the-variants.Unknown; operands = 0; sort = 0 }
     → Other n operators Unit → meant made ≡ usageOf n
 found-other {n} made h = ap meant made ∙ ap (λ row. rowUsage row n) (row-other n operators Unit h) ∙ tabled-used n
-
--- the condition by a row of the table, and by none
-pub condition-at : (k : ℕ) {n : ℕ} {made : Condition} → n ≡ k → made ≡ conditionOf (rowNumbered operators k .operator) → made ≡ conditionOf (operatorNumbered n)
-unfolding operatorNumbered
-condition-at k e row = row ∙ ap (λ n. conditionOf (rowNumbered operators n .operator)) (sym e)
-
-pub condition-other : {n : ℕ} → Other n operators Unit → Nothing ≡ conditionOf (operatorNumbered n)
-unfolding operatorNumbered
-condition-other {n} h = ap (λ row. conditionOf (row .operator)) (row-other n operators Unit h)
 
 module _ (o : Operator) (n : ℕ) (e : meant o ≡ usageOf n) where
   pub shape-found : meantShape (o .shape) ≡ shapeOf n

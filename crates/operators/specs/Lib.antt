@@ -1,2 +1,1 @@
-pub mod Condition
 pub mod Operator

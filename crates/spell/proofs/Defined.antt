@@ -17,9 +17,9 @@ use Rattle.machine.specs.Operator.{Operator, literalOf, identifierOf, afterOf, 
 use Rattle.machine.specs.Described.{node, treeTo, treeOf}
 use Rattle.machine.proofs.Described.{tree-step}
 use Rattle.rules.specs.Sorts.{shape, shapeOf, operandCount}
-use Rattle.operators.specs.declared.Condition.{Condition}
-use Rattle.operators.specs.declared.Condition.the-variants.{Nothing, Divisor}
-use Rattle.operators.specs.Condition.{conditionOf}
+use Rattle.conditions.specs.declared.Condition.{Condition}
+use Rattle.conditions.specs.declared.Condition.the-variants.{Nothing, Divisor}
+use Rattle.conditions.specs.Condition.{conditionOf}
 use Rattle.reply.specs.Spelled.{spelled, spellTree}
 use Rattle.spell.specs.declared.Node.{Node}
 use Rattle.spell.specs.Spell.{isDivisor, divides, guardOf, guardNumber, openingRows, guardRows, closingRows, nodeBy, nodeOf, shownRows, definedRows}

@@ -21,9 +21,9 @@ use Rattle.sequent.specs.declared.Entry.{Entry as Numbers}
 use Rattle.sequent.specs.Entry.{variable, actionTree, witnessRoot, formula}
 use Rattle.sequent.specs.Forms.{entryOf}
 use Rattle.rules.specs.Sorts.{Shape, value, anIdentifier, aVariable, none, one, two, unknown, shapeOf}
-use Rattle.operators.specs.declared.Condition.{Condition}
-use Rattle.operators.specs.declared.Condition.the-variants.{Nothing, Divisor, LeftTrue, LeftFalse}
-use Rattle.operators.specs.Condition.{conditionOf}
+use Rattle.conditions.specs.declared.Condition.{Condition}
+use Rattle.conditions.specs.declared.Condition.the-variants.{Nothing, Divisor, LeftTrue, LeftFalse}
+use Rattle.conditions.specs.Condition.{conditionOf}
 use Rattle.reply.specs.Printed.{rowsBytes}
 use Rattle.reply.specs.Spelled.{spelled, spellTree, spell}
 use Rattle.spell.specs.declared.Node.{Node}

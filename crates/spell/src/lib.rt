@@ -1,8 +1,8 @@
 // 01, Sequents: an entry spelled out as rows 83. Each function gives the count of its rows, capped, and writes as many of them as there
 // is room for into the front of the buffer; with an empty buffer it only counts.
-use operators::Condition;
+use conditions::Condition;
+use conditions::find_condition;
 use operators::Shape;
-use operators::find_condition;
 use operators::find_operator;
 use reply::tags;
 use row::Row;

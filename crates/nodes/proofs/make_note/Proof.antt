@@ -7,7 +7,7 @@ use Rattle.machine.specs.Operator.{operatorNumbered}
 use Rattle.machine.proofs.Described.{operand-falls}
 use Rattle.operators.proofs.Found.{shape-found}
 use Rattle.rules.specs.Sorts.{shapeOf}
-use Rattle.operators.specs.Condition.{conditionOf}
+use Rattle.conditions.specs.Condition.{conditionOf}
 use Rattle.nodes.proofs.Stored.{note-made}
 use borrow.Author.Needs.{needs}
 use Rattle.nodes.proofs.make_note.Statement.{statement}

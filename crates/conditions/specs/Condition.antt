@@ -1,8 +1,8 @@
 -- 01, Well-definedness: the condition that an operator adds, by what its nodes are.
 use Rattle.formula.specs.Tree.{quotient, remainder, and, or, implies}
 use Rattle.machine.specs.Operator.{Operator, literalOf, identifierOf, afterOf, constantOf, unaryOf, binaryOf, divisionOf, connectiveOf, unknown}
-use Rattle.operators.specs.declared.Condition.{Condition}
-use Rattle.operators.specs.declared.Condition.the-variants.{Nothing, Divisor, LeftTrue, LeftFalse}
+use Rattle.conditions.specs.declared.Condition.{Condition}
+use Rattle.conditions.specs.declared.Condition.the-variants.{Nothing, Divisor, LeftTrue, LeftFalse}
 
 -- "÷ and mod: (WD(a) ∧ WD(b)) ∧ ¬(b = 0); P ∧ Q and P ⇒ Q: WD(P) ∧ (P ⇒ WD(Q)); P ∨ Q: WD(P) ∧ (P ∨ WD(Q))"
 abbrev pub conditionOf : Operator → Condition

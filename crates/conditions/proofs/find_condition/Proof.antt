@@ -1,8 +1,8 @@
 -- As find_operator, by the operator of each row.
 use mathlib.Core.Path.{refl}
-use Rattle.operators.proofs.Found.{condition-at, condition-other}
-use Rattle.operators.proofs.find_condition.Statement.{statement}
-use Rattle.operators.proofs.find_condition.Tie as tie
+use Rattle.conditions.proofs.Found.{condition-at, condition-other}
+use Rattle.conditions.proofs.find_condition.Statement.{statement}
+use Rattle.conditions.proofs.find_condition.Tie as tie
 
 pub find-condition-spec : {M : Type 1} → statement M
 find-condition-spec = tie.close (tie.spec
