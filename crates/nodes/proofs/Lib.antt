@@ -1,3 +1,2 @@
-pub mod Notes
 pub mod Stored
 pub mod Touched

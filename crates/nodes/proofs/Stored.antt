@@ -33,10 +33,11 @@ use Rattle.scan.proofs.Spans.{to-at-most, from-to}
 use Rattle.scan.proofs.Actions.{assigns-spans}
 use Rattle.sets.specs.Set.{setOf, setWhere}
 use Rattle.sets.proofs.Set.{set-where-or, set-where-same, set-where-none}
-use Rattle.nodes.specs.declared.Note.{Note}
-use Rattle.nodes.specs.Notes.{nodeLimit, noteOf, noteIn, notedTree, assignedSet, Noted}
-use Rattle.nodes.specs.Steps.{emptyNote, noteBy, stored, Cleared, NotedTo}
-use Rattle.nodes.proofs.Notes.{note-parts, note-none, note-step}
+use Rattle.notes.specs.declared.Note.{Note}
+use Rattle.notes.specs.Notes.{noteOf, emptyNote, noteBy}
+use Rattle.notes.proofs.Notes.{note-parts, note-none, note-step}
+use Rattle.nodes.specs.Notes.{nodeLimit, noteIn, notedTree, assignedSet, Noted}
+use Rattle.nodes.specs.Steps.{stored, Cleared, NotedTo}
 
 -- the spans stand before the notes
 pub spanned-kept : {t : Rows} (s s′ : List ℕ) → length s′ ≡ length s → ((k : ℕ) → k < nodesAt → getD s′ k 0 ≡ getD s k 0) → Spanned t s → Spanned t s′

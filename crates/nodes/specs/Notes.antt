@@ -10,25 +10,20 @@ use lib.Bits.{bitAnd}
 use Rattle.lists.specs.Choice.{pick}
 use Rattle.lists.specs.Below.{someBelow}
 use Rattle.formula.specs.Tree.{bottom, Tree, constant}
-use Rattle.formula.specs.WellDefined.{wellDefined}
 use Rattle.formula.specs.Identifiers.{identifiers}
-use Rattle.formula.specs.Identifiers as formula
 use Rattle.table.specs.Names.{nodeTag}
 use Rattle.table.specs.Rows.{Rows, count}
 use Rattle.machine.specs.Described.{treeOf, sets}
 use Rattle.scan.specs.Spans.{eventLimit, nodesAt, eventsAt, Spanned}
 use Rattle.sets.specs.Set.{setOf, setWhere}
-use Rattle.nodes.specs.declared.Note.{Note}
+use Rattle.notes.specs.declared.Note.{Note}
+use Rattle.notes.specs.Notes.{noteOf}
 
 -- 01, the table of rows: "most rows" of tag 20
 abbrev pub nodeLimit : ℕ
 nodeLimit = 512
 
--- of a formula: the set of its identifiers, the set of those of its well-definedness, and whether it divides
-abbrev pub noteOf : Tree → Note
-noteOf f = record { mentioned = setOf (identifiers f); defined = setOf (identifiers (wellDefined f)); divides = formula.divides f }
-
--- where a list holds it: three numbers for node n
+-- where a list holds a node's note: three numbers for node n
 abbrev pub noteIn : List ℕ → ℕ → Note
 noteIn spans n = record {
   mentioned = getD spans (nodesAt + 3 * n) 0;

@@ -4,7 +4,8 @@ use mathlib.Core.Path.{sym, ap, ap₂, _∙_}
 use native.Mathlib.Omega.{arith}
 use lib.Bits.{bitOr}
 use Rattle.table.specs.Rows.{rowsOf}
-use Rattle.nodes.specs.Notes.{noteOf, notedTree}
+use Rattle.notes.specs.Notes.{noteOf}
+use Rattle.nodes.specs.Notes.{notedTree}
 use Rattle.mentioned.proofs.Actions.{set-unassigned, set-equal, set-such}
 use borrow.Author.Needs.{needs}
 use Rattle.mentioned.proofs.action_set.Statement.{statement}

@@ -2,7 +2,8 @@
 use mathlib.Core.Path.{ap, ap₂, _∙_}
 use lib.Bits.{bitOr}
 use Rattle.table.specs.Rows.{rowsOf}
-use Rattle.nodes.specs.Notes.{noteOf, notedTree}
+use Rattle.notes.specs.Notes.{noteOf}
+use Rattle.nodes.specs.Notes.{notedTree}
 use borrow.Author.Needs.{needs}
 use Rattle.mentioned.proofs.witness_set.Statement.{statement}
 use Rattle.mentioned.proofs.witness_set.Tie as tie

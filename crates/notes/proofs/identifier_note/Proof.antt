@@ -1,7 +1,7 @@
 -- The set is that of one identifier.
 use borrow.Author.Needs.{needs}
-use Rattle.nodes.proofs.identifier_note.Statement.{statement}
-use Rattle.nodes.proofs.identifier_note.Tie as tie
+use Rattle.notes.proofs.identifier_note.Statement.{statement}
+use Rattle.notes.proofs.identifier_note.Tie as tie
 
 pub identifier-note-spec : {M : Type 1} → statement M
 identifier-note-spec = tie.close (tie.spec

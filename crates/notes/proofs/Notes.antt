@@ -18,9 +18,8 @@ use Rattle.rules.specs.Sorts.{shape, shapeOf}
 use Rattle.conditions.specs.Condition.{conditionOf}
 use Rattle.sets.specs.Set.{setOf}
 use Rattle.sets.proofs.Set.{set-none, set-join}
-use Rattle.nodes.specs.declared.Note.{Note}
-use Rattle.nodes.specs.Notes.{noteOf}
-use Rattle.nodes.specs.Steps.{emptyNote, noteBy}
+use Rattle.notes.specs.declared.Note.{Note}
+use Rattle.notes.specs.Notes.{noteOf, emptyNote, noteBy}
 
 -- a note from its parts
 pub note-parts : {m m′ d d′ : ℕ} {b b′ : Bool} → m ≡ m′ → d ≡ d′ → b ≡ b′

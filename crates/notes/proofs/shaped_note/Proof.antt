@@ -1,7 +1,7 @@
 -- By the case of the shape.
 use borrow.Author.Needs.{needs}
-use Rattle.nodes.proofs.shaped_note.Statement.{statement}
-use Rattle.nodes.proofs.shaped_note.Tie as tie
+use Rattle.notes.proofs.shaped_note.Statement.{statement}
+use Rattle.notes.proofs.shaped_note.Tie as tie
 
 pub shaped-note-spec : {M : Type 1} → statement M
 shaped-note-spec = tie.close (tie.spec

@@ -1,7 +1,7 @@
 -- By the case of the condition.
 use borrow.Author.Needs.{needs}
-use Rattle.nodes.proofs.pair_note.Statement.{statement}
-use Rattle.nodes.proofs.pair_note.Tie as tie
+use Rattle.notes.proofs.pair_note.Statement.{statement}
+use Rattle.notes.proofs.pair_note.Tie as tie
 
 pub pair-note-spec : {M : Type 1} → statement M
 pair-note-spec = tie.close (tie.spec
