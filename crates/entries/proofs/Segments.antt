@@ -30,10 +30,11 @@ use Rattle.sequent.specs.Required.{ownVariables}
 use Rattle.select.specs.declared.Selection.{Selection}
 use Rattle.select.specs.declared.Selection.the-variants.{Tagged, OfEvent, ForParameters, Identifiers, Variables}
 use Rattle.select.specs.Selection.{rowOfEvent, parameterWitness, identifierAt, variableAt, selects}
+use Rattle.groups.specs.Events.{isAbstract, isInitial, isNew, ownKind}
+use Rattle.groups.specs.Groups.{groups, groupAt, when, axiomGroup, abstractInvariantGroup, concreteInvariantGroup, guardGroup, witnessGroup, grdGroup}
 use Rattle.walk.specs.declared.Slot.{Slot}
-use Rattle.walk.specs.Events.{isAbstract, isInitial, isNew, ownKind}
-use Rattle.walk.specs.Groups.{groups, groupAt, when, isWFIS, headerKind, headerItem, axiomGroup, abstractInvariantGroup, concreteInvariantGroup, guardGroup, witnessGroup, grdGroup}
 use Rattle.walk.specs.Slots.{slotAt, slotCount}
+use Rattle.walk.specs.Headers.{isWFIS, headerKind, headerItem}
 use Rattle.walk.proofs.Kept.{witness-divisions, witness-count}
 use Rattle.walk.proofs.Find.{counted-kept}
 use Rattle.walk.proofs.Groups.{roleOf, writtenOf, baseAt, guardedAt, movedAt, witnessesAt, simulationAt, witnessOf, made, by-role, variables-own, guards-rows, witnesses-rows, map-identifiers}

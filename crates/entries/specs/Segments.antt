@@ -19,11 +19,11 @@ use Rattle.select.specs.declared.Selection.the-variants.{None, Tagged, OfEvent,
 use Rattle.select.specs.Selection.{selects}
 use Rattle.select.specs.declared.Item.{Item}
 use Rattle.select.specs.declared.Item.the-variants.{A, B, C, Identifier}
-use Rattle.walk.specs.declared.Slot.{Slot}
-use Rattle.walk.specs.Events.{isAbstract, isInitial, isConvergent, isNew, matchedBy, ownKind}
-use Rattle.walk.specs.Groups.{axiomGroup, abstractInvariantGroup, concreteInvariantGroup, guardGroup, witnessGroup, grdGroup, simGroup, invGroup, varGroup}
 use Rattle.select.specs.Each.{itemAt}
-use Rattle.walk.specs.Groups.{when, headerKind, headerItem}
+use Rattle.groups.specs.Events.{isAbstract, isInitial, isConvergent, isNew, matchedBy, ownKind}
+use Rattle.groups.specs.Groups.{when, axiomGroup, abstractInvariantGroup, concreteInvariantGroup, guardGroup, witnessGroup, grdGroup, simGroup, invGroup, varGroup}
+use Rattle.walk.specs.declared.Slot.{Slot}
+use Rattle.walk.specs.Headers.{headerKind, headerItem}
 use Rattle.entries.specs.declared.Segment.{Segment}
 
 abbrev pub segmentOf : Selection → ℕ → ℕ → Item → Segment

@@ -24,7 +24,7 @@ use Rattle.rules.specs.Verdict.{verdict}
 use Rattle.rules.specs.Offence.{machine}
 use Rattle.rules.proofs.Accepted.{accepted-none, none-obeys}
 use Rattle.rules.proofs.Obeys.{Obeys}
-use Rattle.walk.specs.Groups.{groups}
+use Rattle.groups.specs.Groups.{groups}
 use Rattle.walk.specs.Slots.{slotAt, slotCount}
 use Rattle.walk.proofs.Kept.{kept-count}
 use Rattle.walk.proofs.Find.{keptSlot, keptGroup, keptEvent, kept-walked, counted-made, walk-count}

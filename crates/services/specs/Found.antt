@@ -13,7 +13,7 @@ use Rattle.rules.specs.declared.Verdict.{Verdict}
 use Rattle.rules.specs.Verdict.{Passes}
 use Rattle.row.specs.declared.Row.{Row}
 use Rattle.walk.specs.declared.Slot.{Slot}
-use Rattle.walk.specs.Groups.{headerKind, headerItem}
+use Rattle.walk.specs.Headers.{headerKind, headerItem}
 use Rattle.entries.specs.Segments.{goalAt, slotSequent}
 use Rattle.entries.specs.Written.{entryRows}
 use Rattle.reply.specs.declared.Reply.{Reply}

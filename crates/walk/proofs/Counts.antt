@@ -6,7 +6,7 @@ use native.Mathlib.Omega.{arith}
 use native.Mathlib.Nat.{mul-le-mul}
 use Rattle.table.specs.Rows.{Rows, count}
 use Rattle.walk.specs.declared.Slot.{Slot}
-use Rattle.walk.specs.Groups.{groups}
+use Rattle.groups.specs.Groups.{groups}
 use Rattle.walk.specs.Slots.{slotAt, walkTo, walkCount, Within, AtEnd, position, SoughtSlot}
 use Rattle.walk.proofs.Find.{walk-start, walk-end, walk-reaches, walk-at-most}
 use Rattle.walk.proofs.Slots.{events-within}

@@ -22,7 +22,7 @@ use Rattle.select.specs.declared.Each.{Each}
 use Rattle.select.specs.declared.Each.the-variants.{One, Defined, Witness, Touched}
 use Rattle.select.specs.Each.{itemAt, weight, countAt}
 use Rattle.select.specs.Selection.{selects}
-use Rattle.walk.specs.Groups.{groups, groupAt, groupRows}
+use Rattle.groups.specs.Groups.{groups, groupAt, groupRows}
 use Rattle.walk.specs.Slots.{slotCount, groupCount, eventCount, walkCount, walkTo}
 use Rattle.walk.proofs.Groups.{made, slot, groupSlots}
 use Rattle.walk.proofs.Walk.{eventSlots, walked}

@@ -30,9 +30,9 @@ use Rattle.sequent.proofs.Parts.{guardWDs, actionWDs, actionFISs, ofWitnesses, 
 use Rattle.select.specs.declared.Selection.{Selection}
 use Rattle.select.specs.declared.Selection.the-variants.{None, Tagged, OfEvent, Identifiers, Variables, Assigned, SuchThat}
 use Rattle.select.specs.Selection.{rowOfEvent, identifierAt, variableAt, actionRow, isAssigned, becomesSuch, selects}
-use Rattle.walk.specs.Events.{isAbstract, isRefining, isMatched, isConvergent, isNew, matchedBy, ownKind, ownInvariantTag}
-use Rattle.walk.specs.Groups.{when, ofEvent, simulatedRows, groupAt, groupRows, axiomGroup, abstractInvariantGroup, concreteInvariantGroup, variantGroup}
-use Rattle.walk.specs.Groups.{guardGroup, actionGroup, fisGroup, witnessGroup, grdGroup, simGroup, invGroup, natGroup, varGroup}
+use Rattle.groups.specs.Events.{isAbstract, isRefining, isMatched, isConvergent, isNew, matchedBy, ownKind, ownInvariantTag}
+use Rattle.groups.specs.Groups.{when, ofEvent, simulatedRows, groupAt, groupRows, axiomGroup, abstractInvariantGroup, concreteInvariantGroup, variantGroup}
+use Rattle.groups.specs.Groups.{guardGroup, actionGroup, fisGroup, witnessGroup, grdGroup, simGroup, invGroup, natGroup, varGroup}
 
 -- "those before it": the roots of the rows before i that pass a test, as written
 abbrev pub before : (ℕ → Bool) → (ℕ → ℕ) → ℕ → List Entry

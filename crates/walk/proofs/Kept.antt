@@ -38,11 +38,11 @@ use Rattle.select.specs.declared.Each.the-variants.{One, Touched}
 use Rattle.select.specs.Selection.{variableAt, actionRow, isAssigned, selects}
 use Rattle.select.specs.Each.{divisions, weight, countAt}
 use Rattle.select.proofs.Selected.{left-true}
-use Rattle.walk.specs.Events.{isAbstract, isInitial, isRefining, isNew, isConvergent, matchedBy, ownKind, ownInvariantTag}
-use Rattle.walk.specs.Groups.{groups, witnessGroup, groupAt, groupRows, invariantEach}
+use Rattle.groups.specs.Events.{isAbstract, isInitial, isRefining, isNew, isConvergent, matchedBy, ownKind, ownInvariantTag}
+use Rattle.groups.specs.Groups.{groups, witnessGroup, groupAt, groupRows, invariantEach}
+use Rattle.groups.proofs.Groups.{no-group}
 use Rattle.walk.specs.Slots.{slotCount}
 use Rattle.walk.proofs.Groups.{roleOf, witnessOf, one, made, slot, by-role}
-use Rattle.walk.proofs.Walk.{no-group}
 
 right-true : (p q : Bool) → p && q ≡ true → q ≡ true
 right-true true q e = e

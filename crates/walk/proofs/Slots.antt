@@ -12,7 +12,7 @@ use Rattle.table.specs.Rows.{Rows, tagged, count}
 use Rattle.select.specs.declared.Sought.{Sought}
 use Rattle.select.specs.Sought.{Passed}
 use Rattle.walk.specs.declared.Slot.{Slot}
-use Rattle.walk.specs.Groups.{groups}
+use Rattle.groups.specs.Groups.{groups}
 use Rattle.walk.specs.Slots.{slotAt, soughtAt, nextGroup, slotCount, walkTo, Within, AtEnd, InWalk, position, Holds}
 use Rattle.walk.proofs.Find.{walk-group, walk-event}
 

@@ -5,7 +5,6 @@ use mathlib.Core.List.{List, [], _++_, flatMap, append-assoc, append-nil}
 use native.Mathlib.Omega.{arith}
 use native.Mathlib.Numerals.{add-one}
 use lib.Dec.{eqb}
-use lib.ListN.{List·getD-eq-default}
 use borrow.Author.Tests.{ne-eqb}
 use Rattle.lists.specs.Choice.{pick}
 use Rattle.lists.specs.All.{All, all-nil, all-cons}
@@ -15,14 +14,12 @@ use Rattle.lists.proofs.Below.{in-numbers}
 use Rattle.lists.proofs.Flat.{flat-none, flat-join, flat-same}
 use Rattle.table.specs.Rows.{Rows, count}
 use Rattle.machine.specs.Described.{machineOf}
-use Rattle.sequent.specs.Sequent.{Sequent, WD}
+use Rattle.sequent.specs.Sequent.{Sequent}
 use Rattle.sequent.specs.Listed.{inOrder, eventSequents, formulas, obligations}
 use Rattle.sequent.proofs.Parts.{eventSequents-parts, inOrder-join}
 use Rattle.select.specs.declared.Selection.{Selection}
 use Rattle.select.specs.declared.Selection.the-variants.{None}
-use Rattle.select.specs.declared.Item.the-variants.{A}
-use Rattle.walk.specs.declared.Group.{Group}
-use Rattle.walk.specs.Groups.{groups, wholeGroup, groupTable, groupAt, groupRows, axiomGroup, abstractInvariantGroup, concreteInvariantGroup, variantGroup}
+use Rattle.groups.specs.Groups.{groups, groupAt, axiomGroup, abstractInvariantGroup, concreteInvariantGroup, variantGroup}
 use Rattle.walk.proofs.Groups.{roleOf, writtenOf, groupSlots, group-none, axiom-group, abstract-invariant-group, concrete-invariant-group, variant-group}
 use Rattle.walk.proofs.Groups.{guard-group, action-group, feasible-group, witness-group, grd-group, sim-group, inv-group, variant-groups}
 
@@ -31,15 +28,6 @@ both : {xs xs′ ys ys′ : List Sequent} → xs ≡ xs′ → ys ≡ ys′ → 
 both p q = ap₂ (λ (xs : List Sequent) (ys : List Sequent). xs ++ ys) p q
 
 module _ (t : Rows) where
-  -- a group whose number is known
-  pub at-number : (e : ℕ) {g : ℕ} (k : ℕ) → g ≡ k → {r : Group} → r ≡ groupAt t e k → r ≡ groupAt t e g
-  at-number e k p q = q ∙ sym (ap (groupAt t e) p)
-
-  -- no rows beyond the last group
-  pub no-group : (e g : ℕ) → groups ≤ g → groupRows t e g ≡ None
-  unfolding groupAt
-  no-group e g h = ap (λ r. r .rows) (List·getD-eq-default (groupTable t e) (wholeGroup WD None A) h)
-
   abbrev pub eventSlots : ℕ → List Sequent
   eventSlots e = flatMap (groupSlots t e) (numbers groups 0)
 

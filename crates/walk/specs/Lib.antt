@@ -1,3 +1,2 @@
-pub mod Events
-pub mod Groups
 pub mod Slots
+pub mod Headers

@@ -11,7 +11,7 @@ use Rattle.table.specs.Rows.{Rows, count}
 use Rattle.select.specs.declared.Sought.{Sought}
 use Rattle.select.specs.Each.{countAt}
 use Rattle.walk.specs.declared.Slot.{Slot}
-use Rattle.walk.specs.Groups.{groups, groupAt}
+use Rattle.groups.specs.Groups.{groups, groupAt}
 
 abbrev pub slotAt : ℕ → ℕ → ℕ → ℕ → Slot
 slotAt e g i left = record { event = e; group = g; row = i; left = left }

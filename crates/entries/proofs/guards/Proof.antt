@@ -3,7 +3,7 @@ use mathlib.Core.Path.{ap, ap₂, _∙_}
 use mathlib.Core.Bool.{not}
 use Rattle.select.specs.declared.Selection.the-variants.{OfEvent}
 use Rattle.select.specs.declared.Item.the-variants.{B}
-use Rattle.walk.specs.Groups.{when}
+use Rattle.groups.specs.Groups.{when}
 use Rattle.entries.specs.Segments.{segmentOf}
 use borrow.Author.Needs.{needs}
 use Rattle.entries.proofs.guards.Statement.{statement}

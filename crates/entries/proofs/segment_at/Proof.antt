@@ -7,7 +7,7 @@ use Rattle.lists.proofs.Range.{table-rest}
 use Rattle.table.specs.Rows.{rowsOf}
 use Rattle.select.specs.declared.Selection.the-variants.{None, Tagged, Identifiers, Variables}
 use Rattle.select.specs.declared.Item.the-variants.{A, C, Identifier}
-use Rattle.walk.specs.Groups.{when}
+use Rattle.groups.specs.Groups.{when}
 use Rattle.entries.specs.Segments.{segmentOf, upTo, segmentTable, segmentAt}
 use Rattle.entries.proofs.Tables.{at-number}
 use borrow.Author.Needs.{needs}

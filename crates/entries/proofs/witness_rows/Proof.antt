@@ -2,7 +2,7 @@
 use mathlib.Core.Path.{ap, _∙_}
 use borrow.Author.Tests.{eq-eqb, ne-eqb}
 use Rattle.select.specs.declared.Selection.the-variants.{OfEvent}
-use Rattle.walk.specs.Groups.{when}
+use Rattle.groups.specs.Groups.{when}
 use borrow.Author.Needs.{needs}
 use Rattle.entries.proofs.witness_rows.Statement.{statement}
 use Rattle.entries.proofs.witness_rows.Tie as tie

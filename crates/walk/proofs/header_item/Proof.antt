@@ -2,7 +2,7 @@
 use mathlib.Core.Path.{sym, ap, _∙_}
 use Rattle.table.specs.Rows.{rowsOf}
 use Rattle.select.specs.Each.{itemAt}
-use Rattle.walk.specs.Groups.{headerItem}
+use Rattle.walk.specs.Headers.{headerItem}
 use borrow.Author.Needs.{needs}
 use Rattle.walk.proofs.header_item.Statement.{statement}
 use Rattle.walk.proofs.header_item.Tie as tie

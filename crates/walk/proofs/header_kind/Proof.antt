@@ -1,6 +1,6 @@
 -- Of a WFIS, else the group's.
 use mathlib.Core.Path.{sym, ap, _∙_}
-use Rattle.walk.specs.Groups.{headerKind}
+use Rattle.walk.specs.Headers.{headerKind}
 use borrow.Author.Needs.{needs}
 use Rattle.walk.proofs.header_kind.Statement.{statement}
 use Rattle.walk.proofs.header_kind.Tie as tie

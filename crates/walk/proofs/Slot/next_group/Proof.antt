@@ -1,6 +1,6 @@
 -- By whether the group is the last.
 use borrow.Author.Tests.{lt-ltb, le-ltb}
-use Rattle.walk.specs.Groups.{groups}
+use Rattle.groups.specs.Groups.{groups}
 use borrow.Author.Needs.{needs}
 use Rattle.walk.proofs.Slot.next_group.Statement.{statement}
 use Rattle.walk.proofs.Slot.next_group.Tie as tie
