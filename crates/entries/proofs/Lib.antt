@@ -1,4 +1,3 @@
 pub mod Seek
-pub mod Segments
-pub mod Tables
+pub mod Sequent
 pub mod Written

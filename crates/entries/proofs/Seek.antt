@@ -5,28 +5,25 @@ use mathlib.Core.Path.{_≡_, refl, sym, ap, ap₂, subst, _∙_}
 use mathlib.Core.Bool.{Bool, true, false}
 use native.Mathlib.Omega.{arith}
 use native.Mathlib.Numerals.{add-one}
-use lib.Dec.{ltb, eqb}
+use lib.Dec.{ltb}
 use lib.ListN.{length, getD, length-map, List·getD-eq-default}
 use borrow.Author.Tests.{ltb-true, ltb-false}
-use Rattle.lists.specs.Choice.{pick}
-use Rattle.lists.specs.All.{All, all-nil, all-cons}
 use Rattle.lists.specs.Below.{countBelow, numbers, keep}
 use Rattle.lists.specs.Sum.{sumBelow}
-use Rattle.lists.proofs.All.{all-at}
-use Rattle.lists.proofs.Below.{numbers-in, count-at-most, count-passes}
+use Rattle.lists.proofs.Below.{count-at-most, count-passes}
 use Rattle.lists.proofs.Flat.{keep-length, flat-length, sum-same, sum-at-most, sum-reaches, flat-at, kept-at}
 use Rattle.table.specs.Rows.{Rows}
 use Rattle.sequent.specs.Entry.{Entry}
 use Rattle.select.specs.declared.Sought.{Sought}
-use Rattle.select.specs.declared.Selection.the-variants.{None}
 use Rattle.select.specs.declared.Each.the-variants.{One}
 use Rattle.select.specs.Each.{countAt}
 use Rattle.select.specs.Sought.{Passed}
 use Rattle.select.proofs.Selected.{ones-counted, counted-one}
 use Rattle.walk.specs.declared.Slot.{Slot}
-use Rattle.select.specs.declared.Item.the-variants.{A}
+use Rattle.segments.specs.Segments.{segments, segmentAt, inSegment, segmentEntry, segment, hypothesisWalk}
+use Rattle.segments.proofs.Tables.{end, end-within}
 use Rattle.entries.specs.declared.Cursor.{Cursor}
-use Rattle.entries.specs.Segments.{segments, segmentOf, segmentTable, segmentAt, inSegment, segmentEntry, segment, hypothesisWalk, goalAt, segmentCount, hypothesesTo, hypothesisCount}
+use Rattle.entries.specs.Sequent.{goalAt, segmentCount, hypothesesTo, hypothesisCount}
 use Rattle.entries.specs.Seek.{cursorAt, Stands, hypothesesBefore, OnEntry, SoughtEntry, entryAt}
 
 -- the row and what is left, as a walk over rows has them
@@ -34,51 +31,31 @@ abbrev pub soughtIn : Cursor → Sought
 soughtIn c = record { row = c .row; left = c .left }
 
 module _ (t : Rows) (s : Slot) where
-  abbrev pub end : ℕ → ℕ
-  end k = segmentAt t s k .before
-
   -- from the start, and past the last row of a segment to the next
   pub hypotheses-start : hypothesesTo t s 0 0 ≡ 0
   unfolding hypothesesTo sumBelow countBelow
   hypotheses-start = refl
 
-  pub hypotheses-segment : (k : ℕ) → hypothesesTo t s (k + 1) 0 ≡ hypothesesTo t s k (end k)
+  pub hypotheses-segment : (k : ℕ) → hypothesesTo t s (k + 1) 0 ≡ hypothesesTo t s k (end t s k)
   unfolding hypothesesTo sumBelow countBelow
   hypotheses-segment k = rw (add-one k) (omega arith)
 
   -- a segment's rows are the table's, so that there are at most as many hypotheses as segments and rows
-  pub end-within : s .row < t .size → (k : ℕ) → end k ≤ t .size
-  unfolding segmentAt numbers
-  end-within h k = by-number (ltb k segments) refl
-    where
-      own : (b : Bool) → pick b (s .row) (t .size) ≤ t .size
-      own true = omega arith
-      own false = omega arith
-
-      all : All (λ k. segmentAt t s k .before ≤ t .size) (numbers segments 0)
-      all = all-cons (own (eqb (s .group) 0)) (all-cons (own (eqb (s .group) 1)) (all-cons (own (eqb (s .group) 2)) (all-cons (own (eqb (s .group) 4)) (all-cons (own false) (all-cons (own false) (all-cons (own false) all-nil))))))
-
-      by-number : (b : Bool) → ltb k segments ≡ b → segmentAt t s k .before ≤ t .size
-      by-number true p = all-at all (numbers-in segments 0 k (omega arith) (omega (arith, ltb-true k segments p)))
-      by-number false p =
-          let none : segmentAt t s k .before ≡ 0 = ap (λ r. r .before) (List·getD-eq-default (segmentTable t s) (segmentOf None 0 1 A) (ltb-false k segments p)) in
-          omega (arith, none)
-
   pub at-most : s .row < t .size → hypothesisCount t s ≤ 7 * t .size
   unfolding hypothesesTo countBelow
-  at-most h = omega (arith, sum-at-most (segmentCount t s) (t .size) (λ k. omega (arith, count-at-most (inSegment t s k) (end k), end-within h k)) segments)
+  at-most h = omega (arith, sum-at-most (segmentCount t s) (t .size) (λ k. omega (arith, count-at-most (inSegment t s k) (end t s k), end-within t s h k)) segments)
 
   segment-length : (k : ℕ) → length (segment t s k) ≡ segmentCount t s k
-  segment-length k = length-map (keep (inSegment t s k) (numbers (end k) 0)) (segmentEntry t s k) ∙ keep-length (inSegment t s k) (end k)
+  segment-length k = length-map (keep (inSegment t s k) (numbers (end t s k) 0)) (segmentEntry t s k) ∙ keep-length (inSegment t s k) (end t s k)
 
   pub walk-length : length (hypothesisWalk t s) ≡ hypothesisCount t s
   unfolding hypothesisWalk hypothesesTo countBelow
   walk-length = flat-length (segment t s) segments ∙ sum-same _ (segmentCount t s) segments (λ k h. segment-length k) ∙ omega arith
 
   -- a row that passes holds the hypothesis behind those that stand before it
-  module _ (k j : ℕ) (hk : k < segments) (hj : j < end k) (p : inSegment t s k j ≡ true) where
+  module _ (k j : ℕ) (hk : k < segments) (hj : j < end t s k) (p : inSegment t s k j ≡ true) where
     inside : countBelow (inSegment t s k) j < segmentCount t s k
-    inside = count-passes (inSegment t s k) (end k) j hj p
+    inside = count-passes (inSegment t s k) (end t s k) j hj p
 
     pub reached : hypothesesTo t s k j < hypothesisCount t s
     unfolding hypothesesTo
@@ -88,25 +65,25 @@ module _ (t : Rows) (s : Slot) where
     unfolding hypothesisWalk hypothesesTo
     held d =
         flat-at (segment t s) (segmentCount t s) segments (λ k h. segment-length k) k (countBelow (inSegment t s k) j) d hk inside
-        ∙ kept-at (inSegment t s k) (segmentEntry t s k) (end k) j d hj p
+        ∙ kept-at (inSegment t s k) (segmentEntry t s k) (end t s k) j d hj p
 
   -- a walk over the rows of a segment
   module _ {c : Cursor} {r : Sought} (st : Stands t s c) (h : c .segment < segments)
-      (p : Passed (countAt t (segmentAt t s (c .segment) .rows) One) (end (c .segment)) (soughtIn c) r) where
+      (p : Passed (countAt t (segmentAt t s (c .segment) .rows) One) (end t s (c .segment)) (soughtIn c) r) where
     pub passed-same : hypothesesTo t s (c .segment) (r .row) + r .left ≡ hypothesesBefore t s c + c .left
     unfolding hypothesesTo
     passed-same =
         let rows = segmentAt t s (c .segment) .rows in omega (arith, p .place, ones-counted t rows (r .row), ones-counted t rows (c .row))
 
-    pub passed-found : {n : Cursor} → r .row < end (c .segment) → n ≡ cursorAt (c .segment) (r .row) (r .left) → Stands t s n × OnEntry t s n
+    pub passed-found : {n : Cursor} → r .row < end t s (c .segment) → n ≡ cursorAt (c .segment) (r .row) (r .left) → Stands t s n × OnEntry t s n
     passed-found l q =
         let f = counted-one t (segmentAt t s (c .segment) .rows) (r .row) (r .left) (p .found l) in
         subst (λ n. Stands t s n × OnEntry t s n) (sym q) (record { segment = st .segment; row = p .within }, record { row = l; passes = f .0; left = f .1 })
 
-    pub passed-next : {n : Cursor} → end (c .segment) ≤ r .row → n ≡ cursorAt (c .segment + 1) 0 (r .left)
+    pub passed-next : {n : Cursor} → end t s (c .segment) ≤ r .row → n ≡ cursorAt (c .segment + 1) 0 (r .left)
         → Stands t s n × (hypothesesBefore t s n + n .left ≡ hypothesesBefore t s c + c .left)
     passed-next l q =
-        let last : end (c .segment) ≡ r .row = omega (arith, p .within) in
+        let last : end t s (c .segment) ≡ r .row = omega (arith, p .within) in
         subst (λ n. Stands t s n × (hypothesesBefore t s n + n .left ≡ hypothesesBefore t s c + c .left)) (sym q) (
           record { segment = omega arith; row = omega arith },
           ap (λ m. m + r .left) (hypotheses-segment (c .segment) ∙ ap (hypothesesTo t s (c .segment)) last) ∙ passed-same,
@@ -124,7 +101,7 @@ module _ (t : Rows) (s : Slot) where
   unfolding segmentAt
   all-before {c} st h =
       let p : c .segment ≡ segments = omega (arith, st .segment) in
-      let q : c .row ≡ 0 = omega (arith, st .row, ap (λ k. end k) p) in
+      let q : c .row ≡ 0 = omega (arith, st .row, ap (λ k. end t s k) p) in
       ap₂ (hypothesesTo t s) p q
 
 -- what a walk from the start comes to, with k hypotheses to pass

@@ -16,8 +16,9 @@ use Rattle.table.specs.Rows.{Rows}
 use Rattle.reply.proofs.Printed.{rows-length, rows-join}
 use Rattle.reply.specs.Printed.{entryRow, rowsBytes}
 use Rattle.walk.specs.declared.Slot.{Slot}
+use Rattle.segments.specs.Segments.{segments, segmentEntry, hypothesisWalk}
 use Rattle.entries.specs.declared.Cursor.{Cursor}
-use Rattle.entries.specs.Segments.{segments, segmentEntry, hypothesisWalk, goalAt, hypothesisCount}
+use Rattle.entries.specs.Sequent.{goalAt, hypothesisCount}
 use Rattle.entries.specs.Seek.{cursorAt, Stands, hypothesesBefore, OnEntry, SoughtEntry}
 use Rattle.entries.specs.Written.{hypothesisRows, entryRows}
 use Rattle.entries.proofs.Seek.{walk-length, reached, held, none-before, one-more, all-before}

@@ -1,3 +1,3 @@
 pub mod Seek
-pub mod Segments
+pub mod Sequent
 pub mod Written

@@ -6,8 +6,9 @@ use lib.ListN.{getD}
 use Rattle.table.specs.Rows.{Rows}
 use Rattle.sequent.specs.Entry.{Entry}
 use Rattle.walk.specs.declared.Slot.{Slot}
+use Rattle.segments.specs.Segments.{segments, segmentAt, inSegment, hypothesisWalk}
 use Rattle.entries.specs.declared.Cursor.{Cursor}
-use Rattle.entries.specs.Segments.{segments, segmentAt, inSegment, hypothesisWalk, goalAt, hypothesesTo}
+use Rattle.entries.specs.Sequent.{goalAt, hypothesesTo}
 
 abbrev pub cursorAt : ℕ → ℕ → ℕ → Cursor
 cursorAt k j left = record { segment = k; row = j; left = left }

@@ -7,7 +7,8 @@ use Rattle.sequent.specs.declared.Entry.{Entry as Numbers}
 use Rattle.walk.specs.declared.Slot.{Slot}
 use Rattle.reply.specs.Row.{row}
 use Rattle.reply.specs.Printed.{entryRow}
-use Rattle.entries.specs.Segments.{hypothesisWalk, goalAt}
+use Rattle.segments.specs.Segments.{hypothesisWalk}
+use Rattle.entries.specs.Sequent.{goalAt}
 
 -- the row of an entry as the code holds it
 abbrev pub numbersRow : ℕ → Numbers → Row

@@ -29,8 +29,8 @@ use Rattle.walk.specs.Slots.{slotAt, slotCount}
 use Rattle.walk.proofs.Kept.{kept-count}
 use Rattle.walk.proofs.Find.{keptSlot, keptGroup, keptEvent, kept-walked, counted-made, walk-count}
 use Rattle.walk.proofs.Counts.{count-small}
-use Rattle.entries.specs.Segments.{segments}
-use Rattle.entries.proofs.Segments.{slot-segmented}
+use Rattle.segments.specs.Segments.{segments}
+use Rattle.entries.proofs.Sequent.{slot-segmented}
 use Rattle.entries.proofs.Seek.{at-most}
 use Rattle.verdict.proofs.Filled.{accepted-words}
 use Rattle.reply.specs.Row.{row}

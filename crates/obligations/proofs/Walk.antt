@@ -19,7 +19,7 @@ use Rattle.walk.specs.declared.Slot.{Slot}
 use Rattle.walk.specs.Slots.{slotAt, Within, AtEnd, Holds, InWalk, position, SoughtSlot}
 use Rattle.walk.proofs.Find.{walk-count, slot-at-most}
 use Rattle.walk.proofs.Counts.{start-within, start-position, passed-end}
-use Rattle.entries.specs.Segments.{hypothesisCount}
+use Rattle.entries.specs.Sequent.{hypothesisCount}
 use Rattle.verdict.proofs.Filled.{accepted-words}
 use Rattle.reply.specs.Printed.{sequentRows, rowsBytes}
 use Rattle.reply.specs.Replies.{sequentBytes}

@@ -3,7 +3,7 @@ use Prim.Native.Nat.{ℕ, _+_, _*_, _≤_}
 use mathlib.Core.List.{List}
 use lib.ListN.{length, take}
 use Rattle.row.specs.Row.{width, rowLength}
-use Rattle.entries.specs.Segments.{segments}
+use Rattle.segments.specs.Segments.{segments}
 use Rattle.obligations.specs.declared.Batch.{Batch}
 use Rattle.obligations.specs.Output.{StandsAt}
 

@@ -8,7 +8,7 @@ use Rattle.machine.specs.Described.{machineOf}
 use Rattle.walk.specs.declared.Slot.{Slot}
 use Rattle.reply.specs.Printed.{sequentRows, rowsBytes}
 use Rattle.reply.specs.Replies.{output}
-use Rattle.entries.specs.Segments.{slotSequent}
+use Rattle.entries.specs.Sequent.{slotSequent}
 
 -- the part stands in the output for these bytes, from this place on
 pub record StandsAt (bytes : List ℕ) (at : ℕ) (part : List ℕ) : Type 0 where

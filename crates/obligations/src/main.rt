@@ -1,7 +1,6 @@
 // 01, Sequents: "A program reads a table from standard input and prints all sequents, or one row 89 (refusal, row, 0)."
 mod output;
 
-use entries::Segment;
 use libc::STDIN_FILENO;
 use nodes::fill_notes;
 use output::Printer;
@@ -9,6 +8,7 @@ use reply::tags;
 use row::Row;
 use rules::Verdict;
 use scan::Span;
+use segments::Segment;
 use services::write_slot;
 use table::Table;
 use verdict::Loaded;

@@ -18,8 +18,8 @@ use Rattle.walk.specs.declared.Slot.{Slot}
 use Rattle.walk.specs.Slots.{slotAt, position, SoughtSlot}
 use Rattle.walk.proofs.Find.{walk-count, found}
 use Rattle.walk.proofs.Counts.{start-position, passed-end}
-use Rattle.entries.specs.Segments.{slotSequent}
-use Rattle.entries.proofs.Segments.{slot-segmented}
+use Rattle.entries.specs.Sequent.{slotSequent}
+use Rattle.entries.proofs.Sequent.{slot-segmented}
 use Rattle.services.specs.Found.{Located}
 
 abbrev noSequent : Sequent

@@ -24,7 +24,8 @@ use Rattle.reply.specs.Printed.{entryRow, identifiersIn, mentionedRow, sequentR
 use Rattle.reply.proofs.Mentioned.{identifiers-spelled, goal-identifiers}
 use Rattle.reply.specs.Spelled.{spell}
 use Rattle.reply.specs.Replies.{refused, writeRows, among, entries, spellAt}
-use Rattle.entries.specs.Segments.{hypothesisWalk, goalAt, slotSequent, hypothesisCount}
+use Rattle.segments.specs.Segments.{hypothesisWalk}
+use Rattle.entries.specs.Sequent.{goalAt, slotSequent, hypothesisCount}
 use Rattle.entries.specs.Seek.{entryAt}
 use Rattle.entries.specs.Written.{hypothesisRows, entryRows}
 use Rattle.entries.proofs.Seek.{walk-length}

@@ -14,7 +14,7 @@ use Rattle.rules.specs.Verdict.{Passes}
 use Rattle.row.specs.declared.Row.{Row}
 use Rattle.walk.specs.declared.Slot.{Slot}
 use Rattle.walk.specs.Headers.{headerKind, headerItem}
-use Rattle.entries.specs.Segments.{goalAt, slotSequent}
+use Rattle.entries.specs.Sequent.{goalAt, slotSequent}
 use Rattle.entries.specs.Written.{entryRows}
 use Rattle.reply.specs.declared.Reply.{Reply}
 use Rattle.reply.specs.Row.{row}

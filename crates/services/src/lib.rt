@@ -31,7 +31,7 @@ ghost use Rattle.table.specs.Counts.{countsOf};
 ghost use Rattle.nodes.specs.Notes.{Noted};
 ghost use Rattle.machine.specs.Described.{machineOf};
 ghost use Rattle.sequent.specs.Listed.{sequents};
-ghost use Rattle.entries.specs.Segments.{slotSequent, hypothesisCount};
+ghost use Rattle.entries.specs.Sequent.{slotSequent, hypothesisCount};
 ghost use Rattle.rules.specs.declared.Verdict.the-variants.{Accepted};
 ghost use Rattle.rules.specs.Verdict.{Passes, judge as judgeOf, verdict as verdictOf};
 ghost use Rattle.rules.specs.Offence.{machine};

@@ -3,7 +3,8 @@ use mathlib.Core.Path.{sym, ap, _∙_}
 use native.Mathlib.Omega.{arith}
 use Rattle.table.specs.Rows.{rowsOf}
 use Rattle.sequent.specs.Numbers.{numbersOf}
-use Rattle.entries.proofs.Seek.{end-within, start-stands, hypothesis-found, goal-found}
+use Rattle.segments.proofs.Tables.{end-within}
+use Rattle.entries.proofs.Seek.{start-stands, hypothesis-found, goal-found}
 use borrow.Author.Needs.{needs}
 use Rattle.entries.proofs.entry_at.Statement.{statement}
 use Rattle.entries.proofs.entry_at.Tie as tie

@@ -2,7 +2,7 @@
 use mathlib.Core.Path.{ap₂, _∙_}
 use Rattle.table.specs.Rows.{rowsOf}
 use Rattle.sequent.specs.Numbers.{numbersOf}
-use Rattle.entries.specs.Segments.{goalOf}
+use Rattle.segments.specs.Segments.{goalOf}
 use borrow.Author.Needs.{needs}
 use Rattle.entries.proofs.goal_at.Statement.{statement}
 use Rattle.entries.proofs.goal_at.Tie as tie

@@ -6,9 +6,10 @@ use Rattle.table.specs.Rows.{rowsOf}
 use Rattle.select.specs.declared.Each.the-variants.{One}
 use Rattle.select.specs.Each.{countAt}
 use Rattle.select.specs.Sought.{Passed}
-use Rattle.entries.specs.Segments.{segments}
+use Rattle.segments.specs.Segments.{segments}
+use Rattle.segments.proofs.Tables.{end, end-within}
 use Rattle.entries.specs.Seek.{Stands, hypothesesBefore}
-use Rattle.entries.proofs.Seek.{soughtIn, end, end-within, passed-same, passed-found, passed-next}
+use Rattle.entries.proofs.Seek.{soughtIn, passed-same, passed-found, passed-next}
 use borrow.Author.Needs.{needs}
 use Rattle.entries.proofs.seek_entry.Statement.{statement}
 use Rattle.entries.proofs.seek_entry.Tie as tie

@@ -4,10 +4,11 @@ use mathlib.Core.Path.{ap, _∙_}
 use native.Mathlib.Omega.{arith}
 use lib.ListN.{length-take, length-drop}
 use Rattle.table.specs.Rows.{rowsOf}
-use Rattle.entries.specs.Segments.{hypothesisCount}
+use Rattle.segments.proofs.Tables.{end-within}
+use Rattle.entries.specs.Sequent.{hypothesisCount}
 use Rattle.entries.specs.Seek.{hypothesesBefore}
 use Rattle.entries.specs.Written.{numbersRow}
-use Rattle.entries.proofs.Seek.{end-within, start-stands, passing-stands}
+use Rattle.entries.proofs.Seek.{start-stands, passing-stands}
 use Rattle.entries.proofs.Written.{Progress, progress-start, progress-end, progress-length, room, fewer, progress-next}
 use borrow.Author.Needs.{needs}
 use Rattle.entries.proofs.write_hypotheses.Statement.{statement}

@@ -4,7 +4,7 @@ use Rattle.table.specs.Rows.{rowsOf}
 use Rattle.machine.specs.Described.{machineOf}
 use Rattle.services.specs.Found.{serveAt}
 use borrow.Author.Needs.{needs}
-use Rattle.entries.specs.Segments.{slotSequent}
+use Rattle.entries.specs.Sequent.{slotSequent}
 use Rattle.services.proofs.serve_found.Statement.{statement}
 use Rattle.services.proofs.serve_found.Tie as tie
 

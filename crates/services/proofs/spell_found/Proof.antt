@@ -13,7 +13,7 @@ use Rattle.services.specs.Found.{outcome}
 use Rattle.services.proofs.Slots.{no-entry, an-entry, spelled-entry, among-low, among-high, not-true, not-false, no-room, room}
 use borrow.Author.Needs.{needs}
 use Prim.Native.Nat.{_-_, _≤_}
-use Rattle.entries.specs.Segments.{hypothesisCount}
+use Rattle.entries.specs.Sequent.{hypothesisCount}
 use Rattle.services.proofs.spell_found.Statement.{statement}
 use Rattle.services.proofs.spell_found.Tie as tie
 

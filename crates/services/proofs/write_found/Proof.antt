@@ -7,7 +7,7 @@ use Rattle.table.specs.Rows.{rowsOf}
 use Rattle.machine.specs.Described.{machineOf}
 use Rattle.reply.specs.declared.Reply.the-variants as reply
 use Rattle.reply.specs.Printed.{sequentRows}
-use Rattle.entries.specs.Segments.{slotSequent}
+use Rattle.entries.specs.Sequent.{slotSequent}
 use Rattle.entries.proofs.Seek.{at-most}
 use Rattle.services.specs.Found.{outcome}
 use Rattle.services.proofs.Slots.{rows-count, no-room, room}
