@@ -1,4 +1,6 @@
 // 02, request 6: "Press an event, or only look", on the values and the types of a state: two slices of numbers.
+use after::complete_values;
+use after::update_values;
 use bench::Press;
 use judge::press_fault;
 use log::Replay;
@@ -9,11 +11,9 @@ use row::Read;
 use rules::Verdict;
 use scan::Span;
 use scan::lesser;
-use state::complete_values;
 use state::copy_sorts;
 use state::copy_values;
 use state::is_state;
-use state::update_values;
 use table::Table;
 use values::Reached;
 use values::is_step_row;

@@ -1,4 +1,2 @@
 pub mod Laid
 pub mod Right
-pub mod Completed
-pub mod Updated

@@ -11,7 +11,7 @@ use Rattle.values.specs.Values.{valuesOf}
 use Rattle.bench.specs.Choice.{choice}
 use Rattle.bench.specs.Press.{pressChoice}
 use Rattle.bench.proofs.State.{laid-size}
-use Rattle.state.proofs.Updated.{placed-is}
+use Rattle.after.proofs.Updated.{placed-is}
 use Rattle.press.proofs.Press.{as-answers}
 use Rattle.press.proofs.press_values.Statement.{statement}
 use Rattle.press.proofs.press_values.Tie as tie

@@ -10,9 +10,9 @@ use Rattle.machine.specs.Described.{treeOf, machineOf}
 use Rattle.signed.proofs.Numbers.{seen-is}
 use Rattle.values.specs.Values.{valuesOf}
 use Rattle.bench.specs.Press.{answered}
-use Rattle.state.proofs.Completed.{unassigned-after, equal-after, such-after}
-use Rattle.state.proofs.after_by.Statement.{statement}
-use Rattle.state.proofs.after_by.Tie as tie
+use Rattle.after.proofs.Completed.{unassigned-after, equal-after, such-after}
+use Rattle.after.proofs.after_by.Statement.{statement}
+use Rattle.after.proofs.after_by.Tie as tie
 
 pub after-by-spec : {M : Type 1} → statement M
 after-by-spec = tie.close (tie.spec

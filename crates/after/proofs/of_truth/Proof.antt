@@ -2,8 +2,8 @@
 use mathlib.Core.Path.{sym, ap}
 use lib.IntN.{pos}
 use Rattle.lists.specs.Below.{oneIf}
-use Rattle.state.proofs.of_truth.Statement.{statement}
-use Rattle.state.proofs.of_truth.Tie as tie
+use Rattle.after.proofs.of_truth.Statement.{statement}
+use Rattle.after.proofs.of_truth.Tie as tie
 
 pub of-truth-spec : {M : Type 1} → statement M
 of-truth-spec = tie.close (tie.spec

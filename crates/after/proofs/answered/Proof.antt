@@ -4,8 +4,8 @@ use borrow.Author.Needs.{needs}
 use Rattle.signed.specs.Found.{answerOf}
 use Rattle.signed.proofs.Numbers.{seen-is}
 use Rattle.bench.specs.Press.{answered}
-use Rattle.state.proofs.answered.Statement.{statement}
-use Rattle.state.proofs.answered.Tie as tie
+use Rattle.after.proofs.answered.Statement.{statement}
+use Rattle.after.proofs.answered.Tie as tie
 
 pub answered-spec : {M : Type 1} → statement M
 answered-spec = tie.close (tie.spec

@@ -7,9 +7,9 @@ use borrow.Author.Needs.{needs}
 use Prim.Native.Nat.{suc}
 use Rattle.table.specs.Rows.{rowsOf}
 use Rattle.bench.proofs.State.{laid-size}
-use Rattle.state.proofs.Updated.{placed-is, updated-is}
-use Rattle.state.proofs.update_values.Statement.{statement}
-use Rattle.state.proofs.update_values.Tie as tie
+use Rattle.after.proofs.Updated.{placed-is, updated-is}
+use Rattle.after.proofs.update_values.Statement.{statement}
+use Rattle.after.proofs.update_values.Tie as tie
 
 pub update-values-spec : {M : Type 1} → statement M
 update-values-spec = tie.close (tie.spec

@@ -11,8 +11,8 @@ use Rattle.signed.specs.Found.{answerOf}
 use Rattle.signed.proofs.Answers.{answer-found}
 use Rattle.signed.proofs.Numbers.{seen-is}
 use Rattle.bench.specs.Press.{answered}
-use Rattle.state.proofs.equal_after.Statement.{statement}
-use Rattle.state.proofs.equal_after.Tie as tie
+use Rattle.after.proofs.equal_after.Statement.{statement}
+use Rattle.after.proofs.equal_after.Tie as tie
 
 pub equal-after-spec : {M : Type 1} → statement M
 equal-after-spec = tie.close (tie.spec

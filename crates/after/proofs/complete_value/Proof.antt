@@ -8,8 +8,8 @@ use Rattle.machine.specs.Described.{machineOf}
 use Rattle.signed.proofs.Numbers.{seen-is}
 use Rattle.values.specs.Values.{valuesOf}
 use Rattle.bench.specs.Press.{afterBy}
-use Rattle.state.proofs.complete_value.Statement.{statement}
-use Rattle.state.proofs.complete_value.Tie as tie
+use Rattle.after.proofs.complete_value.Statement.{statement}
+use Rattle.after.proofs.complete_value.Tie as tie
 
 pub complete-value-spec : {M : Type 1} → statement M
 complete-value-spec = tie.close (tie.spec

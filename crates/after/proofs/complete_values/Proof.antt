@@ -9,9 +9,9 @@ use Rattle.table.proofs.Counts.{counts-identifiers}
 use Rattle.values.specs.Values.{valuesOf}
 use Rattle.values.proofs.Moving.{variablesFrom}
 use Rattle.bench.specs.Press.{complete, completed}
-use Rattle.state.proofs.Completed.{complete-start, complete-next, complete-end}
-use Rattle.state.proofs.complete_values.Statement.{statement}
-use Rattle.state.proofs.complete_values.Tie as tie
+use Rattle.after.proofs.Completed.{complete-start, complete-next, complete-end}
+use Rattle.after.proofs.complete_values.Statement.{statement}
+use Rattle.after.proofs.complete_values.Tie as tie
 
 abbrev Inv-loop : tie.InvT-loop
 Inv-loop words table spans e present after₀ x₀ after x =
