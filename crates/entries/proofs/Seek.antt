@@ -1,6 +1,6 @@
 -- Where the k-th hypothesis of a slot comes from: `hypothesesTo` is how many stand before a row of a segment. A step of the walk, over the rows of a segment and then
 -- to the next, loses none; so the walk from a place comes to the hypothesis that is sought, or to the end where there are fewer.
-use Prim.Native.Nat.{ℕ, _+_, _-_, _*_, _≤_, _<_}
+use Prim.Native.Nat.{ℕ, _+_, _*_, _≤_, _<_}
 use mathlib.Core.Path.{_≡_, refl, sym, ap, ap₂, subst, _∙_}
 use mathlib.Core.Bool.{Bool, true, false}
 use native.Mathlib.Omega.{arith}

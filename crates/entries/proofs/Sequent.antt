@@ -28,7 +28,7 @@ use Rattle.rules.proofs.Obeys.{Obeys}
 use Rattle.select.specs.Each.{divisions}
 use Rattle.sequent.specs.Required.{ownVariables}
 use Rattle.select.specs.Selection.{rowOfEvent, parameterWitness, identifierAt}
-use Rattle.groups.specs.Events.{isAbstract, isInitial, isNew, ownKind}
+use Rattle.events.specs.Events.{isAbstract, isInitial, isNew, ownKind}
 use Rattle.groups.specs.Groups.{groups, groupAt, witnessGroup}
 use Rattle.walk.specs.Headers.{isWFIS, headerKind, headerItem}
 use Rattle.walk.specs.Slots.{slotAt, slotCount}

@@ -17,7 +17,7 @@ use Rattle.select.specs.declared.Each.{Each}
 use Rattle.select.specs.declared.Each.the-variants.{One, Defined, Witness, Touched}
 use Rattle.sequent.specs.Sequent.{WD, INV, FIS, GRD, SIM, NAT, VAR}
 use Rattle.groups.specs.declared.Group.{Group}
-use Rattle.groups.specs.Events.{isRefining, isMatched, isConvergent, isNew, keepsAll, ownKind, ownInvariantTag}
+use Rattle.events.specs.Events.{isRefining, isMatched, isConvergent, isNew, keepsAll, ownKind, ownInvariantTag}
 
 -- the groups by number
 abbrev pub axiomGroup : ℕ

@@ -13,7 +13,7 @@ use Rattle.select.specs.declared.Selection.{Selection}
 use Rattle.select.specs.declared.Selection.the-variants.{Tagged, OfEvent, ForParameters, Identifiers, Variables}
 use Rattle.select.specs.Selection.{rowOfEvent, parameterWitness, identifierAt, variableAt, selects}
 use Rattle.walk.specs.declared.Slot.{Slot}
-use Rattle.groups.specs.Events.{ownKind}
+use Rattle.events.specs.Events.{ownKind}
 use Rattle.groups.specs.Groups.{when, axiomGroup, abstractInvariantGroup, concreteInvariantGroup, guardGroup, grdGroup}
 use Rattle.segments.specs.Segments.{upTo, ofNone, hasAbstract, hasConcrete, hasMoves, hasWitnesses, hasAbstractMoves}
 use Rattle.segments.specs.Segments.{segmentAt, segmentEntry, segment, hypothesisWalk}

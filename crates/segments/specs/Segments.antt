@@ -18,7 +18,7 @@ use Rattle.select.specs.Selection.{selects}
 use Rattle.select.specs.declared.Item.{Item}
 use Rattle.select.specs.declared.Item.the-variants.{A, B, C, Identifier}
 use Rattle.walk.specs.declared.Slot.{Slot}
-use Rattle.groups.specs.Events.{isAbstract, isInitial, isConvergent, isNew, matchedBy, ownKind}
+use Rattle.events.specs.Events.{isAbstract, isInitial, isConvergent, isNew, matchedBy, ownKind}
 use Rattle.groups.specs.Groups.{axiomGroup, abstractInvariantGroup, concreteInvariantGroup, guardGroup, witnessGroup, grdGroup, simGroup, invGroup, varGroup}
 use Rattle.select.specs.Each.{itemAt}
 use Rattle.groups.specs.Groups.{when}

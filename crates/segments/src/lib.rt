@@ -1,11 +1,11 @@
 // 01, Sequents, columns "hypotheses" and "goal": which hypotheses a slot's sequents have, as a table of segments, and which goal, by kind.
+use events::is_abstract;
+use events::is_convergent;
+use events::is_initial;
+use events::is_new;
+use events::matched_by;
+use events::own_kind;
 use groups::Group;
-use groups::is_abstract;
-use groups::is_convergent;
-use groups::is_initial;
-use groups::is_new;
-use groups::matched_by;
-use groups::own_kind;
 use groups::when;
 use select::Item;
 use select::Selection;

@@ -1,6 +1,6 @@
 -- Where the k-th sequent comes from: `walkTo` is how many sequents the slots before a slot have, and a slot holds the sequents from there on, as many as it
 -- counts. A loop over the slots that takes `slotCount` from k until k is less keeps `walkTo` + what is left of k equal to k, by the steps below.
-use Prim.Native.Nat.{ℕ, _+_, _-_, _*_, _≤_, _<_}
+use Prim.Native.Nat.{ℕ, _+_, _*_, _≤_, _<_}
 use mathlib.Core.Path.{_≡_, refl, sym, ap, _∙_}
 use mathlib.Core.Bool.{Bool, true, false}
 use mathlib.Core.List.{List, [], flatMap}

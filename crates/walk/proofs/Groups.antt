@@ -30,7 +30,7 @@ use Rattle.sequent.proofs.Parts.{guardWDs, actionWDs, actionFISs, ofWitnesses, 
 use Rattle.select.specs.declared.Selection.{Selection}
 use Rattle.select.specs.declared.Selection.the-variants.{None, Tagged, OfEvent, Identifiers, Variables, Assigned, SuchThat}
 use Rattle.select.specs.Selection.{rowOfEvent, identifierAt, variableAt, actionRow, isAssigned, becomesSuch, selects}
-use Rattle.groups.specs.Events.{isAbstract, isRefining, isMatched, isConvergent, isNew, matchedBy, ownKind, ownInvariantTag}
+use Rattle.events.specs.Events.{isAbstract, isRefining, isMatched, isConvergent, isNew, matchedBy, ownKind, ownInvariantTag}
 use Rattle.groups.specs.Groups.{when, ofEvent, simulatedRows, groupAt, groupRows, axiomGroup, abstractInvariantGroup, concreteInvariantGroup, variantGroup}
 use Rattle.groups.specs.Groups.{guardGroup, actionGroup, fisGroup, witnessGroup, grdGroup, simGroup, invGroup, natGroup, varGroup}
 

@@ -38,7 +38,7 @@ use Rattle.select.specs.declared.Each.the-variants.{One, Touched}
 use Rattle.select.specs.Selection.{variableAt, actionRow, isAssigned, selects}
 use Rattle.select.specs.Each.{divisions, weight, countAt}
 use Rattle.select.proofs.Selected.{left-true}
-use Rattle.groups.specs.Events.{isAbstract, isInitial, isRefining, isNew, isConvergent, matchedBy, ownKind, ownInvariantTag}
+use Rattle.events.specs.Events.{isAbstract, isInitial, isRefining, isNew, isConvergent, matchedBy, ownKind, ownInvariantTag}
 use Rattle.groups.specs.Groups.{groups, witnessGroup, groupAt, groupRows, invariantEach}
 use Rattle.groups.proofs.Groups.{no-group}
 use Rattle.walk.specs.Slots.{slotCount}

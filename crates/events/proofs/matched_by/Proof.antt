@@ -1,8 +1,8 @@
 -- By whether it is an initialisation.
 use mathlib.Core.Path.{sym, _∙_}
 use borrow.Author.Needs.{needs}
-use Rattle.groups.proofs.matched_by.Statement.{statement}
-use Rattle.groups.proofs.matched_by.Tie as tie
+use Rattle.events.proofs.matched_by.Statement.{statement}
+use Rattle.events.proofs.matched_by.Tie as tie
 
 pub matched-by-spec : {M : Type 1} → statement M
 matched-by-spec = tie.close (tie.spec

@@ -1,7 +1,7 @@
 -- Machine and class are the event's.
 use borrow.Author.Needs.{needs}
-use Rattle.groups.proofs.is_refining.Statement.{statement}
-use Rattle.groups.proofs.is_refining.Tie as tie
+use Rattle.events.proofs.is_refining.Statement.{statement}
+use Rattle.events.proofs.is_refining.Tie as tie
 
 pub is-refining-spec : {M : Type 1} → statement M
 is-refining-spec = tie.close (tie.spec

@@ -1,7 +1,7 @@
 -- Machine and class are the event's.
 use borrow.Author.Needs.{needs}
-use Rattle.groups.proofs.is_convergent.Statement.{statement}
-use Rattle.groups.proofs.is_convergent.Tie as tie
+use Rattle.events.proofs.is_convergent.Statement.{statement}
+use Rattle.events.proofs.is_convergent.Tie as tie
 
 pub is-convergent-spec : {M : Type 1} → statement M
 is-convergent-spec = tie.close (tie.spec

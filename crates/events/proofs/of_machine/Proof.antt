@@ -1,8 +1,8 @@
 -- By the event's machine.
 use mathlib.Core.Path.{sym, _∙_}
 use borrow.Author.Needs.{needs}
-use Rattle.groups.proofs.of_machine.Statement.{statement}
-use Rattle.groups.proofs.of_machine.Tie as tie
+use Rattle.events.proofs.of_machine.Statement.{statement}
+use Rattle.events.proofs.of_machine.Tie as tie
 
 pub of-machine-spec : {M : Type 1} → statement M
 of-machine-spec = tie.close (tie.spec

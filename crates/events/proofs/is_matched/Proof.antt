@@ -1,7 +1,7 @@
 -- Machine and class are the event's.
 use borrow.Author.Needs.{needs}
-use Rattle.groups.proofs.is_matched.Statement.{statement}
-use Rattle.groups.proofs.is_matched.Tie as tie
+use Rattle.events.proofs.is_matched.Statement.{statement}
+use Rattle.events.proofs.is_matched.Tie as tie
 
 pub is-matched-spec : {M : Type 1} → statement M
 is-matched-spec = tie.close (tie.spec

@@ -1,7 +1,7 @@
 -- Machine and class are the event's.
 use borrow.Author.Needs.{needs}
-use Rattle.groups.proofs.is_new.Statement.{statement}
-use Rattle.groups.proofs.is_new.Tie as tie
+use Rattle.events.proofs.is_new.Statement.{statement}
+use Rattle.events.proofs.is_new.Tie as tie
 
 pub is-new-spec : {M : Type 1} → statement M
 is-new-spec = tie.close (tie.spec

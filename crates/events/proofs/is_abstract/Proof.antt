@@ -2,8 +2,8 @@
 use mathlib.Core.Path.{ap}
 use lib.Dec.{eqb}
 use borrow.Author.Needs.{needs}
-use Rattle.groups.proofs.is_abstract.Statement.{statement}
-use Rattle.groups.proofs.is_abstract.Tie as tie
+use Rattle.events.proofs.is_abstract.Statement.{statement}
+use Rattle.events.proofs.is_abstract.Tie as tie
 
 pub is-abstract-spec : {M : Type 1} → statement M
 is-abstract-spec = tie.close (tie.spec

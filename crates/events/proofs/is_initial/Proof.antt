@@ -2,8 +2,8 @@
 use mathlib.Core.Path.{ap}
 use lib.Dec.{eqb}
 use borrow.Author.Needs.{needs}
-use Rattle.groups.proofs.is_initial.Statement.{statement}
-use Rattle.groups.proofs.is_initial.Tie as tie
+use Rattle.events.proofs.is_initial.Statement.{statement}
+use Rattle.events.proofs.is_initial.Tie as tie
 
 pub is-initial-spec : {M : Type 1} → statement M
 is-initial-spec = tie.close (tie.spec

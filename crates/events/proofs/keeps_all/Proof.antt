@@ -1,7 +1,7 @@
 -- Both tests are the event's.
 use borrow.Author.Needs.{needs}
-use Rattle.groups.proofs.keeps_all.Statement.{statement}
-use Rattle.groups.proofs.keeps_all.Tie as tie
+use Rattle.events.proofs.keeps_all.Statement.{statement}
+use Rattle.events.proofs.keeps_all.Tie as tie
 
 pub keeps-all-spec : {M : Type 1} → statement M
 keeps-all-spec = tie.close (tie.spec
