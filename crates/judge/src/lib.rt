@@ -4,6 +4,7 @@ use evaluate::evaluate_expression;
 use evaluate::evaluate_predicate;
 use evaluate::stored_value;
 use evaluate::value_at;
+use events::is_initial;
 use log::Replay;
 use operands::equal_values;
 use scan::action_row;
@@ -13,8 +14,6 @@ use table::Table;
 use table::a_at;
 use table::b_at;
 use table::c_at;
-use table::event;
-use table::event_field;
 use table::identifier;
 use table::identifier_field;
 use table::is_variable_of;
@@ -215,8 +214,7 @@ fn axiom_fault(words: &[u64], table: Table, spans: &[usize], present: &[i64], e:
     requires { ⌜ (table ≡ countsOf (rowsOf (now words))) × Spanned (rowsOf (now words)) (now spans) ⌝ }
     ensures { λ r. ⌜ r ≡ pick (isInitial (rowsOf (now (words .entry))) e) (firstUntrue (rowsOf (now (words .entry))) (now (present .entry)) 30 e) 0 ⌝ }
 {
-    let class = event_field(words, table, e, Table::CLASS);
-    if class == event::INITIALISATION {
+    if is_initial(words, table, e) {
         return first_untrue(words, table, spans, present, tag::AXIOM, e);
     }
     0

@@ -1,6 +1,7 @@
 // 02, request 5: the rows of a step: row 90, and its values, "rows 91 (identifier, value; booleans 0 or 1) .. in identifier order", read from a run and stored by
 // identifier.
 use evaluate::value_at;
+use events::is_initial;
 use log::tags;
 use reader::next_row;
 use row::Place;
@@ -56,14 +57,6 @@ pub fn put(values: &mut [i64], x: u64, value: i64)
     if i < values.len() {
         values[i] = value;
     }
-}
-
-// Whether an event is an initialisation.
-fn is_initial(words: &[u64], table: Table, e: u64) -> bool
-    requires { ⌜ table ≡ countsOf (rowsOf (now words)) ⌝ }
-    ensures { λ r. ⌜ r ≡ isInitial (rowsOf (now (words .entry))) e ⌝ }
-{
-    event_field(words, table, e, Table::CLASS) == event::INITIALISATION
 }
 
 // Whether a row is the row 90 of a step: the concrete initialisation first, then concrete events that are none.
