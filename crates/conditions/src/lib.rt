@@ -4,7 +4,7 @@ ghost use mathlib.Core.Path.{_≡_};
 ghost use Rattle.machine.specs.Operator.{operatorNumbered};
 ghost use Rattle.conditions.specs.Condition.{conditionOf};
 
-// What an operator adds to that of its operands: nothing; "¬(b = 0)"; that the right side's is asked only where the left is true, or
+// What an operator adds to the well-definedness of its operands: nothing; "¬(b = 0)"; that the right side's is asked only where the left is true, or
 // only where it is false.
 pub enum Condition {
     Nothing,

@@ -1,5 +1,5 @@
 -- A test that every row of the operators' table passes, which is computed, and a row for an unknown number too, is passed by the row that a number names;
--- and that row has the number, or none has it. So in every row the operator's sort gives the type that its node has as a tree.
+-- and that row has the number. So in every row the operator's sort gives the type that its node has as a tree. A number of no row names the unknown one.
 use Prim.Native.Nat.{ℕ}
 use mathlib.Core.Path.{_≡_, refl, sym, subst}
 use mathlib.Core.Bool.{Bool, true, false, _&&_}

@@ -1,4 +1,4 @@
--- As find_operator, by the operator of each row.
+-- Each arm has the condition of its number's row, which is computed; the last one a number that is none of the table's.
 use mathlib.Core.Path.{refl}
 use Rattle.conditions.proofs.Found.{condition-at, condition-other}
 use Rattle.conditions.proofs.find_condition.Statement.{statement}

@@ -1,6 +1,5 @@
 -- By the byte: no digit, one above the greatest number, or another.
 use borrow.Author.Needs.{needs}
-use native.Mathlib.Omega.{arith}
 use Rattle.number.proofs.Scan.{last-none, last-over, last-digit, digit-bounds}
 use Rattle.number.proofs.read_last.Statement.{statement}
 use Rattle.number.proofs.read_last.Tie as tie
