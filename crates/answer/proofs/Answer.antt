@@ -5,7 +5,7 @@ use mathlib.Core.Bool.{Bool, true, false, true≢false}
 use mathlib.Core.Option.{Option, none, some, Option·map, Option·some-injective, Option·none-ne-some}
 use Prim.Native.Nat.{ℕ}
 use lib.Dec.{T}
-use lib.IntN.{ℤ, pos}
+use lib.IntN.{ℤ}
 use Rattle.lists.specs.Choice.{pick}
 use Rattle.formula.specs.Values.{ValueType, AnyValue, number, truth, wrap, asTruth}
 use Rattle.formula.specs.Tree.{Constant, Unary, Binary, plus, minus, times, equal, less, atMost, iff, Division, Connective}
@@ -13,7 +13,7 @@ use Rattle.formula.specs.Tree.{Tree, constant, identifier, after, unary, binary
 use Rattle.formula.specs.Evaluate.{Env, readTree, constantValue, unaryValue, binaryValue, divisionDefined, divisionValue, connectiveValue, readsRight}
 use Rattle.formula.specs.Evaluate.{andThen, readDivision, readConnective}
 use Rattle.formula.proofs.Truth.{test-true, true-test}
-use Rattle.answer.specs.Answer.{Answer, value, outside, undefined, fits, fitsValue, within, valueThen, operands, always}
+use Rattle.answer.specs.Answer.{Answer, value, outside, undefined, fits, fitsValue, within, valueThen, notNegative, operands, always}
 use Rattle.answer.specs.Answer.{binaryAnswer, divisionAnswer, rightOf, connectiveAnswer, unaryAnswer, answer}
 use Rattle.answer.specs.Met.{met-itself, met-operand, met-left, met-right, met-dividend, met-divisor, met-first, met-second, NoneLeaves}
 
@@ -72,7 +72,7 @@ operands-value defined f (value a) (value b) v e = go (defined a b) refl e
     go false h e = absurd (fault-never refl e)
 operands-value defined f (value a) outside v e = absurd (fault-never refl e)
 operands-value defined f (value a) undefined v e = absurd (fault-never refl e)
-operands-value defined f outside (value b) v e = absurd (go (defined (number (pos 0)) b) e)
+operands-value defined f outside (value b) v e = absurd (go (defined notNegative b) e)
   where
     go : (d : Bool) → pick d outside undefined ≡ value v → ⊥
     go true e = fault-never refl e

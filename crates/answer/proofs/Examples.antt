@@ -61,11 +61,7 @@ part-outside : answered (binary minus (binary plus large large) large) ≡ outsi
 unfolding answer within binaryAnswer operands
 part-outside = refl
 
--- mod is one operator: −2 ^ 63 mod −1 is 0, but −2 ^ 63 ÷ −1 and −(−2 ^ 63) are 2 ^ 63
-least-mod : answered (division remainder least minusOne) ≡ value (number (pos 0))
-unfolding answer within divisionAnswer operands
-least-mod = refl
-
+-- −2 ^ 63 ÷ −1 and −(−2 ^ 63) are 2 ^ 63
 least-divided : answered (division quotient least minusOne) ≡ outside
 unfolding answer within divisionAnswer operands
 least-divided = refl
@@ -76,12 +72,28 @@ least-negated = refl
 
 -- ---- both faults
 
--- a term outside 64 bits, and an undefined one
+-- terms outside 64 bits, and an undefined one
 abbrev tooLarge : Tree
 tooLarge = binary plus greatest (word 1)
 
+abbrev tooSmall : Tree
+tooSmall = binary minus least (word 1)
+
 abbrev byZero : Tree
 byZero = division quotient (word 1) (word 0)
+
+-- mod of a negative number, or by one: −1 mod 1, 1 mod −1, −2 ^ 63 mod −1
+negative-mod :
+    (answered (division remainder minusOne (word 1)) ≡ undefined) × (answered (division remainder (word 1) minusOne) ≡ undefined)
+    × (answered (division remainder least minusOne) ≡ undefined)
+unfolding answer within divisionAnswer operands
+negative-mod = (refl, refl, refl)
+
+-- the greatest operands of mod: (2 ^ 63 − 1) mod (2 ^ 63 − 1), 2 ^ 62 mod (2 ^ 63 − 1)
+greatest-mod :
+    (answered (division remainder greatest greatest) ≡ value (number (pos 0))) × (answered (division remainder large greatest) ≡ value (number (pos (2 ^ 62))))
+unfolding answer within divisionAnswer operands
+greatest-mod = (refl, refl)
 
 by-zero : (answered byZero ≡ undefined) × (answered (division remainder (word 1) (word 0)) ≡ undefined)
 unfolding answer within divisionAnswer operands
@@ -100,6 +112,18 @@ undefined-less = (refl, refl)
 dividend-outside : (answered (division quotient tooLarge (word 0)) ≡ undefined) × (answered (division quotient tooLarge (word 1)) ≡ outside)
 unfolding answer within binaryAnswer divisionAnswer operands
 dividend-outside = (refl, refl)
+
+-- one of mod counts as not negative, also −2 ^ 63 − 1: divisor 1, 0 and −1
+dividend-not-negative :
+    (answered (division remainder tooSmall (word 1)) ≡ outside) × (answered (division remainder tooSmall (word 0)) ≡ undefined)
+    × (answered (division remainder tooSmall minusOne) ≡ undefined)
+unfolding answer within binaryAnswer divisionAnswer operands
+dividend-not-negative = (refl, refl, refl)
+
+-- mod by one outside 64 bits isn't undefined itself, nor with a negative dividend
+negative-by-outside : (answered (division remainder minusOne tooLarge) ≡ outside) × (answered (division remainder minusOne tooSmall) ≡ outside)
+unfolding answer within binaryAnswer divisionAnswer operands
+negative-by-outside = (refl, refl)
 
 -- a divisor with a part outside 64 bits, whose exact value is 0: 1 ÷ ((2 ^ 63 − 1 + 1) − (2 ^ 63 − 1 + 1))
 divisor-outside : (answered (division quotient (word 1) (binary minus tooLarge tooLarge)) ≡ outside) × (answered (division quotient byZero tooLarge) ≡ undefined)

@@ -1,20 +1,20 @@
 -- 02, request 5, what the two faults of an answer say: outside, that a term met leaves 64 bits; undefined, that reading in order reaches an undefined term. By induction on the
 -- tree: a fault is that of an operand which is met, or the operator's own, whose operands then have the values that are read. At the end, which fault wins at each operator.
 use mathlib.Core.Path.{_≡_, refl, sym, ap, ap₂, _∙_}
-use mathlib.Core.Bool.{Bool, true, false, true≢false}
+use mathlib.Core.Bool.{Bool, true, false, true≢false, _&&_}
 use mathlib.Core.Option.{Option, none, some, Option·map}
 use mathlib.Core.Logic.{_⊎_, inl, inr}
 use Prim.Native.Nat.{ℕ}
 use lib.Dec.{T}
 use lib.IntN.{ℤ, pos}
 use Rattle.lists.specs.Choice.{pick}
-use Rattle.formula.specs.Values.{ValueType, AnyValue, number, truth, wrap, asTruth}
+use Rattle.formula.specs.Values.{ValueType, AnyValue, number, truth, wrap, asNumber, asTruth, atMostℤ, lessℤ}
 use Rattle.formula.specs.Tree.{Unary, Binary, plus, minus, times, equal, less, atMost, iff, Division, quotient, remainder, Connective}
 use Rattle.formula.specs.Tree.{Tree, constant, identifier, after, unary, binary, division, connective}
 use Rattle.formula.specs.Evaluate.{Env, readTree, constantValue, unaryValue, binaryValue, divisionDefined, divisionValue, connectiveValue, readsRight}
 use Rattle.formula.specs.Evaluate.{andThen, readDivision, readConnective}
-use Rattle.formula.proofs.Truth.{true-test}
-use Rattle.answer.specs.Answer.{Answer, value, outside, undefined, fits, fitsValue, within, valueThen, anyDividend, operands, always}
+use Rattle.formula.proofs.Truth.{test-true, true-test}
+use Rattle.answer.specs.Answer.{Answer, value, outside, undefined, fits, fitsValue, within, valueThen, notNegative, operands, always}
 use Rattle.answer.specs.Answer.{binaryAnswer, divisionAnswer, rightOf, connectiveAnswer, unaryAnswer, answer}
 use Rattle.answer.specs.Met.{Met, met-itself, met-operand, met-left, met-right, met-dividend, met-divisor, met-first, met-second}
 use Rattle.answer.proofs.Answer.{answer-reads}
@@ -73,7 +73,7 @@ data UndefinedBy (defined : AnyValue → AnyValue → Bool) (l r : Answer) : Typ
   left-undefined : l ≡ undefined → UndefinedBy defined l r
   right-undefined : r ≡ undefined → UndefinedBy defined l r
   itself-undefined : (a b : AnyValue) → l ≡ value a → r ≡ value b → defined a b ≡ false → UndefinedBy defined l r
-  by-right-value : (b : AnyValue) → l ≡ outside → r ≡ value b → defined anyDividend b ≡ false → UndefinedBy defined l r
+  by-right-value : (b : AnyValue) → l ≡ outside → r ≡ value b → defined notNegative b ≡ false → UndefinedBy defined l r
 
 operands-undefined : (defined : AnyValue → AnyValue → Bool) (f : AnyValue → AnyValue → AnyValue) (l r : Answer) → operands defined f l r ≡ undefined → UndefinedBy defined l r
 unfolding operands
@@ -84,9 +84,9 @@ operands-undefined defined f (value a) (value b) e = go (defined a b) refl e
     go false h e = itself-undefined a b refl refl h
 operands-undefined defined f (value a) outside e = absurd (outside-not-undefined e)
 operands-undefined defined f (value a) undefined e = right-undefined refl
-operands-undefined defined f outside (value b) e = go (defined anyDividend b) refl e
+operands-undefined defined f outside (value b) e = go (defined notNegative b) refl e
   where
-    go : (d : Bool) → defined anyDividend b ≡ d → pick d outside undefined ≡ undefined → UndefinedBy defined outside (value b)
+    go : (d : Bool) → defined notNegative b ≡ d → pick d outside undefined ≡ undefined → UndefinedBy defined outside (value b)
     go true h e = absurd (outside-not-undefined e)
     go false h e = by-right-value b refl refl h
 operands-undefined defined f outside outside e = absurd (outside-not-undefined e)
@@ -144,9 +144,13 @@ binary-undefined iff outside r e = absurd (outside-not-undefined e)
 binary-undefined iff undefined r e = left-undefined refl
 
 -- a divisor that makes a division undefined beside a dividend outside 64 bits makes it so with every dividend
-undefined-anyway : (o : Division) (v w : AnyValue) → divisionDefined o anyDividend w ≡ false → divisionDefined o v w ≡ false
+undefined-anyway : (o : Division) (v w : AnyValue) → divisionDefined o notNegative w ≡ false → divisionDefined o v w ≡ false
 undefined-anyway quotient v w e = e
-undefined-anyway remainder v w e = e
+undefined-anyway remainder v w e = go (atMostℤ (pos 0) (asNumber v))
+  where
+    go : (b : Bool) → (b && lessℤ (pos 0) (asNumber w)) ≡ false
+    go true = e
+    go false = refl
 
 -- ---- readings without a value
 
@@ -326,11 +330,11 @@ divisor-outside o (value v) h = refl
 divisor-outside o outside h = refl
 divisor-outside o undefined h = absurd (h refl)
 
--- a dividend outside 64 bits, and divisor 0
-pub dividend-outside : (o : Division) → divisionAnswer o outside (value (number (pos 0))) ≡ undefined
+-- "a dividend outside 64 bits .. counting there as not negative": the division is undefined exactly where it is with a dividend that isn't negative
+pub dividend-outside : (o : Division) (v w : AnyValue) → T (atMostℤ (pos 0) (asNumber v)) → divisionAnswer o outside (value w) ≡ pick (divisionDefined o v w) outside undefined
 unfolding divisionAnswer operands
-dividend-outside quotient = refl
-dividend-outside remainder = refl
+dividend-outside quotient v w h = refl
+dividend-outside remainder v w h = ap (λ b. pick (b && lessℤ (pos 0) (asNumber w)) outside undefined) (sym (test-true (atMostℤ (pos 0) (asNumber v)) h))
 
 -- "∧, ∨, ⇒ and ⇔ stop at a faulty left side"
 pub stops-at-left : (o : Connective) (r : Answer) → (connectiveAnswer o outside r ≡ outside) × (connectiveAnswer o undefined r ≡ undefined)

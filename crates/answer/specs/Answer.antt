@@ -39,15 +39,15 @@ rightThen defined f (value w) = pick (defined w) (f w) undefined
 rightThen defined f outside = outside
 rightThen defined f undefined = undefined
 
--- what a left operand outside 64 bits counts as where it is asked whether its operator is defined
-abbrev pub anyDividend : AnyValue
-anyDividend = number (pos 0)
+-- 02, request 7: "a dividend outside 64 bits, itself or in a part, counting there as not negative", where it is asked whether its operator is defined
+abbrev pub notNegative : AnyValue
+notNegative = number (pos 0)
 
 -- Which fault wins at + − × ÷ mod = < ≤, which read both operands: "A term, or the two sides of a comparison taken together, that both leaves 64 bits and meets an
 -- undefined part counts as undefined." The first test says on which operands the operator is defined.
 unfoldable pub operands : (AnyValue → AnyValue → Bool) → (AnyValue → AnyValue → AnyValue) → Answer → Answer → Answer
 operands defined f (value v) r = rightThen (defined v) (λ w. within (f v w)) r
-operands defined f outside r = rightThen (defined anyDividend) (λ w. outside) r
+operands defined f outside r = rightThen (defined notNegative) (λ w. outside) r
 operands defined f undefined r = undefined
 
 -- operators that are defined on all operands

@@ -4,11 +4,12 @@ ghost use mathlib.Core.Path.{_≡_};
 ghost use Rattle.machine.specs.Operator.{operatorNumbered};
 ghost use Rattle.conditions.specs.Condition.{conditionOf};
 
-// What an operator adds to the well-definedness of its operands: nothing; "¬(b = 0)"; that the right side's is asked only where the left is true, or
-// only where it is false.
+// What an operator adds to the well-definedness of its operands: nothing; "¬(b = 0)"; "0 ≤ a ∧ 0 < b"; that the right side's is asked only where the left is
+// true, or only where it is false.
 pub enum Condition {
     Nothing,
     Divisor,
+    Operands,
     LeftTrue,
     LeftFalse,
 }
@@ -28,7 +29,7 @@ pub fn find_condition(number: u64) -> Condition
         operator::MINUS => Condition::Nothing,
         operator::TIMES => Condition::Nothing,
         operator::QUOTIENT => Condition::Divisor,
-        operator::REMAINDER => Condition::Divisor,
+        operator::REMAINDER => Condition::Operands,
         operator::NEGATION => Condition::Nothing,
         operator::EQUAL => Condition::Nothing,
         operator::LESS => Condition::Nothing,

@@ -1,15 +1,18 @@
--- ÷ and mod make the division that rounds toward zero: the dividend is divisor × quotient + remainder, and the remainder is
--- below the divisor in magnitude and has the dividend's sign. All follows from the remainder's value, the naturals' remainder of
--- the magnitudes with the dividend's sign, by cases on the two signs.
+-- ÷ rounds toward zero: the dividend is divisor × quotient + remainder, and the remainder is below the divisor in magnitude and has the
+-- dividend's sign. Where mod is defined, it is from 0 to below the divisor. All follows from the remainder's value, the naturals' remainder
+-- of the magnitudes with the dividend's sign, by cases on the two signs.
 use mathlib.Core.Path.{_≡_, refl, sym, ap, _∙_}
 use mathlib.Core.Logic.{_≢_}
 use Prim.Native.Nat.{ℕ, zero, suc, _*_, _-_, _/_, _%_, _≤_, _<_}
 use native.Mathlib.Omega.{arith}
 use native.Mathlib.Nat.{div-add-mod, mod-lt, mul-zero, zero-mod}
-use lib.Dec.{T, leb→le, le→leb}
+use lib.Dec.{T, leb, leb→le, le→leb, nleb→lt, not-T}
 use lib.IntN.{ℤ, pos, negsuc, negℤ, natAbs, _+ℤ_, _-ℤ_, _*ℤ_, +ℤ-comm, -ℤ-+ℤ-cancel, negℤ-+ℤ}
-use Rattle.formula.specs.Values.{atMostℤ, quotientℤ, remainderℤ}
+use Rattle.formula.specs.Values.{number, atMostℤ, lessℤ, quotientℤ, remainderℤ}
+use Rattle.formula.specs.Tree.{remainder}
+use Rattle.formula.specs.Evaluate.{divisionDefined}
 use Rattle.formula.proofs.Order.{sub-le}
+use Rattle.formula.proofs.Truth.{and-split}
 
 -- the magnitude n with the sign of a
 abbrev signed : ℤ → ℕ → ℤ
@@ -72,3 +75,16 @@ remainder-to-zero (negsuc a) b t = rw (remainder-is (negsuc a) b) (go (suc a % n
     go : (n : ℕ) → T (atMostℤ (negℤ (pos n)) (pos 0))
     go zero = tt
     go (suc n) = tt
+
+-- 02, request 7: a mod b where it is defined, 0 ≤ a mod b and a mod b < b
+pub remainder-range : (a b : ℤ) → T (divisionDefined remainder (number a) (number b)) → T (atMostℤ (pos 0) (remainderℤ a b)) × T (lessℤ (remainderℤ a b) b)
+remainder-range a b t = let d = and-split (atMostℤ (pos 0) a) (lessℤ (pos 0) b) t in (remainder-from-zero a b (d .0), below a b (d .0) (d .1))
+  where
+    above : {m n : ℕ} → m ≤ n → n < m → ⊥
+    above h k = omega arith
+
+    below : (a b : ℤ) → T (atMostℤ (pos 0) a) → T (lessℤ (pos 0) b) → T (lessℤ (remainderℤ a b) b)
+    below (pos a) (pos b) t s =
+        let h = mod-lt a (nleb→lt b 0 s) in rw (remainder-is (pos a) (pos b)) (not-T (leb b (a % b)) (λ k. above (leb→le b (a % b) k) h))
+    below (pos a) (negsuc b) t s = absurd s
+    below (negsuc a) b t s = absurd t

@@ -1,13 +1,14 @@
--- Division at each pair of signs and at divisor 0, and what ∧, ⇒ and ∨ protect, for every dividend: all computed from the definitions.
-use mathlib.Core.Path.{_≡_, refl}
-use mathlib.Core.Bool.{true, false}
+-- Division at each pair of signs, at the least operands and at divisor 0, and what ∧, ⇒ and ∨ protect, for every dividend: all computed from the definitions.
+use mathlib.Core.Path.{_≡_, refl, ap}
+use mathlib.Core.Bool.{Bool, true, false, _&&_}
 use mathlib.Core.Option.{Option, none, some}
 use Prim.Native.Nat.{ℕ, zero, suc}
 use lib.IntN.{ℤ, pos, negsuc}
-use Rattle.formula.specs.Values.{integer, AnyValue, number, truth}
-use Rattle.formula.specs.Tree.{literal, top, logicalNot, equal, Division, quotient, remainder, and, or, implies, Tree, constant, identifier}
-use Rattle.formula.specs.Tree.{unary, binary, division, connective}
-use Rattle.formula.specs.Evaluate.{Env, evaluate, readTree}
+use Rattle.lists.specs.Choice.{pick}
+use Rattle.formula.specs.Values.{integer, AnyValue, number, truth, atMostℤ}
+use Rattle.formula.specs.Tree.{literal, top, logicalNot, equal, less, atMost, Division, quotient, remainder, and, or, implies, Tree, constant}
+use Rattle.formula.specs.Tree.{identifier, unary, binary, division, connective}
+use Rattle.formula.specs.Evaluate.{Env, evaluate, readTree, divisionDefined, divisionValue}
 use Rattle.formula.specs.WellDefined.{wellDefined}
 
 -- identifier 1 has the value a, identifier 2 the value b
@@ -35,27 +36,46 @@ words : (evaluate (at (pos 0) (pos 0)) (constant (literal 18446744073709551609))
 unfolding evaluate
 words = (refl, refl)
 
--- −8 ÷ 3 = −2 and −8 mod 3 = −2
-negative-dividend : (reading quotient (negsuc 7) (pos 3) ≡ some (number (negsuc 1))) × (reading remainder (negsuc 7) (pos 3) ≡ some (number (negsuc 1)))
-unfolding readTree
-negative-dividend = (refl, refl)
+-- an undefined division: a run reads nothing, sequents read 0
+abbrev Undefined : Division → ℤ → ℤ → Type 0
+Undefined o a b = (reading o a b ≡ none) × (total o a b ≡ number (pos 0))
 
-negative-divisor : (reading quotient (pos 7) (negsuc 1) ≡ some (number (negsuc 2))) × (reading remainder (pos 7) (negsuc 1) ≡ some (number (pos 1)))
-unfolding readTree
-negative-divisor = (refl, refl)
+-- −8 ÷ 3 = −2, −8 mod 3 is undefined
+negative-dividend : (reading quotient (negsuc 7) (pos 3) ≡ some (number (negsuc 1))) × Undefined remainder (negsuc 7) (pos 3)
+unfolding evaluate readTree
+negative-dividend = (refl, (refl, refl))
 
-both-negative : (reading quotient (negsuc 6) (negsuc 1) ≡ some (number (pos 3))) × (reading remainder (negsuc 6) (negsuc 1) ≡ some (number (negsuc 0)))
-unfolding readTree
-both-negative = (refl, refl)
+negative-divisor : (reading quotient (pos 7) (negsuc 1) ≡ some (number (negsuc 2))) × Undefined remainder (pos 7) (negsuc 1)
+unfolding evaluate readTree
+negative-divisor = (refl, (refl, refl))
+
+both-negative : (reading quotient (negsuc 6) (negsuc 1) ≡ some (number (pos 3))) × Undefined remainder (negsuc 6) (negsuc 1)
+unfolding evaluate readTree
+both-negative = (refl, (refl, refl))
 
 both-positive : (reading quotient (pos 7) (pos 2) ≡ some (number (pos 3))) × (reading remainder (pos 7) (pos 2) ≡ some (number (pos 1)))
 unfolding readTree
 both-positive = (refl, refl)
 
-zero-divisor : (o : Division) (a : ℤ) → (reading o a (pos 0) ≡ none) × (total o a (pos 0) ≡ number (pos 0))
+-- the least operands of mod: 0 mod 1 = 0; −1 mod 1 and 0 mod 0 are undefined
+least-operands : (reading remainder (pos 0) (pos 1) ≡ some (number (pos 0))) × Undefined remainder (negsuc 0) (pos 1) × Undefined remainder (pos 0) (pos 0)
 unfolding evaluate readTree
-zero-divisor quotient a = (refl, refl)
-zero-divisor remainder a = (refl, refl)
+least-operands = (refl, (refl, refl), (refl, refl))
+
+-- of every division that isn't defined
+not-defined : (o : Division) (a b : ℤ) → divisionDefined o (number a) (number b) ≡ false → Undefined o a b
+unfolding evaluate readTree
+not-defined o a b h =
+    (ap (λ d. pick d (some (divisionValue o (number a) (number b))) none) h, ap (λ d. pick d (divisionValue o (number a) (number b)) (number (pos 0))) h)
+
+-- divisor 0, whatever the dividend
+zero-divisor : (o : Division) (a : ℤ) → Undefined o a (pos 0)
+zero-divisor quotient a = not-defined quotient a (pos 0) refl
+zero-divisor remainder a = not-defined remainder a (pos 0) (go (atMostℤ (pos 0) a))
+  where
+    go : (b : Bool) → (b && false) ≡ false
+    go true = refl
+    go false = refl
 
 abbrev ⊤ᵗ : Tree
 ⊤ᵗ = constant top
@@ -86,3 +106,11 @@ well-defined-shape :
     ≡ connective and (connective and ⊤ᵗ ⊤ᵗ) (connective implies nonzero (connective and (connective and (connective and ⊤ᵗ ⊤ᵗ) nonzero) ⊤ᵗ))
 unfolding wellDefined
 well-defined-shape = refl
+
+-- that of a mod b: (⊤ ∧ ⊤) ∧ (0 ≤ a ∧ 0 < b)
+remainder-shape :
+    wellDefined (divided remainder)
+    ≡ connective and (connective and ⊤ᵗ ⊤ᵗ)
+    (connective and (binary atMost (constant (literal 0)) (identifier 1)) (binary less (constant (literal 0)) (identifier 2)))
+unfolding wellDefined
+remainder-shape = refl

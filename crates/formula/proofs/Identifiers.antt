@@ -69,10 +69,10 @@ identifiers-at-after v (division o t u) = ap₂ joined (identifiers-at-after v t
 identifiers-at-after v (connective o t u) = ap₂ joined (identifiers-at-after v t) (identifiers-at-after v u)
 
 module _ {P : ℕ → Type 0} where
-  condition-identifiers : (o : Division) (t u : Tree) → All P (identifiers u) → All P (identifiers (divisionCondition o t u))
+  condition-identifiers : (o : Division) (t u : Tree) → All P (identifiers t) → All P (identifiers u) → All P (identifiers (divisionCondition o t u))
   unfolding identifiers
-  condition-identifiers quotient t u h = all-join h all-nil
-  condition-identifiers remainder t u h = all-join h all-nil
+  condition-identifiers quotient t u l r = all-join r all-nil
+  condition-identifiers remainder t u l r = all-join l r
 
   pub well-defined-identifiers : (t : Tree) → All P (identifiers t) → All P (identifiers (wellDefined t))
   unfolding identifiers wellDefined
@@ -83,8 +83,9 @@ module _ {P : ℕ → Type 0} where
   well-defined-identifiers (binary o t u) h =
       all-join (well-defined-identifiers t (all-left (identifiers t) (identifiers u) h)) (well-defined-identifiers u (all-right (identifiers t) h))
   well-defined-identifiers (division o t u) h =
+      let l = all-left (identifiers t) (identifiers u) h in
       let r = all-right (identifiers t) h in
-      all-join (all-join (well-defined-identifiers t (all-left (identifiers t) (identifiers u) h)) (well-defined-identifiers u r)) (condition-identifiers o t u r)
+      all-join (all-join (well-defined-identifiers t l) (well-defined-identifiers u r)) (condition-identifiers o t u l r)
   well-defined-identifiers (connective and t u) h =
       let l = all-left (identifiers t) (identifiers u) h in
       all-join (well-defined-identifiers t l) (all-join l (well-defined-identifiers u (all-right (identifiers t) h)))

@@ -5,7 +5,6 @@ use mathlib.Core.Bool.{Bool, _&&_}
 use mathlib.Core.Option.{none, some}
 use Prim.Native.Nat.{ℕ}
 use lib.Dec.{T}
-use lib.IntN.{pos}
 use Rattle.lists.specs.Choice.{pick}
 use Rattle.formula.specs.Values.{ValueType, truth, wrap, asTruth}
 use Rattle.formula.specs.Tree.{literal, Connective, and, or, implies, Division, quotient, remainder, Tree, constant, identifier, after, unary}
@@ -37,7 +36,7 @@ module _ (P Q : ℕ → Bool) where
   condition-seen : (o : Division) (t u : Tree) → Seen t → Seen u → Seen (divisionCondition o t u)
   unfolding mentions
   condition-seen quotient t u p q = both u (constant (literal 0)) q tt
-  condition-seen remainder t u p q = both u (constant (literal 0)) q tt
+  condition-seen remainder t u p q = both t u p q
 
   connective-seen : (o : Connective) (t u : Tree) → Seen (wellDefined t) → Seen t → Seen (wellDefined u) → Seen (wellDefined (connective o t u))
   unfolding mentions wellDefined

@@ -55,10 +55,10 @@ binaryValue less v w = truth (lessℤ (asNumber v) (asNumber w))
 binaryValue atMost v w = truth (atMostℤ (asNumber v) (asNumber w))
 binaryValue iff v w = truth (Bool·beq (asTruth v) (asTruth w))
 
--- 01, Rows: "Both are undefined for b = 0"
+-- 01, Rows: ÷ is "undefined for b = 0"; 02, request 7: "a mod b only for 0 ≤ a and 0 < b"
 abbrev pub divisionDefined : Division → AnyValue → AnyValue → Bool
 divisionDefined quotient v w = not (equalValue w (number (pos 0)))
-divisionDefined remainder v w = not (equalValue w (number (pos 0)))
+divisionDefined remainder v w = atMostℤ (pos 0) (asNumber v) && lessℤ (pos 0) (asNumber w)
 
 -- the value of a division that is defined
 abbrev pub divisionValue : Division → AnyValue → AnyValue → AnyValue

@@ -27,21 +27,23 @@ pub note-parts : {m m′ d d′ : ℕ} {b b′ : Bool} → m ≡ m′ → d ≡ 
 note-parts {m′} {d′} {b} p q e =
     ap₂ (λ m d. record { mentioned = m; defined = d; divides = b }) p q ∙ ap (λ b. record { mentioned = m′; defined = d′; divides = b }) e
 
--- the union of three sets, and the divisor's behind the two of the operands, where the literal 0 mentions nothing
+-- the union of three sets, with brackets on either side
 join-three : (xs ys zs : List ℕ) → setOf (xs ++ (ys ++ zs)) ≡ bitOr (setOf xs) (bitOr (setOf ys) (setOf zs))
 join-three xs ys zs = sym (set-join xs (ys ++ zs)) ∙ ap (bitOr (setOf xs)) (sym (set-join ys zs))
 
-join-divisor : (xs ys zs : List ℕ) → setOf ((xs ++ ys) ++ (zs ++ [])) ≡ bitOr (bitOr (setOf xs) (setOf ys)) (setOf zs)
-join-divisor xs ys zs =
-    sym (set-join (xs ++ ys) (zs ++ [])) ∙ ap₂ bitOr (sym (set-join xs ys)) (ap setOf (append-nil zs))
+join-again : (xs ys zs : List ℕ) → setOf ((xs ++ ys) ++ zs) ≡ bitOr (bitOr (setOf xs) (setOf ys)) (setOf zs)
+join-again xs ys zs = sym (set-join (xs ++ ys) zs) ∙ ap (λ n. bitOr n (setOf zs)) (sym (set-join xs ys))
 
 -- the parts of a pair's note
 mentioned-pair : (l r : Tree) → setOf (identifiers l ++ identifiers r) ≡ bitOr (setOf (identifiers l)) (setOf (identifiers r))
 mentioned-pair l r = sym (set-join (identifiers l) (identifiers r))
 
-defined-division : (l r : Tree) → setOf ((identifiers (wellDefined l) ++ identifiers (wellDefined r)) ++ (identifiers r ++ []))
-    ≡ bitOr (bitOr (setOf (identifiers (wellDefined l))) (setOf (identifiers (wellDefined r)))) (setOf (identifiers r))
-defined-division l r = join-divisor (identifiers (wellDefined l)) (identifiers (wellDefined r)) (identifiers r)
+-- of a division, from what its condition mentions again
+defined-division : (l r : Tree) (zs : List ℕ) {again : ℕ} → setOf zs ≡ again → setOf ((identifiers (wellDefined l) ++ identifiers (wellDefined r)) ++ zs)
+    ≡ bitOr (bitOr (setOf (identifiers (wellDefined l))) (setOf (identifiers (wellDefined r)))) again
+defined-division l r zs e =
+    join-again (identifiers (wellDefined l)) (identifiers (wellDefined r)) zs
+    ∙ ap (bitOr (bitOr (setOf (identifiers (wellDefined l))) (setOf (identifiers (wellDefined r))))) e
 
 defined-guarded : (l r : Tree) → setOf (identifiers (wellDefined l) ++ (identifiers l ++ identifiers (wellDefined r)))
     ≡ bitOr (setOf (identifiers (wellDefined l))) (bitOr (setOf (identifiers l)) (setOf (identifiers (wellDefined r))))
@@ -55,8 +57,8 @@ note-node afterOf b l r = note-parts refl set-none refl
 note-node (constantOf c) b l r = note-parts set-none set-none refl
 note-node (unaryOf o) b l r = refl
 note-node (binaryOf o) b l r = note-parts (mentioned-pair l r) (mentioned-pair (wellDefined l) (wellDefined r)) refl
-note-node (divisionOf quotient) b l r = note-parts (mentioned-pair l r) (defined-division l r) refl
-note-node (divisionOf remainder) b l r = note-parts (mentioned-pair l r) (defined-division l r) refl
+note-node (divisionOf quotient) b l r = note-parts (mentioned-pair l r) (defined-division l r (identifiers r ++ []) (ap setOf (append-nil (identifiers r)))) refl
+note-node (divisionOf remainder) b l r = note-parts (mentioned-pair l r) (defined-division l r (identifiers l ++ identifiers r) (mentioned-pair l r)) refl
 note-node (connectiveOf and) b l r = note-parts (mentioned-pair l r) (defined-guarded l r) refl
 note-node (connectiveOf or) b l r = note-parts (mentioned-pair l r) (defined-guarded l r) refl
 note-node (connectiveOf implies) b l r = note-parts (mentioned-pair l r) (defined-guarded l r) refl

@@ -9,7 +9,7 @@ use Rattle.formula.specs.Identifiers.{identifiers}
 use Rattle.formula.specs.Identifiers as formula
 use Rattle.rules.specs.Sorts.{Shape, value, anIdentifier, aVariable, none, one, two, unknown}
 use Rattle.conditions.specs.declared.Condition.{Condition}
-use Rattle.conditions.specs.declared.Condition.the-variants.{Nothing, Divisor, LeftTrue, LeftFalse}
+use Rattle.conditions.specs.declared.Condition.the-variants.{Nothing, Divisor, Operands, LeftTrue, LeftFalse}
 use Rattle.sets.specs.Set.{setOf}
 use Rattle.notes.specs.declared.Note.{Note}
 
@@ -24,13 +24,13 @@ emptyNote = record { mentioned = 0; defined = 0; divides = false }
 abbrev pub identifierNote : ℕ → Note
 identifierNote x = record { mentioned = setOf (x ∷ []); defined = 0; divides = false }
 
--- of a pair: of one whose well-definedness is that of both sides, of a division, whose divisor is read again, and of one whose left side is read again
+-- of a pair: of one whose well-definedness is that of both sides, of a division, whose divisor or whose operands are read again, and of one whose left side is
 abbrev pub plainPair : Note → Note → Note
 plainPair l r = record { mentioned = bitOr (l .mentioned) (r .mentioned); defined = bitOr (l .defined) (r .defined); divides = l .divides || r .divides }
 
-abbrev pub divisionPair : Note → Note → Note
-divisionPair l r =
-    record { mentioned = bitOr (l .mentioned) (r .mentioned); defined = bitOr (bitOr (l .defined) (r .defined)) (r .mentioned); divides = true }
+abbrev pub divisionPair : Note → Note → ℕ → Note
+divisionPair l r again =
+    record { mentioned = bitOr (l .mentioned) (r .mentioned); defined = bitOr (bitOr (l .defined) (r .defined)) again; divides = true }
 
 abbrev pub guardedPair : Note → Note → Note
 guardedPair l r = record {
@@ -41,7 +41,8 @@ guardedPair l r = record {
 
 abbrev pub pairNote : Condition → Note → Note → Note
 pairNote Nothing l r = plainPair l r
-pairNote Divisor l r = divisionPair l r
+pairNote Divisor l r = divisionPair l r (r .mentioned)
+pairNote Operands l r = divisionPair l r (bitOr (l .mentioned) (r .mentioned))
 pairNote LeftTrue l r = guardedPair l r
 pairNote LeftFalse l r = guardedPair l r
 

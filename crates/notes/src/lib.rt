@@ -46,13 +46,13 @@ fn plain_pair(left: Note, right: Note) -> Note
     }
 }
 
-// Of ÷ and mod: "(WD(a) ∧ WD(b)) ∧ ¬(b = 0)".
-fn division_pair(left: Note, right: Note) -> Note
-    ensures { λ r. ⌜ r ≡ divisionPair left right ⌝ }
+// Of ÷ and mod, whose well-definedness, "(WD(a) ∧ WD(b)) ∧ ..", mentions these again.
+fn division_pair(left: Note, right: Note, again: u64) -> Note
+    ensures { λ r. ⌜ r ≡ divisionPair left right again ⌝ }
 {
     Note {
         mentioned: left.mentioned | right.mentioned,
-        defined: (left.defined | right.defined) | right.mentioned,
+        defined: (left.defined | right.defined) | again,
         divides: true,
     }
 }
@@ -68,13 +68,14 @@ fn guarded_pair(left: Note, right: Note) -> Note
     }
 }
 
-// Of a pair, by its operator's condition.
+// Of a pair, by its operator's condition: "¬(b = 0)" mentions what the divisor does, "0 ≤ a ∧ 0 < b" what both operands do.
 fn pair_note(condition: Condition, left: Note, right: Note) -> Note
     ensures { λ r. ⌜ r ≡ pairNote condition left right ⌝ }
 {
     match condition {
         Condition::Nothing => plain_pair(left, right),
-        Condition::Divisor => division_pair(left, right),
+        Condition::Divisor => division_pair(left, right, right.mentioned),
+        Condition::Operands => division_pair(left, right, left.mentioned | right.mentioned),
         Condition::LeftTrue => guarded_pair(left, right),
         Condition::LeftFalse => guarded_pair(left, right),
     }

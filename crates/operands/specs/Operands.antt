@@ -2,7 +2,7 @@
 use mathlib.Core.Bool.{Bool, true, false}
 use Rattle.lists.specs.Choice.{pick}
 use Rattle.formula.specs.Values.{AnyValue, number, truth}
-use Rattle.answer.specs.Answer.{anyDividend}
+use Rattle.answer.specs.Answer.{notNegative}
 use Rattle.signed.specs.declared.Found.{Found}
 use Rattle.signed.specs.declared.Found.the-variants.{Number, Truth, Outside, Undefined}
 
@@ -12,12 +12,12 @@ isValue (Truth b) = true
 isValue Outside = false
 isValue Undefined = false
 
--- an answer's value; a fault counts as anyDividend
+-- an answer's value; a fault counts as notNegative
 abbrev pub valueOf : Found → AnyValue
 valueOf (Number z) = number z
 valueOf (Truth b) = truth b
-valueOf Outside = anyDividend
-valueOf Undefined = anyDividend
+valueOf Outside = notNegative
+valueOf Undefined = notNegative
 
 abbrev pub isTruth : AnyValue → Bool
 isTruth (number z) = false

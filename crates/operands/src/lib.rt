@@ -99,18 +99,19 @@ fn both_operands(defined: bool, left: Found, right: Found, result: Found) -> Fou
     }
 }
 
-// 01, Rows: "Both are undefined for b = 0". A dividend outside 64 bits counts as 0.
+// 01, Rows: ÷ is "undefined for b = 0".
 fn quotient_defined(left: Found, right: Found) -> bool
     ensures { λ r. ⌜ r ≡ divisionDefined quotient (valueOf left) (valueOf right) ⌝ }
 {
     !equal_values(right, Found::Number(0))
 }
 
-// The same of mod.
+// 02, request 7: "a mod b only for 0 ≤ a and 0 < b", "a dividend outside 64 bits .. counting there as not negative", here as 0.
 fn remainder_defined(left: Found, right: Found) -> bool
     ensures { λ r. ⌜ r ≡ divisionDefined remainder (valueOf left) (valueOf right) ⌝ }
 {
-    !equal_values(right, Found::Number(0))
+    let from_zero = at_most(0, as_number(left));
+    from_zero & less(0, as_number(right))
 }
 
 // 01, Rows: "20 = (both integer or both boolean)".

@@ -151,10 +151,11 @@ two-left t u h = all-left (spellTree t) (spellTree u) (all-tail h)
 two-right : {r : Row} (t u : Tree) → All W (r ∷ (spellTree t ++ spellTree u)) → TreeWritable u
 two-right t u h = all-right (spellTree t) (all-tail h)
 
-divisor-writable : (o : Division) (t u : Tree) → TreeWritable u → TreeWritable (divisionCondition o t u)
+condition-writable : (o : Division) (t u : Tree) → TreeWritable t → TreeWritable u → TreeWritable (divisionCondition o t u)
 unfolding spellTree
-divisor-writable quotient t u h = one-writable 32 (omega arith) (two-writable 20 (omega arith) h (leaf-writable 1 0 (omega arith) zero-ranged))
-divisor-writable remainder t u h = one-writable 32 (omega arith) (two-writable 20 (omega arith) h (leaf-writable 1 0 (omega arith) zero-ranged))
+condition-writable quotient t u h k = one-writable 32 (omega arith) (two-writable 20 (omega arith) k (leaf-writable 1 0 (omega arith) zero-ranged))
+condition-writable remainder t u h k =
+    let z = leaf-writable 1 0 (omega arith) zero-ranged in two-writable 33 (omega arith) (two-writable 22 (omega arith) z h) (two-writable 21 (omega arith) z k)
 
 defined-writable : (t : Tree) → TreeWritable t → TreeWritable (wellDefined t)
 unfolding spellTree wellDefined
@@ -165,7 +166,7 @@ defined-writable (unary o t) h = defined-writable t (all-tail h)
 defined-writable (binary o t u) h = two-writable 33 (omega arith) (defined-writable t (two-left t u h)) (defined-writable u (two-right t u h))
 defined-writable (division o t u) h =
     two-writable 33 (omega arith) (two-writable 33 (omega arith) (defined-writable t (two-left t u h)) (defined-writable u (two-right t u h)))
-    (divisor-writable o t u (two-right t u h))
+    (condition-writable o t u (two-left t u h) (two-right t u h))
 defined-writable (connective and t u) h =
     two-writable 33 (omega arith) (defined-writable t (two-left t u h)) (two-writable 35 (omega arith) (two-left t u h) (defined-writable u (two-right t u h)))
 defined-writable (connective implies t u) h =

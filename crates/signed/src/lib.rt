@@ -139,7 +139,7 @@ pub fn divide(a: i64, b: i64) -> Found
     )
 }
 
-// 01, Rows: "a mod b is a − b × (a ÷ b)". The least number by −1 is 0.
+// 01, Rows: "a mod b is a − b × (a ÷ b)", also of operands on which mod isn't defined.
 pub fn remainder(a: i64, b: i64) -> Found
     ensures { λ r. ⌜ r ≡ foundOf (within (number (remainderℤ a b))) ⌝ }
 {

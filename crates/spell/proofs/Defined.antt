@@ -18,11 +18,11 @@ use Rattle.machine.specs.Described.{node, treeTo, treeOf}
 use Rattle.machine.proofs.Described.{tree-step}
 use Rattle.rules.specs.Sorts.{shape, shapeOf, operandCount}
 use Rattle.conditions.specs.declared.Condition.{Condition}
-use Rattle.conditions.specs.declared.Condition.the-variants.{Nothing, Divisor}
+use Rattle.conditions.specs.declared.Condition.the-variants.{Nothing, Divisor, Operands}
 use Rattle.conditions.specs.Condition.{conditionOf}
 use Rattle.reply.specs.Spelled.{spelled, spellTree}
 use Rattle.spell.specs.declared.Node.{Node}
-use Rattle.spell.specs.Spell.{isDivisor, divides, guardOf, guardNumber, openingRows, guardRows, closingRows, nodeBy, nodeOf, shownRows, definedRows}
+use Rattle.spell.specs.Spell.{isDivision, divides, guardOf, guardNumber, openingRows, guardRows, closingOf, closingRows, nodeBy, nodeOf, shownRows, definedRows}
 use Rattle.spell.proofs.Nodes.{nodeFrom, node-none, node-from}
 
 -- the pieces by the operator's number
@@ -35,6 +35,10 @@ module _ (o : ℕ) where
   unfolding openingRows
   opening-other e = rw e
 
+  pub closing-of : (left right : List Row) {c : Condition} → c ≡ conditionOf (operatorNumbered o) → closingOf c left right ≡ closingRows o left right
+  unfolding closingRows
+  closing-of left right e = ap (λ c. closingOf c left right) e
+
   module _ (rows : List Row) where
     pub guard-none : guardNumber o ≡ 0 → [] ≡ guardRows o rows
     unfolding guardRows
@@ -44,24 +48,16 @@ module _ (o : ℕ) where
     unfolding guardRows
     guard-some f = rw (ne-eqb (guardNumber o) 0 f)
 
-    pub closing-division : divides o ≡ true → spelled 32 0 ∷ ((spelled 20 0 ∷ rows) ++ (spelled 1 0 ∷ [])) ≡ closingRows o rows
-    unfolding closingRows
-    closing-division e = rw e
-
-    pub closing-other : divides o ≡ false → [] ≡ closingRows o rows
-    unfolding closingRows
-    closing-other e = rw e
-
 -- The WD of a pair, from the rows of WD(a), a, WD(b) and b.
 module _ (da a db b : List Row) where
   abbrev pub pairRows : ℕ → List Row
-  pairRows o = (((openingRows o ++ da) ++ guardRows o a) ++ db) ++ closingRows o b
+  pairRows o = (((openingRows o ++ da) ++ guardRows o a) ++ db) ++ closingRows o a b
 
   -- the same by the condition
   abbrev pairBy : Condition → List Row
   pairBy c =
-      (((pick (isDivisor c) (spelled 33 0 ∷ spelled 33 0 ∷ []) (spelled 33 0 ∷ []) ++ da) ++ pick (eqb (guardOf c) 0) [] (spelled (guardOf c) 0 ∷ a)) ++ db)
-      ++ pick (isDivisor c) (spelled 32 0 ∷ ((spelled 20 0 ∷ b) ++ (spelled 1 0 ∷ []))) []
+      (((pick (isDivision c) (spelled 33 0 ∷ spelled 33 0 ∷ []) (spelled 33 0 ∷ []) ++ da) ++ pick (eqb (guardOf c) 0) [] (spelled (guardOf c) 0 ∷ a)) ++ db)
+      ++ closingOf c a b
 
   pair-by : (o : ℕ) → pairRows o ≡ pairBy (conditionOf (operatorNumbered o))
   unfolding openingRows guardRows closingRows
@@ -70,8 +66,9 @@ module _ (da a db b : List Row) where
   pair-plain : spelled 33 0 ∷ (da ++ db) ≡ pairBy Nothing
   pair-plain = sym (ap (λ rows. spelled 33 0 ∷ rows) (append-nil ((da ++ []) ++ db) ∙ ap (λ rows. rows ++ db) (append-nil da)))
 
-  pair-division : spelled 33 0 ∷ ((spelled 33 0 ∷ (da ++ db)) ++ (spelled 32 0 ∷ spelled 20 0 ∷ (b ++ (spelled 1 0 ∷ [])))) ≡ pairBy Divisor
-  pair-division = simp (append-assoc, append-nil)
+  -- the operands' WD, and what their values must be
+  pair-division : (closing : List Row) → spelled 33 0 ∷ ((spelled 33 0 ∷ (da ++ db)) ++ closing) ≡ ((((spelled 33 0 ∷ spelled 33 0 ∷ []) ++ da) ++ []) ++ db) ++ closing
+  pair-division closing = simp append-assoc
 
   -- the left side again, under ⇒ or ∨
   pair-guarded : (k : ℕ) → spelled 33 0 ∷ (da ++ (spelled k 0 ∷ (a ++ db))) ≡ ((((spelled 33 0 ∷ []) ++ da) ++ (spelled k 0 ∷ a)) ++ db) ++ []
@@ -95,8 +92,8 @@ defined-by afterOf b l r = refl
 defined-by (constantOf c) b l r = refl
 defined-by (unaryOf o) b l r = refl
 defined-by (binaryOf o) b l r = pair-plain (definedTree l) (spellTree l) (definedTree r) (spellTree r)
-defined-by (divisionOf quotient) b l r = pair-division (definedTree l) (spellTree l) (definedTree r) (spellTree r)
-defined-by (divisionOf remainder) b l r = pair-division (definedTree l) (spellTree l) (definedTree r) (spellTree r)
+defined-by (divisionOf quotient) b l r = pair-division (definedTree l) (spellTree l) (definedTree r) (spellTree r) (closingOf Divisor (spellTree l) (spellTree r))
+defined-by (divisionOf remainder) b l r = pair-division (definedTree l) (spellTree l) (definedTree r) (spellTree r) (closingOf Operands (spellTree l) (spellTree r))
 defined-by (connectiveOf and) b l r = pair-guarded (definedTree l) (spellTree l) (definedTree r) (spellTree r) 35
 defined-by (connectiveOf or) b l r = pair-guarded (definedTree l) (spellTree l) (definedTree r) (spellTree r) 34
 defined-by (connectiveOf implies) b l r = pair-guarded (definedTree l) (spellTree l) (definedTree r) (spellTree r) 35

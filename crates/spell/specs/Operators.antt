@@ -1,6 +1,6 @@
 -- 01, Rows: the operators that well-definedness and the forms of entries add to a formula, by name.
 use Prim.Native.Nat.{ℕ}
-use Rattle.formula.specs.Tree.{equal, logicalNot, and, or, implies}
+use Rattle.formula.specs.Tree.{equal, less, atMost, logicalNot, and, or, implies}
 use Rattle.reply.specs.Spelled.{unaryNumber, binaryNumber, connectiveNumber}
 
 abbrev pub literalNumber : ℕ
@@ -14,6 +14,12 @@ afterNumber = 3
 
 abbrev pub equalsNumber : ℕ
 equalsNumber = binaryNumber equal
+
+abbrev pub lessNumber : ℕ
+lessNumber = binaryNumber less
+
+abbrev pub atMostNumber : ℕ
+atMostNumber = binaryNumber atMost
 
 abbrev pub bottomNumber : ℕ
 bottomNumber = 31

@@ -22,12 +22,12 @@ use Rattle.sequent.specs.Entry.{variable, actionTree, witnessRoot, formula}
 use Rattle.sequent.specs.Forms.{entryOf}
 use Rattle.rules.specs.Sorts.{Shape, value, anIdentifier, aVariable, none, one, two, unknown, shapeOf}
 use Rattle.conditions.specs.declared.Condition.{Condition}
-use Rattle.conditions.specs.declared.Condition.the-variants.{Nothing, Divisor, LeftTrue, LeftFalse}
+use Rattle.conditions.specs.declared.Condition.the-variants.{Nothing, Divisor, Operands, LeftTrue, LeftFalse}
 use Rattle.conditions.specs.Condition.{conditionOf}
 use Rattle.reply.specs.Printed.{rowsBytes}
 use Rattle.reply.specs.Spelled.{spelled, spellTree, spell}
 use Rattle.spell.specs.declared.Node.{Node}
-use Rattle.spell.specs.Operators.{literalNumber, identifierNumber, afterNumber, equalsNumber, bottomNumber}
+use Rattle.spell.specs.Operators.{literalNumber, identifierNumber, afterNumber, equalsNumber, lessNumber, atMostNumber, bottomNumber}
 use Rattle.spell.specs.Operators.{notNumber, andNumber, orNumber, impliesNumber}
 
 -- refusal 15, room: a count above every buffer's room is as good as the cap, since a buffer has fewer than 2^64 bytes
@@ -70,18 +70,19 @@ operandRows zero l r = []
 operandRows (suc zero) l r = l
 operandRows (suc (suc k)) l r = l ++ r
 
--- 01, Well-definedness, of a pair in prefix order: the rows before WD(a), those between it and WD(b), given a's, and those after it, given b's
+-- 01, Well-definedness, of a pair in prefix order: the rows before WD(a), those between it and WD(b), given a's, and those after it, given both
 -- "÷ and mod"
-abbrev pub isDivisor : Condition → Bool
-isDivisor Nothing = false
-isDivisor Divisor = true
-isDivisor LeftTrue = false
-isDivisor LeftFalse = false
+abbrev pub isDivision : Condition → Bool
+isDivision Nothing = false
+isDivision Divisor = true
+isDivision Operands = true
+isDivision LeftTrue = false
+isDivision LeftFalse = false
 
 abbrev pub divides : ℕ → Bool
-divides operator = isDivisor (conditionOf (operatorNumbered operator))
+divides operator = isDivision (conditionOf (operatorNumbered operator))
 
--- "Other pairs: WD(a) ∧ WD(b), but ÷ and mod: (WD(a) ∧ WD(b)) ∧ ¬(b = 0)": one ∧, or two
+-- "Other pairs: WD(a) ∧ WD(b), but ÷ and mod: (WD(a) ∧ WD(b)) ∧ ..": one ∧, or two
 unfoldable pub openingRows : ℕ → List Row
 openingRows operator = pick (divides operator) (spelled andNumber 0 ∷ spelled andNumber 0 ∷ []) (spelled andNumber 0 ∷ [])
 
@@ -89,6 +90,7 @@ openingRows operator = pick (divides operator) (spelled andNumber 0 ∷ spelled 
 abbrev pub guardOf : Condition → ℕ
 guardOf Nothing = 0
 guardOf Divisor = 0
+guardOf Operands = 0
 guardOf LeftTrue = impliesNumber
 guardOf LeftFalse = orNumber
 
@@ -98,9 +100,24 @@ guardNumber operator = guardOf (conditionOf (operatorNumbered operator))
 unfoldable pub guardRows : ℕ → List Row → List Row
 guardRows operator left = pick (eqb (guardNumber operator) 0) [] (spelled (guardNumber operator) 0 ∷ left)
 
--- "¬(b = 0)" of ÷ and mod
-unfoldable pub closingRows : ℕ → List Row → List Row
-closingRows operator right = pick (divides operator) (spelled notNumber 0 ∷ ((spelled equalsNumber 0 ∷ right) ++ (spelled literalNumber 0 ∷ []))) []
+-- "¬(b = 0)" of ÷
+abbrev pub nonzeroRows : List Row → List Row
+nonzeroRows right = spelled notNumber 0 ∷ ((spelled equalsNumber 0 ∷ right) ++ (spelled literalNumber 0 ∷ []))
+
+-- 02, request 7: "0 ≤ a ∧ 0 < b" of mod
+abbrev pub naturalRows : List Row → List Row → List Row
+naturalRows left right =
+    (spelled andNumber 0 ∷ (spelled atMostNumber 0 ∷ spelled literalNumber 0 ∷ left)) ++ (spelled lessNumber 0 ∷ spelled literalNumber 0 ∷ right)
+
+abbrev pub closingOf : Condition → List Row → List Row → List Row
+closingOf Nothing left right = []
+closingOf Divisor left right = nonzeroRows right
+closingOf Operands left right = naturalRows left right
+closingOf LeftTrue left right = []
+closingOf LeftFalse left right = []
+
+unfoldable pub closingRows : ℕ → List Row → List Row → List Row
+closingRows operator left right = closingOf (conditionOf (operatorNumbered operator)) left right
 
 -- "after equals before", the after side first: form 4 "if unassigned", and form 10
 abbrev pub unchangedRows : ℕ → List Row

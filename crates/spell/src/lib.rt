@@ -31,7 +31,7 @@ ghost use Rattle.table.specs.Counts.{countsOf};
 ghost use Rattle.operators.specs.Operator.{meantShape};
 ghost use Rattle.reply.specs.Spelled.{spelled, someValueNumber, someAfterValueNumber};
 ghost use Rattle.spell.specs.Operators.{literalNumber, identifierNumber, afterNumber, equalsNumber};
-ghost use Rattle.spell.specs.Spell.{capped, restStart, Spelled, leaf, nodeBy, operandRows, nodeOf, shownRows, definedRows, divides, guardNumber, openingRows, guardRows, closingRows, unchangedRows, movesRows, witnessNode, entryRows};
+ghost use Rattle.spell.specs.Spell.{capped, restStart, Spelled, leaf, nodeBy, operandRows, nodeOf, shownRows, definedRows, divides, guardNumber, openingRows, guardRows, nonzeroRows, naturalRows, closingRows, unchangedRows, movesRows, witnessNode, entryRows};
 
 // More rows than any buffer has room for.
 const ROWS_CAP: u64 = 1152921504606846976;
@@ -219,7 +219,26 @@ fn spell_under(
     add_rows(head, tree)
 }
 
-// Whether the WD of an operator's nodes has ¬(b = 0).
+// A comparison: its row, the row of its left side, and the tree of its right side's root.
+fn spell_comparison(
+    words: &[u64],
+    table: Table,
+    operator: u64,
+    left: u64,
+    b: u64,
+    root: u64,
+    out: &mut [u8],
+) -> u64
+    requires { ⌜ table ≡ countsOf (rowsOf (now words)) ⌝ }
+    ensures { λ r. ⌜ Spelled (spelled operator 0 ∷ spelled left b ∷ shownRows (rowsOf (now (words .entry))) false root) r (now (out .entry)) (now (out .exit)) ⌝ }
+{
+    let head = row_83(out, operator, 0);
+    let at = rest_start(out.len(), head);
+    let sides = spell_under(words, table, left, b, root, false, &mut out[at..]);
+    add_rows(head, sides)
+}
+
+// Whether an operator is ÷ or mod, whose WD says something of the operands' values.
 fn divides(operator: u64) -> bool
     ensures { λ r. ⌜ r ≡ divides operator ⌝ }
 {
@@ -227,6 +246,7 @@ fn divides(operator: u64) -> bool
     match condition {
         Condition::Nothing => false,
         Condition::Divisor => true,
+        Condition::Operands => true,
         Condition::LeftTrue => false,
         Condition::LeftFalse => false,
     }
@@ -240,6 +260,7 @@ fn guard_number(operator: u64) -> u64
     match condition {
         Condition::Nothing => 0,
         Condition::Divisor => 0,
+        Condition::Operands => 0,
         Condition::LeftTrue => operator::IMPLIES,
         Condition::LeftFalse => operator::OR,
     }
@@ -281,18 +302,67 @@ fn spell_equals_zero(words: &[u64], table: Table, n: u64, out: &mut [u8]) -> u64
     add_rows(equal, zero)
 }
 
-// What stands after WD(b): for ÷ and mod ¬(b = 0).
-fn spell_closing(words: &[u64], table: Table, operator: u64, right: u64, out: &mut [u8]) -> u64
+// "¬(b = 0)".
+fn spell_nonzero(words: &[u64], table: Table, right: u64, out: &mut [u8]) -> u64
     requires { ⌜ table ≡ countsOf (rowsOf (now words)) ⌝ }
-    ensures { λ r. ⌜ Spelled (closingRows operator (shownRows (rowsOf (now (words .entry))) false right)) r (now (out .entry)) (now (out .exit)) ⌝ }
+    ensures { λ r. ⌜ Spelled (nonzeroRows (shownRows (rowsOf (now (words .entry))) false right)) r (now (out .entry)) (now (out .exit)) ⌝ }
 {
-    if divides(operator) {
-        let head = row_83(out, operator::NOT, 0);
-        let equal_at = rest_start(out.len(), head);
-        let equal = spell_equals_zero(words, table, right, &mut out[equal_at..]);
-        return add_rows(head, equal);
+    let head = row_83(out, operator::NOT, 0);
+    let at = rest_start(out.len(), head);
+    let equal = spell_equals_zero(words, table, right, &mut out[at..]);
+    add_rows(head, equal)
+}
+
+// "0 ≤ a ∧ 0 < b".
+fn spell_natural(words: &[u64], table: Table, left: u64, right: u64, out: &mut [u8]) -> u64
+    requires { ⌜ table ≡ countsOf (rowsOf (now words)) ⌝ }
+    ensures { λ r. ⌜ Spelled (naturalRows (shownRows (rowsOf (now (words .entry))) false left) (shownRows (rowsOf (now (words .entry))) false right)) r (now (out .entry)) (now (out .exit)) ⌝ }
+{
+    let head = row_83(out, operator::AND, 0);
+    let left_at = rest_start(out.len(), head);
+    let at_most = spell_comparison(
+        words,
+        table,
+        operator::AT_MOST,
+        operator::LITERAL,
+        0,
+        left,
+        &mut out[left_at..],
+    );
+    let to_left = add_rows(head, at_most);
+    let right_at = rest_start(out.len(), to_left);
+    let less = spell_comparison(
+        words,
+        table,
+        operator::LESS,
+        operator::LITERAL,
+        0,
+        right,
+        &mut out[right_at..],
+    );
+    add_rows(to_left, less)
+}
+
+// What stands after WD(b): what ÷ and mod ask of their operands' values.
+fn spell_closing(
+    words: &[u64],
+    table: Table,
+    operator: u64,
+    left: u64,
+    right: u64,
+    out: &mut [u8],
+) -> u64
+    requires { ⌜ table ≡ countsOf (rowsOf (now words)) ⌝ }
+    ensures { λ r. ⌜ Spelled (closingRows operator (shownRows (rowsOf (now (words .entry))) false left) (shownRows (rowsOf (now (words .entry))) false right)) r (now (out .entry)) (now (out .exit)) ⌝ }
+{
+    let condition = find_condition(operator);
+    match condition {
+        Condition::Nothing => 0,
+        Condition::Divisor => spell_nonzero(words, table, right, out),
+        Condition::Operands => spell_natural(words, table, left, right, out),
+        Condition::LeftTrue => 0,
+        Condition::LeftFalse => 0,
     }
-    0
 }
 
 // The WD of node n.
@@ -322,6 +392,7 @@ pub fn spell_defined(words: &[u64], table: Table, n: u64, out: &mut [u8]) -> u64
         words,
         table,
         node.operator,
+        node.left,
         node.right,
         &mut out[closing_at..],
     );
@@ -346,25 +417,6 @@ fn spell_unchanged(x: u64, out: &mut [u8]) -> u64
     ensures { λ r. ⌜ Spelled (unchangedRows x) r (now (out .entry)) (now (out .exit)) ⌝ }
 {
     spell_equation(x, operator::AFTER, operator::IDENTIFIER, out)
-}
-
-// A comparison: its row, the row of its left side, and the tree of its right side's root.
-fn spell_comparison(
-    words: &[u64],
-    table: Table,
-    operator: u64,
-    left: u64,
-    b: u64,
-    root: u64,
-    out: &mut [u8],
-) -> u64
-    requires { ⌜ table ≡ countsOf (rowsOf (now words)) ⌝ }
-    ensures { λ r. ⌜ Spelled (spelled operator 0 ∷ spelled left b ∷ shownRows (rowsOf (now (words .entry))) false root) r (now (out .entry)) (now (out .exit)) ⌝ }
-{
-    let head = row_83(out, operator, 0);
-    let at = rest_start(out.len(), head);
-    let sides = spell_under(words, table, left, b, root, false, &mut out[at..]);
-    add_rows(head, sides)
 }
 
 // Form 4: the action of the event e for the variable x.

@@ -23,5 +23,5 @@ shaped-note-spec = tie.close (tie.spec
     (λ c. simp (c .before .enum-told3 .given .1, c .identifier-note2 .ensures))
     (λ c. cc)
     (λ c. cc)
-    (λ c. cc)
+    (λ c. simp (c .before .enum-told6 .given .1, c .pair-note .ensures))
     (λ c. cc))
