@@ -1,4 +1,4 @@
--- The marked cases P1 to P10 and those of replays and presses hold of the definitions: all are computed, by one proof.
+-- The marked cases P1 to P10 and those of replays, presses and remainders hold of the definitions: all are computed, by one proof.
 use mathlib.Core.Path.{_≡_, refl}
 use mathlib.Core.List.{flatMap}
 use mathlib.Core.Bool.{true}
@@ -9,7 +9,7 @@ use Rattle.number.specs.Number.{columnsOf}
 use Rattle.number.specs.Reading.{numberOf, scanFrom}
 use Rattle.row.specs.Row.{rowBytes}
 use Rattle.table.specs.Rows.{section, count, start}
-use Rattle.formula.specs.Evaluate.{readTree}
+use Rattle.formula.specs.Evaluate.{evaluate, readTree}
 use Rattle.formula.specs.Mentions.{mentions}
 use Rattle.formula.specs.WellDefined.{wellDefined}
 use Rattle.formula.specs.AfterValues.{atAfter}
@@ -26,7 +26,7 @@ use Rattle.rules.specs.Rules.{useOffends, sightOffends, twiceOffends, offends, 
 use Rattle.rules.specs.Verdict.{firstCheck, judge, verdict}
 use Rattle.reply.specs.Spelled.{spellTree, spell}
 use Rattle.reply.specs.Printed.{identifiersIn, sequentRows, rowsBytes}
-use Rattle.reply.specs.Replies.{writeRows, writeSequent, output}
+use Rattle.reply.specs.Replies.{writeRows, writeSequent, spellEntry, output}
 use Rattle.answer.specs.Answer.{within, operands, binaryAnswer, divisionAnswer, connectiveAnswer, unaryAnswer, answer}
 use Rattle.answer.specs.Stored.{stored}
 use Rattle.log.specs.Rows.{logged}
@@ -39,5 +39,5 @@ use Rattle.bench.specs.Press.{afterBy, complete, pressFault, pressOn, outcome, 
 use Rattle.marked.specs.Cases.{falling, cases, allAgree}
 
 marked : allAgree cases ≡ true
-unfolding cases falling flatMap over countBelow first numbers keep columnsOf numberOf scanFrom rowBytes section count start readTree mentions operatorNumbered typeNumbered kindNumbered roleNumbered treeTo treeOf actionOf belonging variablesOf machineOf inOrder eventSequents obligations sequents someOf different lowest highest identifiers divides wellDefined atAfter spellTree spell identifiersIn lineOf wordsOf columnsUsed rowLimit shapeOf operandSort resultSort sortOf mayMention mayMentionAfter seesOnly tagOffends fullOffends eventOffends identifierOffends rootAt referenceOffends rootSort sortOffends usesTo useOffends sightOffends twiceOffends offends missing firstCheck judge verdict sequentRows rowsBytes writeRows writeSequent output within operands binaryAnswer divisionAnswer connectiveAnswer unaryAnswer answer stored logged linesTo lines firstFault untrue notAllowed stepFault move readValues replayFrom replayLog replay valuesIn typesIn laid placed isState updated withValues asked choice afterBy complete pressFault pressOn outcome recordsOutcome press preview
+unfolding cases falling flatMap over countBelow first numbers keep columnsOf numberOf scanFrom rowBytes section count start evaluate readTree mentions operatorNumbered typeNumbered kindNumbered roleNumbered treeTo treeOf actionOf belonging variablesOf machineOf inOrder eventSequents obligations sequents someOf different lowest highest identifiers divides wellDefined atAfter spellTree spell identifiersIn lineOf wordsOf columnsUsed rowLimit shapeOf operandSort resultSort sortOf mayMention mayMentionAfter seesOnly tagOffends fullOffends eventOffends identifierOffends rootAt referenceOffends rootSort sortOffends usesTo useOffends sightOffends twiceOffends offends missing firstCheck judge verdict sequentRows rowsBytes writeRows writeSequent spellEntry output within operands binaryAnswer divisionAnswer connectiveAnswer unaryAnswer answer stored logged linesTo lines firstFault untrue notAllowed stepFault move readValues replayFrom replayLog replay valuesIn typesIn laid placed isState updated withValues asked choice afterBy complete pressFault pressOn outcome recordsOutcome press preview
 marked = refl

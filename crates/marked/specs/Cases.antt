@@ -1,5 +1,5 @@
 -- 01, Table L and marked cases: P1 to P10 as rows of one table: what the definitions give, and what 01 says, P1 to P3 as 02's request 4 has them; then replays of logs,
--- and what 02's request 5 says; then presses and previews, and what request 6 says. One proof computes them all.
+-- and what 02's request 5 says; then presses and previews, and what request 6 says; then remainders, as request 7 has them. One proof computes them all.
 use Prim.Native.Nat.{ℕ, zero, suc, _-_}
 use mathlib.Core.Bool.{Bool, true, false, _&&_}
 use mathlib.Core.List.{List, [], _∷_, _++_}
@@ -10,7 +10,7 @@ use lib.ListN.{replicate, set, take}
 use Rattle.row.specs.declared.Row.{Row}
 use Rattle.formula.specs.Values.{integer, AnyValue, number, truth, asValue}
 use Rattle.formula.specs.Tree.{literal, logicalNot, equal, quotient, remainder, and, Division, Tree, constant, identifier, unary, binary, division, connective}
-use Rattle.formula.specs.Evaluate.{Env, readTree}
+use Rattle.formula.specs.Evaluate.{Env, evaluate, readTree}
 use Rattle.machine.specs.Machine.{Machine}
 use Rattle.rules.specs.declared.Verdict.{Verdict}
 use Rattle.rules.specs.declared.Verdict.the-variants as verdict
@@ -22,7 +22,7 @@ use Rattle.reply.specs.declared.Reply.{Reply}
 use Rattle.reply.specs.declared.Reply.the-variants as reply
 use Rattle.reply.specs.Row.{row}
 use Rattle.reply.specs.Printed.{rowsBytes}
-use Rattle.reply.specs.Replies.{Outcome, writeSequent, output}
+use Rattle.reply.specs.Replies.{Outcome, writeSequent, spellEntry, output}
 use Rattle.log.specs.declared.Replay.{Replay}
 use Rattle.log.specs.declared.Replay.the-variants as replayed
 use Rattle.log.specs.Replay.{replay}
@@ -113,12 +113,12 @@ twiceL =
 abbrev room : ℕ → List ℕ
 room n = replicate n 7
 
--- −7 and 2
-abbrev minusSeven : Tree
-minusSeven = constant (literal 18446744073709551609)
-
+-- −7 and 2, 7 and −2
 abbrev divided : Division → Tree
-divided o = division o minusSeven (constant (literal 2))
+divided o = division o (constant (literal 18446744073709551609)) (constant (literal 2))
+
+abbrev byMinusTwo : Division → Tree
+byMinusTwo o = division o (constant (literal 7)) (constant (literal 18446744073709551614))
 
 -- a = 1 and b = 0
 abbrev valueAB : ℕ → ℤ
@@ -239,6 +239,43 @@ sixM = stateM 0 (pos 6) (pos 0) (pos 6)
 abbrev refusedSix : ℕ → List ℕ
 refusedSix n = refused n 0 ++ ofRecords sixM
 
+-- 02, request 7: a table with a concrete variable n and a parameter p. Event 2, the concrete initialisation, makes n such that ⊤; event 3, which is anticipated,
+-- makes n := (n × n × n) mod (p × p × p), so that either operand can be negative or leave 64 bits.
+abbrev rowsR : List Row
+rowsR =
+    row 10 3 1 0 ∷ row 10 5 1 3 ∷
+    row 20 30 0 0 ∷ row 20 2 1 0 ∷ row 20 2 1 0 ∷ row 20 12 2 3 ∷ row 20 2 1 0 ∷ row 20 12 4 5 ∷
+    row 20 2 2 0 ∷ row 20 2 2 0 ∷ row 20 12 7 8 ∷ row 20 2 2 0 ∷ row 20 12 9 10 ∷ row 20 14 6 11 ∷
+    row 40 1 0 0 ∷ row 40 2 0 0 ∷ row 40 2 3 0 ∷ row 51 3 1 12 ∷ row 52 2 1 1 ∷ []
+
+abbrev bytesR : List ℕ
+bytesR = rowsBytes rowsR
+
+-- the well-definedness of that action: (((⊤ ∧ ⊤) ∧ ⊤) ∧ ((⊤ ∧ ⊤) ∧ ⊤)) ∧ (0 ≤ n × n × n ∧ 0 < p × p × p)
+abbrev spelt : ℕ → ℕ → Row
+spelt operator b = row 83 operator b 0
+
+abbrev cubeDefined : List Row
+cubeDefined = spelt 33 0 ∷ spelt 33 0 ∷ spelt 30 0 ∷ spelt 30 0 ∷ spelt 30 0 ∷ []
+
+abbrev cube : ℕ → List Row
+cube x = spelt 12 0 ∷ spelt 12 0 ∷ spelt 2 x ∷ spelt 2 x ∷ spelt 2 x ∷ []
+
+abbrev definedR : List Row
+definedR =
+    spelt 33 0 ∷ spelt 33 0 ∷ (cubeDefined ++ (cubeDefined ++ (spelt 33 0 ∷ spelt 22 0 ∷ spelt 1 0 ∷ (cube 1 ++ (spelt 21 0 ∷ spelt 1 0 ∷ cube 2)))))
+
+-- a log: n at first, then n and p of a step
+abbrev replayR : ℕ → ℕ → ℕ → List ℕ
+replayR before after p = ofReplay (replay bytesR (rowsBytes (row 90 2 0 0 ∷ row 91 1 before 0 ∷ row 90 3 0 0 ∷ row 91 1 after 0 ∷ row 91 2 p 0 ∷ [])))
+
+-- event 3 pressed with p, where n has a value; the record of p has one that no step reads
+abbrev stateR : ℤ → List Record
+stateR n = integerRecord n ∷ integerRecord (pos 9) ∷ []
+
+abbrev pressR : ℕ → ℤ → List ℕ
+pressR p n = let q = press bytesR (rowsBytes (row 90 3 0 0 ∷ row 91 2 p 0 ∷ [])) (stateR n) in ofPress (q .reply) ++ ofRecords (q .state)
+
 unfoldable pub cases : List Case
 cases =
     -- P1: the program prints for L
@@ -260,9 +297,9 @@ cases =
     ∷ gives (ofVerdict (verdictOf [])) (refused 12 0)
     -- P7: 37 bytes: 1
     ∷ gives (ofVerdict (verdictOf (room 37))) (refused 1 0)
-    -- P8: −7 ÷ 2 = −3 and −7 mod 2 = −1
+    -- P8: −7 ÷ 2 = −3; 02, request 7: "−7 mod 2 becomes undefined"
     ∷ gives (ofReading (readTree at (divided quotient))) (whole (negsuc 2))
-    ∷ gives (ofReading (readTree at (divided remainder))) (whole (negsuc 0))
+    ∷ gives (ofReading (readTree at (divided remainder))) undefined
     -- P9: ¬(b = 0) ∧ a ÷ b = 1 is false at b = 0; with sides exchanged, undefined
     ∷ gives (ofReading (readTree at (connective and nonzero quotientOne))) (bit false)
     ∷ gives (ofReading (readTree at (connective and quotientOne nonzero))) undefined
@@ -347,6 +384,34 @@ cases =
     ∷ gives (previewM (choose 2 2) sixM (replicate 5 (booleanRecord 7))) (accepted 0 ++ (ofRecords sixM ++ ofRecords (stateM 1 (pos 6) (pos 2) (pos 6))))
     ∷ gives (previewM (choose 2 0) sixM (replicate 5 (booleanRecord 7))) (refused 17 0 ++ (ofRecords sixM ++ ofRecords (replicate 5 (booleanRecord 7))))
     ∷ gives (previewM (choose 2 0) sixM (replicate 4 (booleanRecord 7))) (refused 18 0 ++ (ofRecords sixM ++ ofRecords (replicate 4 (booleanRecord 7))))
+    -- 02, request 7: 7 mod −2 is undefined, 7 ÷ −2 = −3; "Sequents still read an undefined remainder as 0"
+    ∷ gives (ofReading (readTree at (byMinusTwo remainder))) undefined
+    ∷ gives (ofReading (readTree at (byMinusTwo quotient))) (whole (negsuc 2))
+    ∷ gives (ofReading (some (evaluate at (divided remainder)))) (whole (pos 0))
+    ∷ gives (ofReading (some (evaluate at (byMinusTwo remainder)))) (whole (pos 0))
+    -- FIS of the initialisation, and WD of event 3's action, whose goal mentions dividend and divisor
+    ∷ gives (ofVerdict (verdictOf bytesR)) (accepted 2)
+    ∷ gives (ofOutcome (writeSequent bytesR 2 (room 114))) (accepted 3 ++ rowsBytes (row 80 1 3 12 ∷ row 84 2 1 2 ∷ row 82 3 12 0 ∷ []))
+    ∷ gives (ofOutcome (spellEntry bytesR 2 1 (room 1026))) (accepted 27 ++ rowsBytes definedR)
+    -- 27 mod 8 = 3, replayed and pressed
+    ∷ gives (replayR 3 3 2) (accepted 1)
+    ∷ gives (pressR 2 (pos 3)) (accepted 0 ++ ofRecords (stateR (pos 3)))
+    -- 17: a negative dividend, divisor 0, a negative divisor, both negative
+    ∷ gives (replayR (minus 2) 0 2) (refused 17 3)
+    ∷ gives (replayR 3 0 0) (refused 17 3)
+    ∷ gives (replayR 3 0 (minus 1)) (refused 17 3)
+    ∷ gives (replayR (minus 2) 0 (minus 1)) (refused 17 3)
+    ∷ gives (pressR 2 (negsuc 1)) (refused 17 0 ++ ofRecords (stateR (negsuc 1)))
+    -- a dividend outside 64 bits counts as not negative: 16 beside a divisor above 0, else 17
+    ∷ gives (replayR 2147483647 0 1) (refused 16 3)
+    ∷ gives (replayR (minus 2147483648) 0 1) (refused 16 3)
+    ∷ gives (replayR (minus 2147483648) 0 0) (refused 17 3)
+    ∷ gives (replayR (minus 2147483648) 0 (minus 1)) (refused 17 3)
+    ∷ gives (pressR 1 (negsuc 2147483647)) (refused 16 0 ++ ofRecords (stateR (negsuc 2147483647)))
+    -- a divisor outside 64 bits: 16, also with a negative dividend
+    ∷ gives (replayR 3 0 (minus 2147483648)) (refused 16 3)
+    ∷ gives (replayR (minus 2) 0 2147483647) (refused 16 3)
+    ∷ gives (pressR 2147483647 (negsuc 1)) (refused 16 0 ++ ofRecords (stateR (negsuc 1)))
     ∷ []
 
 -- the two are the same in every case
