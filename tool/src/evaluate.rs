@@ -67,14 +67,15 @@ pub fn evaluate(formula: &Formula, table: &Table, values: &Values) -> Result<Val
     }
 }
 
-/// a mod b is a − b × (a ÷ b).
+/// a mod b is a − b × (a ÷ b), and defined for 0 ≤ a and 0 < b.
 fn arithmetic(operator: i64, a: i128, b: i128) -> Result<Value, NoValue> {
     let result = match operator {
         PLUS => a.checked_add(b),
         MINUS => a.checked_sub(b),
         TIMES => a.checked_mul(b),
-        _ if b == 0 => Some(0),
+        DIVIDE if b == 0 => Some(0),
         DIVIDE => a.checked_div(b),
+        _ if a < 0 || b <= 0 => Some(0),
         _ => a.checked_rem(b),
     };
     result.map(Value::Integer).ok_or(NoValue::TooLarge)

@@ -13,11 +13,11 @@ use std::collections::BTreeSet;
 pub const PREAMBLE: &str = "\
 (set-option :produce-models true)
 (set-logic UFNIA)
-; a ÷ b, toward zero, and a mod b = a − b × (a ÷ b); both are 0 for b = 0
+; a ÷ b, toward zero, 0 for b = 0; a mod b = a − b × (a ÷ b), 0 but for 0 ≤ a and 0 < b
 (define-fun quotient ((a Int) (b Int)) Int
   (ite (= b 0) 0 (ite (<= 0 a) (div a b) (- (div (- a) b)))))
 (define-fun remainder ((a Int) (b Int)) Int
-  (ite (= b 0) 0 (- a (* b (quotient a b)))))
+  (ite (and (<= 0 a) (< 0 b)) (- a (* b (quotient a b))) 0))
 ";
 
 /// Names that SMT-LIB or a prover has for itself, or the preamble defines.

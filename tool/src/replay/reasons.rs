@@ -54,9 +54,12 @@ impl Reasons<'_> {
         let (shown, at) = (self.shown(term), self.at(term));
         let operand = |n: usize| Value::Integer(operands[n].into()).shown();
         let exact = match (fault, operands.len()) {
-            (Fault::Undefined, _) => {
-                let divisor = self.shown(&term.operands[1]);
-                return format!("`{shown}` is undefined: its divisor `{divisor}` is 0{at}");
+            (Fault::Undefined, from_fault) => {
+                let at_fault = 2 - from_fault;
+                let side = ["dividend", "divisor"][at_fault];
+                let term = self.shown(&term.operands[at_fault]);
+                let value = operand(0);
+                return format!("`{shown}` is undefined: its {side} `{term}` is {value}{at}");
             }
             (Fault::Outside, 1) => format!("−({})", operand(0)),
             (Fault::Outside, _) => {

@@ -10,7 +10,7 @@ pub enum Fault {
     Undefined,
 }
 
-/// The term that has no value, and the values of its operands; none of an undefined one, whose divisor is 0.
+/// The term that has no value, and the values of its operands; of an undefined one those from the operand at fault on.
 #[derive(Clone, Debug)]
 pub struct Faulty<'a> {
     pub fault: Fault,
@@ -80,13 +80,14 @@ fn both<'a>(formula: &'a Formula, left: Answer<'a>, right: Answer<'a>) -> Answer
     if is_undefined(&right) {
         return right;
     }
-    let divides = [DIVIDE, MOD].contains(&formula.operator);
-    match (left, right) {
-        (_, Ok(0)) if divides => Err(Faulty {
+    if let Some(operands) = at_fault(formula.operator, &left, &right) {
+        return Err(Faulty {
             fault: Fault::Undefined,
             term: formula,
-            operands: vec![],
-        }),
+            operands,
+        });
+    }
+    match (left, right) {
         (Ok(left), Ok(right)) => inside(
             formula,
             strict(formula.operator, left, right),
@@ -96,14 +97,26 @@ fn both<'a>(formula: &'a Formula, left: Answer<'a>, right: Answer<'a>) -> Answer
     }
 }
 
-/// Nothing if it is outside 64 bits. ÷ rounds toward zero; −2⁶³ mod −1 is 0.
+/// The operand for which ÷ or mod is undefined itself, and those after it: a divisor 0; of mod a dividend below 0 or a divisor
+/// that isn't above it. A dividend outside 64 bits counts as not negative.
+fn at_fault(operator: i64, left: &Answer, right: &Answer) -> Option<Vec<i64>> {
+    let divisor = *right.as_ref().ok()?;
+    match (operator, left) {
+        (DIVIDE, _) if divisor == 0 => Some(vec![divisor]),
+        (MOD, Ok(dividend)) if *dividend < 0 => Some(vec![*dividend, divisor]),
+        (MOD, _) if divisor <= 0 => Some(vec![divisor]),
+        _ => None,
+    }
+}
+
+/// Nothing if it is outside 64 bits. ÷ rounds toward zero.
 fn strict(operator: i64, a: i64, b: i64) -> Option<i64> {
     match operator {
         PLUS => a.checked_add(b),
         MINUS => a.checked_sub(b),
         TIMES => a.checked_mul(b),
         DIVIDE => a.checked_div(b),
-        MOD => Some(a.wrapping_rem(b)),
+        MOD => a.checked_rem(b),
         EQUAL => Some(i64::from(a == b)),
         LESS => Some(i64::from(a < b)),
         _ => Some(i64::from(a <= b)),

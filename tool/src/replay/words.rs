@@ -189,7 +189,7 @@ pub fn numbered(step: usize) -> String {
 fn look_for(number: u64) -> &'static str {
     match number {
         OUTSIDE => "a formula whose parts grow far beyond what is logged; every part of it has to stay in signed 64 bits",
-        UNDEFINED => "a guard or an axiom that keeps the divisor from 0, before the formula that divides",
+        UNDEFINED => "a guard or an axiom that keeps the divisor from 0, and of mod both sides from below 0, before the formula that divides",
         _ => "a step that isn't in the model, a row that was lost or logged twice, another version of the model",
     }
 }

@@ -36,6 +36,8 @@ events
   anticipated event pick then @act1 v :∣ v < v' end
   anticipated event flip where @grd1 ⊤ then @act1 on ≔ bool(on = FALSE) end
   anticipated event never where @grd1 ⊥ end
+  anticipated event rest any d ∈ ℤ then @act1 v ≔ d mod c end
+  anticipated event over any d ∈ ℤ then @act1 v ≔ (big ∗ big ∗ big) mod d end
 end
 ";
 
@@ -235,7 +237,15 @@ fn a_term_without_value() {
     refuses("less: d = −2147483648, ..", 16, 6, outside);
     let undefined = "step 1: action @act1 of event part: `v mod d` is undefined: its divisor `d` is 0 at v = 0, d = 0";
     refuses("part: d = 0, ..", 17, 6, undefined);
-    // a divisor 0 counts before a dividend outside
+    let undefined = "step 1: action @act1 of event part: `v mod d` is undefined: its divisor `d` is −2 at v = 0, d = −2";
+    refuses("part: d = -2, ..", 17, 6, undefined);
+    let undefined = "step 1: action @act1 of event rest: `d mod c` is undefined: its dividend `d` is −4 at c = 3, d = −4";
+    refuses("rest: d = -4, ..", 17, 6, undefined);
+    // a divisor that isn't above 0 counts before a dividend outside
+    let undefined = "step 1: action @act1 of event over: `big ∗ big ∗ big mod d` is undefined: its divisor `d` is −1 at big = 2147483647, d = −1";
+    refuses("over: d = -1, ..", 17, 6, undefined);
+    let outside = "step 1: action @act1 of event over: `big ∗ big ∗ big` is outside signed 64 bits: 4611686014132420609 ∗ 2147483647 at big = 2147483647";
+    refuses("over: d = 1, ..", 16, 6, outside);
     let undefined = "step 1: action @act1 of event both: `big ∗ big ∗ big ÷ (d + 1)` is undefined: its divisor `d + 1` is 0 at big = 2147483647, d = −1";
     refuses("both: d = -1, ..", 17, 6, undefined);
     let outside = "step 1: action @act1 of event both: `big ∗ big ∗ big` is outside signed 64 bits: 4611686014132420609 ∗ 2147483647 at big = 2147483647";

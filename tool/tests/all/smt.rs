@@ -23,11 +23,11 @@ const MODELS: [&str; 5] = [
 const CARRY: &str = "\
 (set-option :produce-models true)
 (set-logic UFNIA)
-; a ÷ b, toward zero, and a mod b = a − b × (a ÷ b); both are 0 for b = 0
+; a ÷ b, toward zero, 0 for b = 0; a mod b = a − b × (a ÷ b), 0 but for 0 ≤ a and 0 < b
 (define-fun quotient ((a Int) (b Int)) Int
   (ite (= b 0) 0 (ite (<= 0 a) (div a b) (- (div (- a) b)))))
 (define-fun remainder ((a Int) (b Int)) Int
-  (ite (= b 0) 0 (- a (* b (quotient a b)))))
+  (ite (and (<= 0 a) (< 0 b)) (- a (* b (quotient a b))) 0))
 ; sequent 29: carry/inv1/INV
 (declare-const base Int)
 (declare-const limit Int)
@@ -306,7 +306,7 @@ fn entries_have_the_values_of_their_formulas() {
 }
 
 #[test]
-fn the_preamble_divides_toward_zero() {
+fn the_preamble_divides_as_sequents_do() {
     let functions = functions();
     let of = |text: String| value(&commands(&text)[0], &Known::new(), &functions);
     let written = |n: i128| match n < 0 {
@@ -314,10 +314,8 @@ fn the_preamble_divides_toward_zero() {
         false => n.to_string(),
     };
     for (a, b) in (-20..=20).flat_map(|a| (-20..=20).map(move |b| (a, b))) {
-        let (quotient, remainder) = match b {
-            0 => (0, 0),
-            _ => (a / b, a % b),
-        };
+        let quotient = if b == 0 { 0 } else { a / b };
+        let remainder = if a < 0 || b <= 0 { 0 } else { a % b };
         let operands = format!("{} {}", written(a), written(b));
         let found = of(format!("(quotient {operands})"));
         assert_eq!(found, Value::Integer(quotient), "{a} ÷ {b}");
