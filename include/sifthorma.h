@@ -23,7 +23,7 @@
  *   14       0                           entry: j isn't from 1 to the number of the sequent's entries
  *   15       0                           room: the buffer is shorter than the rows
  *   16       row 90 of the step          outside: a term that is read leaves signed 64 bits
- *   17       row 90 of the step          undefined: a term that is read divides by 0
+ *   17       row 90 of the step          undefined: a term that is read divides by 0, or is a mod b without 0 <= a and 0 < b
  *   18       row, or 0                   log: the row is bad, torn or not the one that is expected; or it is the row 90 of a step that isn't allowed; 0 where the log is empty or ends inside a step
  *
  * sifthorma_press and sifthorma_preview give 16, 17 and 18 with 0 in place of the row.
