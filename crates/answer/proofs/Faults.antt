@@ -4,16 +4,18 @@ use mathlib.Core.Path.{_≡_, refl, sym, ap, ap₂, _∙_}
 use mathlib.Core.Bool.{Bool, true, false, true≢false, _&&_}
 use mathlib.Core.Option.{Option, none, some, Option·map}
 use mathlib.Core.Logic.{_⊎_, inl, inr}
-use Prim.Native.Nat.{ℕ}
-use lib.Dec.{T}
-use lib.IntN.{ℤ, pos}
+use Prim.Native.Nat.{ℕ, _<_, _^_}
+use native.Mathlib.Omega.{arith}
+use lib.Dec.{T, nleb→lt, lt→ltb, ltb→lt}
+use lib.IntN.{ℤ, pos, negsuc}
 use Rattle.lists.specs.Choice.{pick}
-use Rattle.formula.specs.Values.{ValueType, AnyValue, number, truth, wrap, asNumber, asTruth, atMostℤ, lessℤ}
+use Rattle.formula.specs.Values.{ValueType, AnyValue, number, truth, wrap, asNumber, asTruth, atMostℤ, lessℤ, remainderℤ}
 use Rattle.formula.specs.Tree.{Unary, Binary, plus, minus, times, equal, less, atMost, iff, Division, quotient, remainder, Connective}
 use Rattle.formula.specs.Tree.{Tree, constant, identifier, after, unary, binary, division, connective}
 use Rattle.formula.specs.Evaluate.{Env, readTree, constantValue, unaryValue, binaryValue, divisionDefined, divisionValue, connectiveValue, readsRight}
 use Rattle.formula.specs.Evaluate.{andThen, readDivision, readConnective}
 use Rattle.formula.proofs.Truth.{test-true, true-test}
+use Rattle.formula.proofs.Division.{remainder-range}
 use Rattle.answer.specs.Answer.{Answer, value, outside, undefined, fits, fitsValue, within, valueThen, notNegative, operands, always}
 use Rattle.answer.specs.Answer.{binaryAnswer, divisionAnswer, rightOf, connectiveAnswer, unaryAnswer, answer}
 use Rattle.answer.specs.Met.{Met, met-itself, met-operand, met-left, met-right, met-dividend, met-divisor, met-first, met-second}
@@ -335,6 +337,18 @@ pub dividend-outside : (o : Division) (v w : AnyValue) → T (atMostℤ (pos 0) 
 unfolding divisionAnswer operands
 dividend-outside quotient v w h = refl
 dividend-outside remainder v w h = ap (λ b. pick (b && lessℤ (pos 0) (asNumber w)) outside undefined) (sym (test-true (atMostℤ (pos 0) (asNumber v)) h))
+
+-- where mod is defined, it leaves 64 bits only if its divisor does: it is from 0 to below the divisor
+pub remainder-fits : (a b : ℤ) → T (divisionDefined remainder (number a) (number b)) → T (fits b) → T (fits (remainderℤ a b))
+remainder-fits a b d h = let p = remainder-range a b d in between (remainderℤ a b) b (p .0) (p .1) h
+  where
+    below : {m n : ℕ} → m < n → n < 2 ^ 63 → m < 2 ^ 63
+    below p q = omega arith
+
+    between : (r b : ℤ) → T (atMostℤ (pos 0) r) → T (lessℤ r b) → T (fits b) → T (fits r)
+    between (pos m) (pos n) s t h = lt→ltb m (2 ^ 63) (below (nleb→lt n m t) (ltb→lt n (2 ^ 63) h))
+    between (pos m) (negsuc n) s t h = absurd t
+    between (negsuc m) b s t h = absurd s
 
 -- "∧, ∨, ⇒ and ⇔ stop at a faulty left side"
 pub stops-at-left : (o : Connective) (r : Answer) → (connectiveAnswer o outside r ≡ outside) × (connectiveAnswer o undefined r ≡ undefined)
