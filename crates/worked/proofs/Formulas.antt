@@ -3,7 +3,7 @@ use mathlib.Core.Path.{_≡_, refl}
 use Rattle.lists.specs.Below.{countBelow, first, numbers, keep}
 use Rattle.table.specs.Rows.{section, count, start}
 use Rattle.formula.specs.Values.{integer, boolean}
-use Rattle.formula.specs.Tree.{literal, FALSE, top, logicalNot, minus, equal, less, atMost, quotient, and, constant, identifier, after, unary, binary, division, connective}
+use Rattle.formula.specs.Tree.{literal, FALSE, top, logicalNot, minus, equal, less, atMost, quotient, remainder, and, constant, identifier, after, unary, binary, division, connective}
 use Rattle.formula.specs.Formula.{plain, someValue, someAfterValue}
 use Rattle.formula.specs.AfterValues.{atAfter}
 use Rattle.formula.specs.WellDefined.{wellDefined}
@@ -49,7 +49,7 @@ unfolding worked words machineOf treeOf treeTo start count countBelow operatorNu
 written-31 = refl
 
 -- ¬(p = 0)
-pub written-35 : formula worked (written 35) ≡ plain (unary logicalNot (binary equal (identifier 6) (constant (literal 0))))
+pub written-35 : formula worked (written 35) ≡ plain (unary logicalNot (binary atMost (identifier 6) (constant (literal 0))))
 unfolding worked words machineOf treeOf treeTo start count countBelow operatorNumbered typeNumbered kindNumbered actionOf first belonging section numbers keep atAfter wellDefined
 written-35 = refl
 
@@ -104,7 +104,7 @@ unfolding worked words machineOf treeOf treeTo start count countBelow operatorNu
 defined-40 = refl
 
 -- WD of a ÷ p
-pub defined-43 : formula worked (defined 43) ≡ plain (connective and (connective and (constant top) (constant top)) (unary logicalNot (binary equal (identifier 6) (constant (literal 0)))))
+pub defined-43 : formula worked (defined 43) ≡ plain (connective and (connective and (constant top) (constant top)) (connective and (binary atMost (constant (literal 0)) (identifier 2)) (binary less (constant (literal 0)) (identifier 6))))
 unfolding worked words machineOf treeOf treeTo start count countBelow operatorNumbered typeNumbered kindNumbered actionOf first belonging section numbers keep atAfter wellDefined
 defined-43 = refl
 
@@ -139,7 +139,7 @@ unfolding worked words machineOf treeOf treeTo start count countBelow operatorNu
 moves-3-4 = refl
 
 -- a′ = a ÷ p
-pub moves-4-2 : formula worked (moves 4 2) ≡ plain (binary equal (after 2) (division quotient (identifier 2) (identifier 6)))
+pub moves-4-2 : formula worked (moves 4 2) ≡ plain (binary equal (after 2) (division remainder (identifier 2) (identifier 6)))
 unfolding worked words machineOf treeOf treeTo start count countBelow operatorNumbered typeNumbered kindNumbered actionOf first belonging section numbers keep atAfter wellDefined
 moves-4-2 = refl
 

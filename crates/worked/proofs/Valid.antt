@@ -1,20 +1,23 @@
 -- The 25 sequents of the worked table are valid. They follow from one to
 -- three of their hypotheses, by putting equals for equals, and those of the variant and of u ≤ N by the order of the whole numbers.
-use Prim.Native.Nat.{ℕ}
+use Prim.Native.Nat.{ℕ, zero, suc}
 use mathlib.Core.Path.{_≡_, refl, sym, ap, _∙_, subst, subst⁻¹}
-use mathlib.Core.Bool.{false, not}
+use mathlib.Core.Bool.{Bool, true, false, not}
 use native.Mathlib.Omega.{arith}
-use lib.Dec.{T}
-use lib.IntN.{ℤ, pos, sucℤ, _+ℤ_, _-ℤ_, -ℤ-+ℤ-cancel, +ℤ-idl, +ℤ-one}
+use lib.Dec.{T, eqb·suc-zero}
+use lib.IntN.{ℤ, pos, negsuc, sucℤ, _+ℤ_, _-ℤ_, -ℤ-+ℤ-cancel, +ℤ-idl, +ℤ-one}
 use Rattle.lists.specs.All.{All, all-nil, all-cons}
 use Rattle.lists.specs.Below.{countBelow}
+use Rattle.lists.specs.Choice.{pick}
 use Rattle.lists.proofs.All.{all-head, all-tail, all-join}
 use Rattle.table.specs.Rows.{start}
 use Rattle.formula.specs.Values.{ValueType, integer, boolean, Value, AnyValue, number, truth, wrap, asNumber, asValue, equalValue, atMostℤ, lessℤ}
-use Rattle.formula.specs.Tree.{literal, FALSE, equal, atMost, quotient, constant, identifier, after, binary}
-use Rattle.formula.specs.Evaluate.{Env, evaluate, totalDivision}
+use Rattle.formula.specs.Tree.{literal, FALSE, equal, atMost, quotient, remainder, constant, identifier, after, binary}
+use Rattle.formula.specs.Evaluate.{Env, evaluate, divisionDefined, divisionValue, totalDivision}
 use Rattle.formula.specs.Formula.{Formula, someValue, someAfterValue, Holds}
 use Rattle.formula.proofs.Values.{equal-value-eq, eq-equal-value}
+use Rattle.formula.proofs.Truth.{and-join}
+use Rattle.formula.proofs.Division.{remainder-from-zero}
 use Rattle.formula.proofs.Order.{at-most-gap, gap-at-most, suc-less, less-at-most, at-most-refl, at-most-trans}
 use Rattle.formula.proofs.Override.{override-same, override-other}
 use Rattle.machine.specs.Operator.{operatorNumbered}
@@ -38,6 +41,20 @@ at-most-from v w n = equal-for (λ z. T (atMostℤ (asNumber z) (asNumber n))) v
 
 nonzero-from : (v w : AnyValue) → T (equalValue v w) → T (not (equalValue w (number (pos 0)))) → T (not (equalValue v (number (pos 0))))
 nonzero-from = equal-for (λ z. T (not (equalValue z (number (pos 0)))))
+
+above-nonzero : (v : AnyValue) → T (not (atMostℤ (asNumber v) (pos 0))) → T (not (equalValue v (number (pos 0))))
+above-nonzero (number (pos zero)) h = absurd h
+above-nonzero (number (pos (suc n))) h = rw (eqb·suc-zero n) tt
+above-nonzero (number (negsuc n)) h = tt
+above-nonzero (truth b) h = tt
+
+-- a remainder of a number from 0 on is one, also where sequents read it as 0
+remainder-natural : (a p : AnyValue) → T (atMostℤ (pos 0) (asNumber a)) → T (atMostℤ (pos 0) (asNumber (totalDivision remainder a p)))
+remainder-natural a p h = go (divisionDefined remainder a p)
+  where
+    go : (d : Bool) → T (atMostℤ (pos 0) (asNumber (pick d (divisionValue remainder a p) (number (pos 0)))))
+    go true = remainder-from-zero (asNumber a) (asNumber p) h
+    go false = tt
 
 -- from q = p: what holds of a ÷ p holds of a ÷ q
 quotient-from : (a q p : AnyValue) → T (equalValue q p) → T (atMostℤ (pos 0) (asNumber (totalDivision quotient a p)))
@@ -154,24 +171,24 @@ valid3 =
     (all-cons (λ ρ h. shown ρ (primed 12) f.primed-12 (at-most-from (next ρ 4) (now ρ 1) (now ρ 1) (from ρ (moves 3 4) f.moves-3-4 (all-head (all-tail (all-tail h)))) (at-most-refl (asNumber (now ρ 1)))))
     all-nil))))
 
--- the refining event: guards ¬(p = 0) and 0 ≤ a ÷ p, a := a ÷ p
+-- the refining event: guards ¬(p ≤ 0) and 0 ≤ a ÷ p, a := a mod p
 valid4 : All (Valid worked) list4
 unfolding Valid evaluate worked words machineOf treeOf treeTo start countBelow operatorNumbered
 valid4 =
     -- WD of 40
-    (all-cons (λ ρ h. shown ρ (defined 40) f.defined-40 (from ρ (written 35) f.written-35 (all-head (all-tail (all-tail (all-tail (all-tail h)))))))
+    (all-cons (λ ρ h. shown ρ (defined 40) f.defined-40 (above-nonzero (now ρ 6) (from ρ (written 35) f.written-35 (all-head (all-tail (all-tail (all-tail (all-tail h))))))))
     -- WD of 43
-    (all-cons (λ ρ h. shown ρ (defined 43) f.defined-43 (from ρ (written 35) f.written-35 (all-head (all-tail (all-tail (all-tail (all-tail h)))))))
+    (all-cons (λ ρ h. shown ρ (defined 43) f.defined-43 (and-join (atMostℤ (pos 0) (asNumber (now ρ 2))) (lessℤ (pos 0) (asNumber (now ρ 6))) (from ρ (written 6) f.written-6 (all-head (all-tail h))) (from ρ (written 35) f.written-35 (all-head (all-tail (all-tail (all-tail (all-tail h))))))))
     -- WFIS of 5
     (all-cons (λ ρ h. shown ρ (witnessed 4 5) f.witnessed-4-5 (some-value ρ 5 6 (λ e. omega arith) (f.type-5 ∙ sym f.type-6)))
     -- WFIS of 3
     (all-cons (λ ρ h. shown ρ (witnessed 4 3) f.witnessed-4-3 (some-false ρ 3 f.type-3))
     -- GRD of 18
-    (all-cons (λ ρ h. shown ρ (written 18) f.written-18 (nonzero-from (now ρ 5) (now ρ 6) (from ρ (written 46) f.written-46 (all-head (all-tail (all-tail (all-tail (all-tail (all-tail (all-tail h)))))))) (from ρ (written 35) f.written-35 (all-head (all-tail (all-tail (all-tail (all-tail h))))))))
+    (all-cons (λ ρ h. shown ρ (written 18) f.written-18 (nonzero-from (now ρ 5) (now ρ 6) (from ρ (written 46) f.written-46 (all-head (all-tail (all-tail (all-tail (all-tail (all-tail (all-tail h)))))))) (above-nonzero (now ρ 6) (from ρ (written 35) f.written-35 (all-head (all-tail (all-tail (all-tail (all-tail h)))))))))
     -- GRD of 23
     (all-cons (λ ρ h. shown ρ (written 23) f.written-23 (quotient-from (now ρ 2) (now ρ 5) (now ρ 6) (from ρ (written 46) f.written-46 (all-head (all-tail (all-tail (all-tail (all-tail (all-tail (all-tail h)))))))) (from ρ (written 40) f.written-40 (all-head (all-tail (all-tail (all-tail (all-tail (all-tail h)))))))))
     -- SIM of 2
-    (all-cons (λ ρ h. shown ρ (moves 2 2) f.moves-2-2 (not-negative-from (next ρ 2) (totalDivision quotient (now ρ 2) (now ρ 6)) (from ρ (moves 4 2) f.moves-4-2 (all-head (all-tail (all-tail (all-tail (all-tail (all-tail (all-tail h)))))))) (from ρ (written 40) f.written-40 (all-head (all-tail (all-tail (all-tail (all-tail (all-tail h)))))))))
+    (all-cons (λ ρ h. shown ρ (moves 2 2) f.moves-2-2 (not-negative-from (next ρ 2) (totalDivision remainder (now ρ 2) (now ρ 6)) (from ρ (moves 4 2) f.moves-4-2 (all-head (all-tail (all-tail (all-tail (all-tail (all-tail (all-tail h)))))))) (remainder-natural (now ρ 2) (now ρ 6) (from ρ (written 6) f.written-6 (all-head (all-tail h))))))
     -- SIM of 3
     (all-cons (λ ρ h. shown ρ (moves 2 3) f.moves-2-3 (transitive (next ρ 3) (truth false) (now ρ 3) (from ρ (written 49) f.written-49 (all-head (all-tail (all-tail (all-tail (all-tail (all-tail (all-tail (all-tail (all-tail (all-tail h))))))))))) (symmetric (now ρ 3) (truth false) (from ρ (written 9) f.written-9 (all-head (all-tail (all-tail h)))))))
     -- INV of 12
