@@ -83,9 +83,18 @@ fn logic(operator: i32, left: bool, right: impl Fn() -> Result<bool>) -> Result<
     Ok(Value::Truth(truth))
 }
 
+/// ÷ is undefined for a divisor 0, mod but for 0 ≤ a and 0 < b.
+fn is_undefined(operator: i32, a: i128, b: i128) -> bool {
+    match operator {
+        DIVIDE => b == 0,
+        MOD => a < 0 || b <= 0,
+        _ => false,
+    }
+}
+
 /// ÷ rounds toward zero, and a mod b is a − b × (a ÷ b).
 fn arithmetic(operator: i32, a: i128, b: i128, how: Reading) -> Result<Value> {
-    if (operator == DIVIDE || operator == MOD) && b == 0 {
+    if is_undefined(operator, a, b) {
         return match how {
             Reading::Run => Err(NoValue::Undefined),
             Reading::Sequent => Ok(Value::Integer(0)),

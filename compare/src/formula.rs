@@ -169,14 +169,17 @@ pub fn spell_well_definedness(table: &Table, root: i32, out: &mut Vec<Symbol>) {
     match operator {
         LITERAL..=FALSE | TOP | BOTTOM => out.push(bare(TOP)),
         NEGATION | NOT | BOOL => spell_well_definedness(table, b, out),
-        DIVIDE | MOD => {
+        DIVIDE => {
             out.push(bare(AND));
             both_well_defined(table, b, c, out);
-            // ¬(c = 0)
-            out.push(bare(NOT));
-            out.push(bare(EQUAL));
-            spell(table, c, out);
-            out.push(Symbol::new(LITERAL, 0));
+            not_zero(table, c, out);
+        }
+        MOD => {
+            out.push(bare(AND));
+            both_well_defined(table, b, c, out);
+            out.push(bare(AND));
+            above_zero(table, AT_MOST, b, out);
+            above_zero(table, LESS, c, out);
         }
         AND | IMPLIES => right_where_left(table, IMPLIES, node, out),
         OR => right_where_left(table, OR, node, out),
@@ -189,6 +192,19 @@ fn both_well_defined(table: &Table, a: i32, b: i32, out: &mut Vec<Symbol>) {
     out.push(bare(AND));
     spell_well_definedness(table, a, out);
     spell_well_definedness(table, b, out);
+}
+
+/// ¬(a = 0)
+fn not_zero(table: &Table, a: i32, out: &mut Vec<Symbol>) {
+    out.extend([bare(NOT), bare(EQUAL)]);
+    spell(table, a, out);
+    out.push(Symbol::new(LITERAL, 0));
+}
+
+/// 0 ≤ a or 0 < a, by the operator.
+fn above_zero(table: &Table, operator: i32, a: i32, out: &mut Vec<Symbol>) {
+    out.extend([bare(operator), Symbol::new(LITERAL, 0)]);
+    spell(table, a, out);
 }
 
 /// WD(P) ∧ (P operator WD(Q))

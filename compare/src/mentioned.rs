@@ -116,10 +116,11 @@ fn tree(node: Node, below: &[Tree]) -> Tree {
     }
 }
 
-/// The divisor of ÷ and mod, and the left side of ∧, ∨ and ⇒, stand in the well-definedness as written.
+/// The divisor of ÷, both operands of mod, and the left side of ∧, ∨ and ⇒ stand in the well-definedness as written.
 fn pair(operator: i32, left: Tree, right: Tree) -> Tree {
     let as_written = match operator {
-        DIVIDE | MOD => right.written,
+        DIVIDE => right.written,
+        MOD => left.written | right.written,
         AND | OR | IMPLIES => left.written,
         _ => 0,
     };

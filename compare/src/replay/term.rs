@@ -7,7 +7,7 @@ use crate::table::{Node, Table};
 pub enum Fault {
     /// A value has left signed 64 bits.
     Outside,
-    /// A divisor is 0.
+    /// A divisor is 0, or mod isn't defined.
     Undefined,
 }
 
@@ -64,17 +64,22 @@ fn both(left: Answer, right: Answer, undefined: bool) -> Result<(i64, i64), Faul
     }
 }
 
-/// Whether ÷ or mod is undefined itself: never where its divisor is faulty, whatever its dividend is.
-fn is_undefined(divisor: Answer) -> bool {
-    divisor == Ok(0)
+/// Whether ÷ or mod is undefined itself: never where its divisor is faulty; a faulty dividend isn't negative.
+fn is_undefined(operator: i32, dividend: Answer, divisor: Answer) -> bool {
+    let negative = dividend.is_ok_and(|a| a < 0);
+    divisor.is_ok_and(|b| match operator {
+        DIVIDE => b == 0,
+        _ => b <= 0 || negative,
+    })
 }
 
-/// ÷ rounds toward zero. −2⁶³ ÷ −1 is outside 64 bits, but −2⁶³ mod −1 is 0.
+/// ÷ rounds toward zero, and −2⁶³ ÷ −1 is outside 64 bits. A remainder that is defined never is.
 fn divided(operator: i32, dividend: Answer, divisor: Answer) -> Answer {
-    let (a, b) = both(dividend, divisor, is_undefined(divisor))?;
+    let undefined = is_undefined(operator, dividend, divisor);
+    let (a, b) = both(dividend, divisor, undefined)?;
     match operator {
         DIVIDE => inside(a.checked_div(b)),
-        _ => Ok(a.wrapping_rem(b)),
+        _ => inside(a.checked_rem(b)),
     }
 }
 

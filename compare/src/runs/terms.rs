@@ -1,4 +1,4 @@
-//! Formulas whose terms reach and pass the ends of 64 bits, and that divide by zero, by the values that they mention.
+//! Formulas whose terms reach and pass the ends of 64 bits, and that aren't defined, by the values that they mention.
 
 use super::values::any_integer;
 use crate::formula::*;
@@ -17,8 +17,16 @@ const FORMULAS: usize = 40;
 enum Kind {
     Small,
     Zero,
+    /// 1 or −1.
+    Unit,
+    /// Whatever an identifier or a literal is.
+    Any,
+    /// Not negative, or outside.
+    Square,
     /// At an end of 64 bits or a little inside.
     End,
+    /// −2⁶³
+    Lowest,
     /// One past an end.
     Outside,
     Undefined,
@@ -30,9 +38,11 @@ enum Kind {
     TwoFaults,
     /// 0, with a part that is or may be outside.
     ZeroOutside,
+    /// mod of what its rule tells apart.
+    Remainder,
 }
 
-const KINDS: [Kind; 12] = [
+const KINDS: [Kind; 14] = [
     Kind::Small,
     Kind::Zero,
     Kind::End,
@@ -40,21 +50,48 @@ const KINDS: [Kind; 12] = [
     Kind::Undefined,
     Kind::MaybeOutside,
     Kind::MaybeOutside,
+    Kind::MaybeOutside,
     Kind::MaybeUndefined,
     Kind::MaybeUndefined,
     Kind::TwoFaults,
     Kind::TwoFaults,
     Kind::ZeroOutside,
+    Kind::Remainder,
 ];
 
-const FAULTY: [Kind; 4] = [
+/// Dividends and divisors of mod.
+const REMAINDERS: [(Kind, Kind); 18] = [
+    (Kind::Any, Kind::Any),
+    (Kind::Any, Kind::Any),
+    (Kind::Any, Kind::Small),
+    (Kind::Square, Kind::Any),
+    (Kind::Square, Kind::Small),
+    (Kind::Any, Kind::Unit),
+    (Kind::Unit, Kind::Unit),
+    (Kind::Zero, Kind::Unit),
+    (Kind::End, Kind::Unit),
+    (Kind::Lowest, Kind::Unit),
+    (Kind::Outside, Kind::Zero),
+    (Kind::Outside, Kind::Any),
+    (Kind::Outside, Kind::Small),
+    (Kind::MaybeOutside, Kind::Any),
+    (Kind::ZeroOutside, Kind::Small),
+    (Kind::Any, Kind::Outside),
+    (Kind::Unit, Kind::ZeroOutside),
+    (Kind::Any, Kind::MaybeOutside),
+];
+
+const FAULTY: [Kind; 6] = [
+    Kind::Outside,
     Kind::Outside,
     Kind::Undefined,
     Kind::MaybeOutside,
     Kind::MaybeUndefined,
+    Kind::Remainder,
 ];
 
-const ARITHMETIC: [i32; 5] = [PLUS, MINUS, TIMES, DIVIDE, MOD];
+/// × and mod are in terms of certain kinds besides.
+const ARITHMETIC: [i32; 7] = [PLUS, PLUS, MINUS, MINUS, TIMES, DIVIDE, MOD];
 
 /// Grows formulas of what they may mention.
 pub struct Terms<'a> {
@@ -173,11 +210,22 @@ impl Terms<'_> {
     }
 
     fn pair(&mut self, operator: i32, depth: usize) -> Tree {
-        if self.random.one_in(4) {
-            return self.two_faults(operator);
+        match self.random.below(8) {
+            0 | 1 => self.two_faults(operator),
+            2 | 3 => self.one_outside(operator),
+            _ => {
+                let left = self.operand(depth);
+                Tree::two(operator, left, self.operand(depth))
+            }
         }
-        let left = self.operand(depth);
-        Tree::two(operator, left, self.operand(depth))
+    }
+
+    fn one_outside(&mut self, operator: i32) -> Tree {
+        let (outside, other) = (self.maybe_outside(), self.integer_leaf());
+        match self.random.one_in(2) {
+            true => Tree::two(operator, outside, other),
+            false => Tree::two(operator, other, outside),
+        }
     }
 
     fn two_faults(&mut self, operator: i32) -> Tree {
@@ -201,7 +249,14 @@ impl Terms<'_> {
         match kind {
             Kind::Small => literal(self.random.below(21) as i32 - 10),
             Kind::Zero => literal(0),
+            Kind::Unit => literal(self.random.pick(&[1, -1])),
+            Kind::Any => self.integer_leaf(),
+            Kind::Square => {
+                let leaf = self.integer_leaf();
+                Tree::two(TIMES, leaf.clone(), leaf)
+            }
             Kind::End => self.end(),
+            Kind::Lowest => self.lowest(),
             Kind::Outside => self.outside(),
             Kind::Undefined => self.divided(literal(0)),
             Kind::MaybeOutside => self.maybe_outside(),
@@ -220,7 +275,13 @@ impl Terms<'_> {
                     Tree::two(MINUS, outside.clone(), outside)
                 }
             },
+            Kind::Remainder => self.remainder(),
         }
+    }
+
+    fn remainder(&mut self) -> Tree {
+        let (dividend, divisor) = self.random.pick(&REMAINDERS);
+        Tree::two(MOD, self.of_kind(dividend), self.of_kind(divisor))
     }
 
     fn divided(&mut self, divisor: Tree) -> Tree {
@@ -292,7 +353,7 @@ impl Terms<'_> {
                 Tree::two(PLUS, square, big())
             }
             7 => {
-                // mod is never outside itself, but as near to it.
+                // mod of it is undefined, whatever the divisor is.
                 let operator = self.random.pick(&[DIVIDE, MOD]);
                 Tree::two(operator, self.lowest(), leaf)
             }
@@ -315,7 +376,7 @@ impl Terms<'_> {
         if depth == 0 {
             return self.condition();
         }
-        match self.random.below(12) {
+        match self.random.below(14) {
             0 => Tree::one(NOT, self.predicate(depth - 1)),
             1 | 2 => {
                 let left = self.boolean(depth);
@@ -327,6 +388,8 @@ impl Terms<'_> {
             }
             6..=7 => self.connected(depth),
             8 => self.faulty_sides(),
+            9 => self.guarded_remainder(),
+            10 => self.open_remainder(),
             _ => self.left_open(depth),
         }
     }
@@ -349,6 +412,31 @@ impl Terms<'_> {
             true => Tree::two(operator, faulty, self.integer_leaf()),
             false => Tree::two(operator, self.integer_leaf(), faulty),
         }
+    }
+
+    /// A remainder that is read where it is defined, or at one value more: 0 ≤ a ∧ 0 < b ⇒ a mod b = c.
+    fn guarded_remainder(&mut self) -> Tree {
+        let (a, b) = (self.integer_leaf(), self.integer_leaf());
+        let lowest = literal(self.random.pick(&[0, 0, 0, -1]));
+        let dividend = Tree::two(AT_MOST, lowest, a.clone());
+        let below = self.random.pick(&[LESS, LESS, LESS, AT_MOST]);
+        let divisor = Tree::two(below, literal(0), b.clone());
+        let guard = match self.random.below(6) {
+            0 => dividend,
+            1 => divisor,
+            _ => Tree::two(AND, dividend, divisor),
+        };
+        let operator = self.random.pick(&[EQUAL, LESS, AT_MOST]);
+        let read = Tree::two(operator, Tree::two(MOD, a, b), self.integer_leaf());
+        Tree::two(IMPLIES, guard, read)
+    }
+
+    /// A remainder of any sort that is read for some values only.
+    fn open_remainder(&mut self) -> Tree {
+        let condition = self.condition();
+        let operator = self.random.pick(&[EQUAL, LESS, AT_MOST]);
+        let read = Tree::two(operator, self.remainder(), self.integer_leaf());
+        Tree::two(self.random.pick(&[IMPLIES, OR]), condition, read)
     }
 
     /// Any connective; ⇔ more often, since below it has no part.

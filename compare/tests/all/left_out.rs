@@ -158,11 +158,12 @@ fn wd_is_made_wherever_the_division_stands() {
         let never = format!("{quotient}; 20 {left} 0 0; 20 {operator} 6 5");
         assert_eq!(axiom(&never), only_1);
     }
-    // 1 ÷ 2 with literals, and 1 mod 3 with the constant on the left, which WD doesn't mention.
+    // 1 ÷ 2 with literals; the constant on the left of ÷ 3, which WD doesn't mention, and of mod 3, which it does.
     let literal = "20 1 1 0; 20 1 2 0; 20 13 1 2; 20 1 0 0; 20 20 3 4";
     assert_eq!(axiom(literal), (1, Some([0, 0, 0])));
-    let left = "20 2 1 0; 20 1 3 0; 20 14 1 2; 20 1 0 0; 20 20 3 4";
+    let left = "20 2 1 0; 20 1 3 0; 20 13 1 2; 20 1 0 0; 20 20 3 4";
     assert_eq!(axiom(left), (1, Some([0, 0, 0])));
+    assert_eq!(axiom(&left.replace("20 13", "20 14")), only_1);
     // No division: a product, a comparison of booleans, ⊥ ∧ ⊤.
     assert_eq!(axiom(&quotient.replace("20 13", "20 12")), (0, None));
     assert_eq!(axiom("20 2 2 0; 20 4 0 0; 20 20 1 2"), (0, None));

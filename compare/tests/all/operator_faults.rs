@@ -1,5 +1,6 @@
 //! A mistake in the sort, the columns or the well-definedness of any one operator shows on the tables of operators.
 
+use crate::common::definedness::{self, rule, Misdefined, Rule, BOTH, QUOTIENT, REMAINDER};
 use crate::common::{has, reply, Fault, Faulty, OPERATORS};
 use compare::against::{Call, Comparison, Effort, Reply, Services};
 use compare::campaign::{compare_list, Report};
@@ -8,110 +9,11 @@ use compare::formula::Sort::{Integer, Predicate};
 use compare::formula::*;
 use compare::generate::random::Random;
 use compare::operators::*;
-use compare::rows::{bytes_of, Row, ROW_BYTES};
+use compare::rows::{bytes_of, ROW_BYTES};
 use compare::sequents::{sequents, spell_out};
 use compare::services::{check, spell_entry, write_sequent};
 use compare::shrink::rows_of;
 use compare::table::*;
-
-/// How well-definedness is spelled.
-#[derive(Clone, Copy, Debug, PartialEq)]
-enum Rule {
-    /// This operator alone.
-    Leaf(i32),
-    /// That of the operand.
-    Same,
-    Both,
-    /// Both, and the divisor isn't 0.
-    Divisor,
-    /// WD(P) ∧ (P operator WD(Q))
-    Ordered(i32),
-}
-
-/// The paper's rules, by operator.
-fn rule(operator: i32) -> Rule {
-    match operator {
-        1 | 2 | 3 | 4 | 5 | 30 | 31 => Rule::Leaf(30),
-        6 | 15 | 32 => Rule::Same,
-        13 | 14 => Rule::Divisor,
-        33 | 35 => Rule::Ordered(35),
-        34 => Rule::Ordered(34),
-        _ => Rule::Both,
-    }
-}
-
-/// Answers as this program does, but one operator's well-definedness is spelled by another rule.
-struct Misdefined {
-    operator: i32,
-    rule: Rule,
-}
-
-impl Misdefined {
-    fn spell(&self, table: &Table, root: i32, out: &mut Vec<Symbol>) {
-        let Node { operator, b, c, .. } = table.nodes[root as usize - 1];
-        let rule = if operator == self.operator {
-            self.rule
-        } else {
-            rule(operator)
-        };
-        match rule {
-            Rule::Leaf(leaf) => return out.push(bare(leaf)),
-            Rule::Same => return self.spell(table, b, out),
-            Rule::Divisor => out.extend([bare(33), bare(33)]),
-            Rule::Both | Rule::Ordered(_) => out.push(bare(33)),
-        }
-        self.spell(table, b, out);
-        if let Rule::Ordered(operator) = rule {
-            out.push(bare(operator));
-            spell(table, b, out);
-        }
-        self.spell(table, c, out);
-        if rule == Rule::Divisor {
-            out.extend([bare(32), bare(20)]);
-            spell(table, c, out);
-            out.push(bare(1));
-        }
-    }
-}
-
-impl Services for Misdefined {
-    fn stack(&self) -> usize {
-        8 << 20
-    }
-
-    fn check(&self, table: &[u8]) -> Reply {
-        reply(check(table))
-    }
-
-    fn write_sequent(&self, table: &[u8], k: u64, out: &mut [u8]) -> Reply {
-        reply(write_sequent(table, k as usize, out))
-    }
-
-    fn spell_entry(&self, table: &[u8], k: u64, j: u64, out: &mut [u8]) -> Reply {
-        let answer = reply(spell_entry(table, k as usize, j as usize, out));
-        let read = Table::new(rows_of(table).expect("rows"));
-        let entry = accept(table).ok().and_then(|table| {
-            let list = sequents(&table);
-            let entries = list.get((k as usize).checked_sub(1)?)?.entries();
-            entries.get((j as usize).checked_sub(1)?).copied()
-        });
-        let Some(entry) = entry.filter(|entry| entry.form == 3 && answer.number == 0) else {
-            return answer;
-        };
-        let mut symbols = Vec::new();
-        self.spell(&read, entry.first, &mut symbols);
-        let rows = symbols
-            .iter()
-            .map(|one| Row::new(83, one.operator, one.b, 0));
-        let bytes = bytes_of(&rows.collect::<Vec<Row>>());
-        let fitting = bytes.len().min(out.len());
-        out[..fitting].copy_from_slice(&bytes[..fitting]);
-        Reply {
-            number: 0,
-            value: symbols.len() as u64,
-        }
-    }
-}
 
 /// Whether some call differs on one of the tables with this operator.
 fn notices(services: &dyn Services, tables: &[Vec<u8>], operator: i32, effort: Effort) -> bool {
@@ -122,36 +24,36 @@ fn notices(services: &dyn Services, tables: &[Vec<u8>], operator: i32, effort: E
     })
 }
 
+/// Other rules for an operator over two operands.
+const OTHERS: [Rule; 8] = [
+    "30",
+    "wa",
+    BOTH,
+    QUOTIENT,
+    REMAINDER,
+    "33 wa 34 a wb",
+    "33 wa 35 a wb",
+    "33 wb wa",
+];
+
 /// The paper's rules written a second time spell the same; any other rule for any one operator is noticed.
 #[test]
 fn a_wrong_rule_of_well_definedness_is_noticed() {
     let tables = [nested_tables(), beside_division_tables()].concat();
     for bytes in &tables {
         let read = accept(bytes).expect("accepted");
-        let right = Misdefined {
-            operator: 0,
-            rule: Rule::Both,
-        };
         for goal in sequents(&read).iter().map(|sequent| sequent.goal) {
             if goal.form == 3 {
-                let mut again = Vec::new();
-                right.spell(&read, goal.first, &mut again);
+                let again = definedness::RIGHT.spelled(&read, goal.first);
                 assert_eq!(spell_out(&read, goal), again);
             }
         }
     }
     for operator in OPERATORS {
         let others: &[Rule] = match rule(operator) {
-            Rule::Leaf(_) => &[Rule::Leaf(31), Rule::Leaf(4)],
-            Rule::Same => &[Rule::Leaf(30)],
-            _ => &[
-                Rule::Leaf(30),
-                Rule::Same,
-                Rule::Both,
-                Rule::Divisor,
-                Rule::Ordered(34),
-                Rule::Ordered(35),
-            ],
+            "30" => &["31", "4"],
+            "wa" => &["30"],
+            _ => &OTHERS,
         };
         for &other in others.iter().filter(|&&other| other != rule(operator)) {
             let services = Misdefined {

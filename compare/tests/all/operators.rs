@@ -239,9 +239,9 @@ fn sorts_are_the_papers() {
 /// Two divisions, as the leaves of the family's formulas: 1 ÷ 3 as nodes 1 to 3, 5 mod 1 as nodes 4 to 6.
 const DIVISIONS: &str = "20 2 1 0; 20 1 3 0; 20 13 1 2; 20 1 5 0; 20 2 1 0; 20 14 4 5";
 
-/// Their well-definedness: WD(a) and WD(b) are ⊤, and the divisor isn't 0.
+/// Their well-definedness: WD(a) and WD(b) are ⊤; the divisor isn't 0, and 0 ≤ 5 and 0 < 1.
 const QUOTIENT: &str = "33 33 30 30 32 20 1:3 1:0";
-const REMAINDER: &str = "33 33 30 30 32 20 2:1 1:0";
+const REMAINDER: &str = "33 33 30 30 33 22 1:0 1:5 21 1:0 2:1";
 
 /// Rows 83 from words: an operator, or an operator and b.
 fn rows_83(words: &str) -> Vec<Row> {
@@ -292,14 +292,18 @@ fn well_definedness_of_integers() {
         let both = format!("33 {QUOTIENT} {REMAINDER}");
         assert_defined(&nodes, &at_most_1(&both));
     }
-    // (1 ÷ 3) ÷ ((1 ÷ 3) mod (5 mod 1)): each divisor is spelled as written. The first ÷ is nodes 1 to 3.
+    // (1 ÷ 3) ÷ ((1 ÷ 3) mod (5 mod 1)), and mod for the first of these: the divisor of ÷ and both operands of mod are
+    // spelled as written. The first ÷ is nodes 1 to 3.
     let inner = "20 2 1 0; 20 1 3 0; 20 13 4 5; 20 1 5 0; 20 2 1 0; 20 14 7 8; 20 14 6 9";
     let quotient = "20 2 1 0; 20 1 3 0; 20 13 1 2";
-    let divisor = "14 13 2:1 1:3 14 1:5 2:1";
-    let wd_inner = format!("33 33 {QUOTIENT} {REMAINDER} 32 20 14 1:5 2:1 1:0");
-    for operator in [13, 14] {
+    let (dividend, divisor) = ("13 2:1 1:3", "14 13 2:1 1:3 14 1:5 2:1");
+    let wd_inner = format!("33 33 {QUOTIENT} {REMAINDER} 33 22 1:0 {dividend} 21 1:0 14 1:5 2:1");
+    for (operator, condition) in [
+        (13, format!("32 20 {divisor} 1:0")),
+        (14, format!("33 22 1:0 {dividend} 21 1:0 {divisor}")),
+    ] {
         let nodes = format!("{quotient}; {inner}; 20 {operator} 3 10; 20 1 1 0; 20 22 11 12");
-        let outer = format!("33 33 {QUOTIENT} {wd_inner} 32 20 {divisor} 1:0");
+        let outer = format!("33 33 {QUOTIENT} {wd_inner} {condition}");
         assert_defined(&nodes, &at_most_1(&outer));
     }
 }

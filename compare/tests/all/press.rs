@@ -569,13 +569,45 @@ fn records_hold_and_get_values_of_64_bits() {
     assert_eq!(becomes("- i1 1", [lowest, 0]), Err(OUTSIDE));
     assert_eq!(becomes("neg i1", [lowest, 0]), Err(OUTSIDE));
     assert_eq!(becomes("/ i1 i2", [lowest, -1]), Err(OUTSIDE));
-    assert_eq!(becomes("mod i1 i2", [lowest, -1]), Ok(0));
     assert_eq!(becomes("* i1 i2", [1 << 62, -2]), Ok(lowest));
     assert_eq!(becomes("* i1 i2", [1 << 62, 2]), Err(OUTSIDE));
     assert_eq!(becomes("/ i1 i2", [highest, 0]), Err(UNDEFINED));
     assert_eq!(becomes("/ + i1 i1 i2", [highest, 0]), Err(UNDEFINED));
     assert_eq!(becomes("/ i1 + i2 i2", [1, highest]), Err(OUTSIDE));
     assert_eq!(becomes("- - i1 i2 1", [lowest, 0]), Err(OUTSIDE));
+}
+
+#[test]
+fn remainders_of_64_bits() {
+    let (lowest, highest) = (i64::MIN, i64::MAX);
+    for (values, wanted) in [
+        ([0, 1], 0),
+        ([highest, 1], 0),
+        ([highest, highest], 0),
+        ([highest - 1, highest], highest - 1),
+        ([highest, 10], 7),
+    ] {
+        assert_eq!(becomes("mod i1 i2", values), Ok(wanted), "{values:?}");
+    }
+    for values in [
+        [-1, 1],
+        [lowest, 1],
+        [lowest, -1],
+        [lowest, lowest],
+        [0, 0],
+        [0, -1],
+        [highest, lowest],
+    ] {
+        assert_eq!(becomes("mod i1 i2", values), Err(UNDEFINED), "{values:?}");
+    }
+    // i1 + i1 is outside: as a dividend not negative, as a divisor never at fault.
+    for outside in [lowest, highest] {
+        assert_eq!(becomes("mod + i1 i1 i2", [outside, 1]), Err(OUTSIDE));
+        assert_eq!(becomes("mod + i1 i1 i2", [outside, 0]), Err(UNDEFINED));
+        assert_eq!(becomes("mod + i1 i1 i2", [outside, -1]), Err(UNDEFINED));
+        assert_eq!(becomes("mod i2 + i1 i1", [outside, -1]), Err(OUTSIDE));
+        assert_eq!(becomes("mod i2 + i1 i1", [outside, 1]), Err(OUTSIDE));
+    }
 }
 
 /// As in replay: of two faults, undefined counts; connectives stop at the left one.

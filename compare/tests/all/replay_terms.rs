@@ -79,12 +79,47 @@ fn assert_with(words: &str, constants: [i32; 2], wanted: Is) {
 #[test]
 fn division_rounds_toward_zero() {
     assert_is("= / -7 2 -3", True);
-    assert_is("= mod -7 2 -1", True);
     assert_is("= / 7 -2 -3", True);
-    assert_is("= mod 7 -2 1", True);
-    assert_is("= mod -7 -2 -1", True);
     assert_is("= / -7 -2 3", True);
     assert_is("= / -1 2 0", True);
+}
+
+/// 0 ≤ a and 0 < b, with the ends of both.
+#[test]
+fn a_remainder_is_defined_for_no_others() {
+    assert_is("= mod 7 2 1", True);
+    assert_is("= mod 2 7 2", True);
+    assert_is("= mod 0 1 0", True);
+    assert_is("= mod 0 MAX 0", True);
+    assert_is("= mod MAX 1 0", True);
+    assert_is("= mod MAX MAX 0", True);
+    assert_is("= mod 1 MAX 1", True);
+    assert_is("= mod MAX 2147483647 1", True);
+    for divisor in ["1", "2", "MAX"] {
+        assert_is(&format!("= mod -1 {divisor} 0"), Undefined);
+        assert_is(&format!("= mod -7 {divisor} 0"), Undefined);
+        assert_is(&format!("= mod MIN {divisor} 0"), Undefined);
+    }
+    for dividend in ["0", "1", "7", "MAX", "-1", "-7", "MIN"] {
+        for divisor in ["0", "-1", "-2", "MIN"] {
+            assert_is(&format!("= mod {dividend} {divisor} 0"), Undefined);
+        }
+    }
+    assert_with("<= 0 mod i1 i2", [0, 1], True);
+    assert_with("<= 0 mod i1 i2", [-1, 1], Undefined);
+    assert_with("<= 0 mod i1 i2", [0, 0], Undefined);
+}
+
+/// What is undefined is read only where the order of a connective lets it be.
+#[test]
+fn a_remainder_may_be_guarded() {
+    let guarded = "=> and <= 0 i1 < 0 i2 < mod i1 i2 i2";
+    for values in [[7, 2], [0, 1], [-1, 2], [7, 0], [7, -2], [-7, -2]] {
+        assert_with(guarded, values, True);
+    }
+    let half = "=> < 0 i2 < mod i1 i2 i2";
+    assert_with(half, [7, 0], True);
+    assert_with(half, [-7, 2], Undefined);
 }
 
 #[test]
@@ -159,17 +194,66 @@ fn every_part_counts() {
     assert_is("= * 0 UND 0", Undefined);
 }
 
-/// a mod b isn't worked out as a − b × (a ÷ b).
+/// No operand of ÷ is excepted but a divisor 0.
 #[test]
-fn mod_is_one_operator() {
-    assert_is("= mod MIN -1 0", True);
-    assert_is("= mod MIN 1 0", True);
-    assert_is("= mod MIN MIN 0", True);
-    assert_is("= mod MIN MAX -1", True);
-    assert_is("= mod MAX MIN MAX", True);
-    assert_is("= mod -1 MIN -1", True);
+fn quotients_are_as_they_were() {
     assert_is("= / MIN MIN 1", True);
     assert_is("= / MAX MIN 0", True);
+    assert_is("= / -1 1 -1", True);
+    assert_is("= / -1 MIN 0", True);
+    assert_is("= / MIN -1 0", Outside);
+    assert_is("= mod MIN -1 0", Undefined);
+}
+
+/// A dividend outside, by either end or in a part, isn't negative; the divisor decides.
+#[test]
+fn a_dividend_outside_is_not_negative() {
+    for dividend in [
+        "OUT",
+        "neg OUT",
+        "* -1 OUT",
+        "- MIN 1",
+        "- -1 * 0 OUT",
+        "- OUT OUT",
+    ] {
+        for divisor in ["1", "2", "MAX"] {
+            assert_is(&format!("= mod {dividend} {divisor} 0"), Outside);
+        }
+        for divisor in ["0", "-1", "MIN"] {
+            assert_is(&format!("= mod {dividend} {divisor} 0"), Undefined);
+        }
+        assert_is(&format!("= mod {dividend} OUT 0"), Outside);
+        assert_is(&format!("= mod {dividend} UND 0"), Undefined);
+    }
+}
+
+/// 5's rule on the divisor stays, also beside a negative dividend.
+#[test]
+fn a_divisor_outside_wins_over_a_negative_dividend() {
+    for divisor in ["OUT", "neg OUT", "- OUT OUT", "* 0 OUT", "- -1 * 0 OUT"] {
+        for dividend in ["-1", "-7", "MIN", "0", "7"] {
+            assert_is(&format!("= mod {dividend} {divisor} 0"), Outside);
+        }
+        assert_is(&format!("= mod UND {divisor} 0"), Undefined);
+    }
+}
+
+/// What a remainder has below it decides first, then the remainder itself.
+#[test]
+fn remainders_below_remainders() {
+    assert_is("= mod mod 17 10 4 3", True);
+    assert_is("= mod 17 mod 17 10 3", True);
+    assert_is("= mod mod -1 2 2 0", Undefined);
+    assert_is("= mod 1 mod 1 -1 0", Undefined);
+    assert_is("= mod 1 mod 4 2 0", Undefined);
+    assert_is("= mod mod -1 OUT 0 0", Undefined);
+    assert_is("= mod mod -1 OUT 1 0", Outside);
+    assert_is("= mod -1 mod 1 OUT 0", Outside);
+    assert_is("= / mod 7 2 -1 -1", True);
+    assert_is("= mod / -7 2 2 0", Undefined);
+    assert_is("= + mod -1 1 OUT 0", Undefined);
+    assert_is("= + mod OUT 1 mod -1 1 0", Undefined);
+    assert_is("= + mod OUT 1 mod -1 OUT 0", Outside);
 }
 
 #[test]

@@ -1,5 +1,6 @@
 //! Tables that several tests share.
 
+pub mod definedness;
 pub mod faults;
 pub mod machine;
 pub mod plain_press;

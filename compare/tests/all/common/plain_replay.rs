@@ -69,7 +69,11 @@ pub enum Mistake {
     LowestModMinusOneOutside,
     DivisionFloors,
     RemainderNotNegative,
-    RemainderAsEventB,
+    OldRemainder,
+    NegativeDividendAllowed,
+    NegativeDivisorAllowed,
+    ZeroDivisorOfModAllowed,
+    QuotientAsRemainder,
     ZeroDivisorIsZero,
     PartsUncounted,
     OutsideWins,
@@ -79,6 +83,10 @@ pub enum Mistake {
     BooleanEqualityStops,
     DivisorRuleDropped,
     OutsideByZeroIsOutside,
+    OutsideByNegativeIsOutside,
+    DividendOutsideIsNegative,
+    DividendOutsideHasItsSign,
+    NegativeByOutsideIsUndefined,
     AndReadsRight,
     OrReadsRight,
     ImpliesReadsRight,
@@ -508,10 +516,13 @@ impl Run<'_> {
         if self.is(Mistake::RightWins) && !matches!(right, Inside(_)) {
             return right;
         }
-        if operator == DIVIDE || operator == MOD {
-            if let Some(value) = self.zero_divisor(left, right) {
-                return value;
-            }
+        let undefined = match operator {
+            DIVIDE => self.undefined_quotient(left, right),
+            MOD => self.undefined_remainder(left, right),
+            _ => None,
+        };
+        if let Some(value) = undefined {
+            return value;
         }
         match (left, right) {
             (Inside(a), Inside(b)) => self.combined(operator, a, b),
@@ -537,15 +548,47 @@ impl Run<'_> {
         })
     }
 
-    /// What a division by 0 gives, if it is one.
-    fn zero_divisor(&self, left: Value, right: Value) -> Option<Value> {
+    /// What ÷ gives where it is undefined itself.
+    fn undefined_quotient(&self, left: Value, right: Value) -> Option<Value> {
         match (left, right) {
             (Outside(_), Inside(0)) if self.is(Mistake::OutsideByZeroIsOutside) => Some(left),
             (_, Inside(0)) if self.is(Mistake::ZeroDivisorIsZero) => Some(Inside(0)),
             (_, Inside(0)) => Some(Undefined),
             (_, Outside(0)) if self.is(Mistake::DivisorRuleDropped) => Some(Undefined),
+            (Inside(a), Inside(b)) if self.is(Mistake::QuotientAsRemainder) => {
+                (a < 0 || b < 0).then_some(Undefined)
+            }
             _ => None,
         }
+    }
+
+    /// What mod gives where it is undefined itself: a dividend outside isn't negative, a divisor outside is never at fault.
+    fn undefined_remainder(&self, left: Value, right: Value) -> Option<Value> {
+        let right_way = match (left, right) {
+            (_, Inside(..=0)) | (Inside(..0), Inside(_)) => Some(Undefined),
+            _ => None,
+        };
+        self.mistaken_remainder(left, right).unwrap_or(right_way)
+    }
+
+    /// The same by a mistake, where it is about these operands.
+    fn mistaken_remainder(&self, left: Value, right: Value) -> Option<Option<Value>> {
+        const LOWEST: i128 = i64::MIN as i128;
+        Some(match (self.mistake, left, right) {
+            (Mistake::OldRemainder | Mistake::RemainderNotNegative, _, Inside(..=-1 | 1..)) => None,
+            (Mistake::NegativeDividendAllowed, Inside(..0), Inside(1..)) => None,
+            (Mistake::NegativeDivisorAllowed, Inside(0..), Inside(..0)) => None,
+            (Mistake::ZeroDivisorOfModAllowed, Inside(0..), Inside(0)) => Some(left),
+            (Mistake::ZeroDivisorIsZero, _, Inside(0)) => Some(Inside(0)),
+            (Mistake::LowestModMinusOneOutside, Inside(LOWEST), Inside(-1)) => Some(Outside(0)),
+            (Mistake::OutsideByZeroIsOutside, Outside(_), Inside(0)) => Some(left),
+            (Mistake::OutsideByNegativeIsOutside, Outside(_), Inside(..0)) => Some(left),
+            (Mistake::DividendOutsideIsNegative, Outside(_), Inside(_)) => Some(Undefined),
+            (Mistake::DividendOutsideHasItsSign, Outside(..0), Inside(_)) => Some(Undefined),
+            (Mistake::NegativeByOutsideIsUndefined, Inside(..0), Outside(_)) => Some(Undefined),
+            (Mistake::DivisorRuleDropped, _, Outside(..=0)) => Some(Undefined),
+            _ => return None,
+        })
     }
 
     fn combined(&self, operator: i32, a: i128, b: i128) -> Value {
@@ -567,9 +610,7 @@ impl Run<'_> {
                 self.ranged(a / b - i128::from(down))
             }
             DIVIDE => self.ranged(a / b),
-            MOD if corner && self.is(Mistake::LowestModMinusOneOutside) => Outside(0),
             MOD if self.is(Mistake::RemainderNotNegative) => Inside(a.rem_euclid(b)),
-            MOD if self.is(Mistake::RemainderAsEventB) && (a < 0 || b < 0) => Undefined,
             MOD => Inside(a % b),
             EQUAL => Inside(i128::from(a == b)),
             LESS => Inside(i128::from(a < b)),
