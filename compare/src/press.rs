@@ -114,12 +114,7 @@ impl Panel {
 
     /// What the step makes of the list: first the list and the rows are judged, then the formulas.
     pub fn after(&self, step: &[u8], list: &[Record]) -> Result<Vec<Record>, Cause> {
-        self.judge_list(list)?;
-        let mut state = State::default();
-        for (now, record) in state.now.iter_mut().zip(list) {
-            *now = record.value;
-        }
-        let step = self.read(step, &mut state)?;
+        let (step, mut state) = self.begin(step, list)?;
         self.judge_conditions(step, &state)?;
         self.change(step, &mut state)?;
         let mut after = list.to_vec();
@@ -127,6 +122,17 @@ impl Panel {
             after[place].value = state.after[place];
         }
         Ok(after)
+    }
+
+    /// The event, and the values that its formulas see.
+    pub fn begin(&self, step: &[u8], list: &[Record]) -> Result<(&Step, State), Cause> {
+        self.judge_list(list)?;
+        let mut state = State::default();
+        for (now, record) in state.now.iter_mut().zip(list) {
+            *now = record.value;
+        }
+        let step = self.read(step, &mut state)?;
+        Ok((step, state))
     }
 
     /// One record for each identifier, each of its type, whatever its kind.

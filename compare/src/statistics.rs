@@ -3,6 +3,7 @@
 pub mod anticipated;
 pub mod left_out;
 pub mod presses;
+pub mod remainders;
 pub mod replays;
 pub mod shapes;
 pub mod shared;

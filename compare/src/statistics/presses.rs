@@ -1,10 +1,12 @@
 //! What the presses of many batches give, and what those that are performed do.
 
 use super::count;
+use super::remainders::{has_mod, Met, Remainders, Seen};
 use super::replays::accepted;
+use super::terms::formulas;
 use crate::press::{Cause, Panel, Record};
-use crate::replay;
 use crate::replay::machine::Change;
+use crate::replay::{self, NOT_A_RUN};
 use crate::shrink::rows_of;
 use crate::states::batch::{batch, Batch, Case};
 use crate::table::*;
@@ -22,6 +24,7 @@ pub struct Presses {
     pub second: usize,
     /// Accepted tables by words for what they have.
     pub tables: BTreeMap<&'static str, usize>,
+    pub remainders: Remainders,
 }
 
 impl Presses {
@@ -51,6 +54,9 @@ impl Presses {
             }
             let before = now.clone();
             let answer = panel.press(&case.step, &mut now);
+            if has_mod(table) {
+                self.add_remainders(table, &panel, case, &before);
+            }
             let mut second = case.second.clone();
             let previewed = panel.preview(&case.step, &before, &mut second);
             self.second += usize::from(number(answer) != number(previewed));
@@ -62,6 +68,30 @@ impl Presses {
                 Err(cause) => format!("{} {}", cause.number(), words(table, cause, &before)),
             };
             count(&mut self.answers, word);
+        }
+    }
+
+    /// Counts what mod has to do with the press's answer.
+    fn add_remainders(&mut self, table: &Table, panel: &Panel, case: &Case, before: &[Record]) {
+        let Ok((step, state)) = panel.begin(&case.step, before) else {
+            return;
+        };
+        let seen = Seen {
+            table,
+            machine: &panel.machine,
+            state: &state,
+        };
+        let axioms = panel.axioms().iter().copied();
+        let all = axioms.chain(formulas(step)).map(|one| one.1);
+        let roots: Vec<i32> = all.collect();
+        match panel.after(&case.step, before).map_err(Cause::number) {
+            Ok(_) => {
+                let mut met = Met::new();
+                roots.iter().for_each(|&root| seen.meet(root, &mut met));
+                self.remainders.add_accepted(&met);
+            }
+            Err(NOT_A_RUN) => {}
+            Err(_) => self.remainders.add_stopped(&seen, &roots),
         }
     }
 
@@ -120,7 +150,7 @@ impl Presses {
         for (word, count) in &self.tables {
             text += &format!("accepted tables with {word}: {count}\n");
         }
-        text
+        text + &self.remainders.report()
     }
 }
 

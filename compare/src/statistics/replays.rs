@@ -1,10 +1,13 @@
 //! What the batches of many numbers contain, and what their logs give.
 
 use super::count;
-use super::terms::Terms;
+use super::remainders::{has_mod, Met, Remainders, Seen};
+use super::terms::{formulas, Terms};
 use crate::checks::{accept, Refusal};
+use crate::replay::log::Log;
 use crate::replay::machine::Machine;
-use crate::replay::{Cause, Role};
+use crate::replay::term::State;
+use crate::replay::{Cause, Role, NOT_A_RUN};
 use crate::runs::batch::{batch, Batch};
 use crate::table::*;
 use std::collections::BTreeMap;
@@ -19,6 +22,7 @@ pub struct Replays {
     pub tables: BTreeMap<&'static str, usize>,
     /// What was met in the steps that a formula stops.
     pub terms: Terms,
+    pub remainders: Remainders,
 }
 
 impl Replays {
@@ -44,6 +48,9 @@ impl Replays {
         for log in logs {
             let answer = machine.replay(log);
             let first = matches!(answer, Err(stop) if stop.row == 1);
+            if has_mod(table) {
+                self.add_remainders(table, &machine, log);
+            }
             if let Err(Cause::Formula(..)) = answer.map_err(|stop| stop.cause) {
                 self.terms.add(table, &machine, log);
             }
@@ -55,6 +62,31 @@ impl Replays {
         }
     }
 
+    /// Counts what mod has to do with the log's answer.
+    fn add_remainders(&mut self, table: &Table, machine: &Machine, run: &[u8]) {
+        let (mut log, mut state) = (Log::new(run), State::default());
+        let (mut first, mut met) = (true, Met::new());
+        while first || !log.is_at_end() {
+            let Ok(step) = machine.read(&mut log, first, &mut state) else {
+                return;
+            };
+            let seen = Seen {
+                table,
+                machine,
+                state: &state,
+            };
+            let roots: Vec<i32> = formulas(step).into_iter().map(|one| one.1).collect();
+            match machine.judge(step, &state).map_err(Cause::number) {
+                Ok(()) => roots.iter().for_each(|&root| seen.meet(root, &mut met)),
+                Err(NOT_A_RUN) => return,
+                Err(_) => return self.remainders.add_stopped(&seen, &roots),
+            }
+            step.settle(&mut state);
+            first = false;
+        }
+        self.remainders.add_accepted(&met);
+    }
+
     /// The counts as lines of text.
     pub fn report(&self) -> String {
         let mut text = format!("{} logs\n", self.pairs);
@@ -64,7 +96,7 @@ impl Replays {
         for (word, count) in &self.tables {
             text += &format!("accepted tables with {word}: {count}\n");
         }
-        text + &self.terms.report()
+        text + &self.terms.report() + &self.remainders.report()
     }
 }
 

@@ -2,7 +2,7 @@
 
 use crate::formula::*;
 use crate::replay::log::Log;
-use crate::replay::machine::{Change, Machine};
+use crate::replay::machine::{Change, Machine, Step};
 use crate::replay::term::{Answer, Fault, State};
 use crate::replay::{Cause, Role};
 use crate::table::{Node, Table};
@@ -51,12 +51,7 @@ impl Terms {
         let mut first = true;
         while let Ok(step) = machine.read(&mut log, first, &mut state) {
             if let Err(Cause::Formula(..)) = machine.judge(step, &state) {
-                let changes = step.variables.iter().filter_map(|one| match one.1 {
-                    Change::Equal(root) => Some((Role::Equal, root)),
-                    Change::SuchThat(root) => Some((Role::SuchThat, root)),
-                    Change::Kept => None,
-                });
-                for (role, root) in step.conditions.iter().copied().chain(changes) {
+                for (role, root) in formulas(step) {
                     let seen = Seen {
                         table,
                         machine,
@@ -149,8 +144,18 @@ impl Terms {
 pub const LOWEST: i128 = i64::MIN as i128;
 pub const HIGHEST: i128 = i64::MAX as i128;
 
+/// The formulas of a step in the order in which they are read.
+pub fn formulas(step: &Step) -> Vec<(Role, i32)> {
+    let changes = step.variables.iter().filter_map(|one| match one.1 {
+        Change::Equal(root) => Some((Role::Equal, root)),
+        Change::SuchThat(root) => Some((Role::SuchThat, root)),
+        Change::Kept => None,
+    });
+    step.conditions.iter().copied().chain(changes).collect()
+}
+
 /// Whether a connective with this left side reads its right one.
-fn is_read(operator: i32, left: i64) -> bool {
+pub fn is_read(operator: i32, left: i64) -> bool {
     match operator {
         AND | IMPLIES => left == 1,
         OR => left == 0,

@@ -1,5 +1,6 @@
 //! Generated presses give every answer, by every cause and often, and damage gives what it must.
 
+use crate::common::remainders::assert_remainders;
 use compare::checks::accept;
 use compare::generate::random::Random;
 use compare::press::{Cause, Panel, Record};
@@ -136,6 +137,11 @@ fn every_answer_occurs_often() {
 fn what_is_performed_and_where_differs() {
     assert_often(&PERFORMED, |word| GATE.performed.get(word));
     assert_often(&TABLES, |word| GATE.tables.get(word));
+}
+
+#[test]
+fn remainders_decide() {
+    assert_remainders(&GATE.remainders);
 }
 
 /// What lists have: lengths around the right one and around the limit, values and types at their ends.

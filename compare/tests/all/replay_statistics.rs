@@ -1,5 +1,6 @@
 //! Generated logs give every answer, by every cause and often, and their formulas meet what request 5 tells apart.
 
+use crate::common::remainders::assert_remainders;
 use compare::checks::accept;
 use compare::formula::*;
 use compare::replay::term::Fault;
@@ -131,6 +132,11 @@ fn operators_meet_faults_on_either_side() {
             "{operator} by 0"
         );
     }
+}
+
+#[test]
+fn remainders_decide() {
+    assert_remainders(&GATE.remainders);
 }
 
 #[test]

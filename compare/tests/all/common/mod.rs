@@ -6,6 +6,7 @@ pub mod machine;
 pub mod plain_press;
 pub mod plain_replay;
 pub mod prefix;
+pub mod remainders;
 
 use compare::against::{Call, Reply, Services};
 use compare::checks::Refusal;
