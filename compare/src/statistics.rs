@@ -1,6 +1,7 @@
 //! What the tables of many seeds contain and how they are answered.
 
 pub mod anticipated;
+pub mod defined;
 pub mod left_out;
 pub mod presses;
 pub mod remainders;
@@ -41,6 +42,8 @@ pub struct Statistics {
     pub shapes: BTreeMap<String, usize>,
     /// Sequents by words for what their goals mention.
     pub goals: BTreeMap<&'static str, usize>,
+    /// WD by words for what dividends of mod add to it.
+    pub defined: BTreeMap<&'static str, usize>,
     /// Combinations of empty sections in accepted tables.
     pub empty: BTreeSet<Vec<i32>>,
     pub most_sequents: usize,
@@ -105,7 +108,10 @@ impl Statistics {
         let spelled = spell_out(table, sequent.goal);
         self.longest_entry = self.longest_entry.max(spelled.len());
         for word in left_out::goals(table, sequent, &spelled) {
-            *self.goals.entry(word).or_default() += 1;
+            count(&mut self.goals, word);
+        }
+        for word in defined::goals(table, sequent) {
+            count(&mut self.defined, word);
         }
         for symbol in spelled {
             count(&mut self.operators, symbol.operator);
@@ -136,6 +142,9 @@ impl Statistics {
         }
         for (word, count) in &self.goals {
             text += &format!("goal with {word}: {count}\n");
+        }
+        for (word, count) in &self.defined {
+            text += &format!("WD with {word}: {count}\n");
         }
         let empty = self.empty.len();
         text += &format!("combinations of empty sections {empty} of {COMBINATIONS}\n");

@@ -140,8 +140,10 @@ impl Grower<'_> {
                 self.grow_dividing(division, Sort::Predicate, size - 1),
             ),
             Sort::Predicate => {
-                let divided = self.pair(division, Sort::Integer, 3);
-                let other = self.grow(Sort::Integer, size - 4);
+                // Half of those that can be are larger on the side that divides.
+                let more = if self.random.one_in(2) { size - 5 } else { 0 };
+                let divided = self.pair(division, Sort::Integer, 3 + more);
+                let other = self.grow(Sort::Integer, size - 4 - more);
                 let operator = self.random.pick(&[EQUAL, LESS, AT_MOST]);
                 match self.random.one_in(2) {
                     true => Tree::two(operator, divided, other),

@@ -124,6 +124,31 @@ fn what_is_left_out_occurs_in_numbers() {
     assert_eq!(statistics.left_out.len(), 2);
 }
 
+/// WD depends on the dividend of mod, in row 84 too, and ÷ and mod stand below each other on either side.
+#[test]
+fn remainders_occur_in_numbers() {
+    for (word, least) in DEFINED {
+        let found = of_many().defined.get(word).copied().unwrap_or(0);
+        assert!(found >= *least, "{word}: {found}");
+    }
+}
+
+/// WD goals by what mod adds to them, and how many there must be.
+const DEFINED: &[(&str, usize)] = &[
+    ("mod", 4000),
+    ("an identifier by a dividend alone", 2000),
+    ("all identifiers by dividends alone", 500),
+    ("the lowest identifier by a dividend alone", 1000),
+    ("the highest identifier by a dividend alone", 1000),
+    ("one between by a dividend alone", 60),
+    ("mod below the dividend of mod", 200),
+    ("mod below the divisor of mod", 200),
+    ("÷ below the dividend of mod", 150),
+    ("÷ below the divisor of mod", 150),
+    ("mod below the dividend of ÷", 150),
+    ("mod below the divisor of ÷", 150),
+];
+
 /// Places of formulas of events.
 const OF_EVENTS: &[&str] = &[
     "abstract 50",
