@@ -3,6 +3,7 @@
 use crate::checks::{Refusal, ROOM};
 use crate::generate::random::Random;
 use crate::rows::{bytes_of, Row, ROW_BYTES};
+use crate::sequents::WD;
 use crate::services::Answers;
 use crate::stack::on_thread;
 use std::fmt::{self, Display, Formatter};
@@ -148,6 +149,7 @@ impl<'a> Comparison<'a> {
                 self.plan_spell(k, j, effort, random);
             }
         }
+        self.plan_defined(effort, random);
         self.make_calls()
     }
 
@@ -181,6 +183,14 @@ impl<'a> Comparison<'a> {
         self.answers
             .entries(k as usize)
             .map_or(0, |entries| entries as u64)
+    }
+
+    /// One sequent of WD and its goal, since long lists have few.
+    fn plan_defined(&mut self, effort: Effort, random: &mut Random) {
+        if let Some(k) = random.maybe(&self.answers.of_kind(WD)) {
+            self.plan_write(k, effort, random);
+            self.plan_spell(k, self.entries(k), effort, random);
+        }
     }
 
     fn plan_write(&mut self, k: u64, effort: Effort, random: &mut Random) {

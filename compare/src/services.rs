@@ -69,6 +69,13 @@ impl Answers {
         Ok(sequent_rows(sequent, identifiers))
     }
 
+    /// The numbers of all sequents of this kind.
+    pub fn of_kind(&self, kind: i32) -> Vec<u64> {
+        let list = self.accepted.iter().flat_map(|one| &one.list);
+        let numbered = list.zip(1..).filter(|one| one.0.kind == kind);
+        numbered.map(|one| one.1).collect()
+    }
+
     /// How many entries sequent k (from 1) has.
     pub fn entries(&self, k: usize) -> Result<usize, Refusal> {
         let sequent = numbered(&self.accepted()?.list, k, SEQUENT)?;
