@@ -1,5 +1,6 @@
 //! What must hold of every generated table.
 
+use crate::common::plain_values::any_values;
 use compare::checks::accept;
 use compare::evaluate::{evaluate, NoValue, Reading, Value, Values};
 use compare::generate::random::Random;
@@ -9,7 +10,7 @@ use compare::rows::{bytes_of, ROW_BYTES};
 use compare::sequents::{sequents, spell_out, Entry, INV, WD};
 use compare::services::{check, print, spell_entry, write_sequent};
 use compare::statistics::{refusals_of, Statistics};
-use compare::table::{Table, INTEGER};
+use compare::table::Table;
 use std::collections::BTreeSet;
 use std::sync::OnceLock;
 
@@ -407,21 +408,6 @@ fn buffers_are_kept() {
             Err(_) => assert!(printed.len() == ROW_BYTES && printed.starts_with(b"  89")),
         }
     }
-}
-
-fn any_value(random: &mut Random, type_number: i32) -> Value {
-    if type_number == INTEGER {
-        Value::Integer(random.below(5) as i128 - 2)
-    } else {
-        Value::Truth(random.one_in(2))
-    }
-}
-
-fn any_values(random: &mut Random, table: &Table) -> Values {
-    let types = table.identifiers.iter().map(|one| one.type_number);
-    let now = types.clone().map(|one| any_value(random, one)).collect();
-    let after = types.map(|one| any_value(random, one)).collect();
-    Values { now, after }
 }
 
 /// WD is true just where a run reads no undefined term, and there both readings agree.

@@ -18,6 +18,7 @@ mod press_faults;
 mod press_laws;
 mod press_statistics;
 mod refusals;
+mod remainder_faults;
 mod replay;
 mod replay_commands;
 mod replay_faults;

@@ -5,8 +5,10 @@ pub mod faults;
 pub mod machine;
 pub mod plain_press;
 pub mod plain_replay;
+pub mod plain_values;
 pub mod prefix;
 pub mod remainders;
+pub mod rules;
 
 use compare::against::{Call, Reply, Services};
 use compare::checks::Refusal;
