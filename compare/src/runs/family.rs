@@ -170,20 +170,22 @@ fn pairs(operator: i32, operands: &[Tree]) -> Vec<Tree> {
         .collect()
 }
 
-/// 7, 0, −1, the ends of 64 bits, one above, 0 with a part above, and a term without value.
+/// 7, 0, −1, the ends of 64 bits, one above, 0 with a part above, a term without value, and one below.
 fn operands() -> Vec<Tree> {
     let constant = |number| Tree::leaf(IDENTIFIER, number);
     let big = || Tree::two(TIMES, literal(i32::MIN), literal(i32::MIN));
     let outside = || Tree::two(PLUS, big(), big());
+    let lowest = || Tree::two(TIMES, big(), literal(-2));
     vec![
         constant(1),
         constant(2),
         constant(3),
-        Tree::two(TIMES, big(), literal(-2)),
+        lowest(),
         Tree::two(PLUS, Tree::two(PLUS, big(), constant(3)), big()),
         outside(),
         Tree::two(TIMES, constant(2), outside()),
         Tree::two(MOD, constant(1), constant(2)),
+        Tree::two(PLUS, lowest(), constant(3)),
     ]
 }
 
@@ -210,6 +212,7 @@ fn deep_integers() -> Vec<Tree> {
         nested(PAIRS, one(), |tree| Tree::two(PLUS, tree, one())),
         nested(PAIRS, one(), |tree| Tree::two(PLUS, one(), tree)),
         nested(PAIRS, one(), |tree| Tree::two(DIVIDE, tree, one())),
+        nested(PAIRS, one(), |tree| Tree::two(MOD, tree, one())),
         nested(PAIRS, one(), |tree| Tree::two(MOD, one(), tree)),
     ]
 }

@@ -177,7 +177,7 @@ fn connectives_meet_faults() {
 #[test]
 fn the_deepest_formulas_are_accepted_and_read() {
     let batches = deep_family();
-    assert_eq!(batches.len(), 12 * 6 + 5);
+    assert_eq!(batches.len(), 13 * 6 + 6);
     for Batch { table, logs } in batches {
         let read = accept(&table).expect("accepted");
         assert!(read.nodes.len() >= 490, "{}", read.nodes.len());
