@@ -4,8 +4,9 @@ pub mod replay;
 
 use crate::against::Services;
 use crate::checks::accept;
+use crate::formula::MOD;
 use crate::generate::draft::Draft;
-use crate::generate::plan::{deep, extreme, growing};
+use crate::generate::plan::{deep, extreme, growing, Side};
 use crate::generate::random::Random;
 use crate::program::Program;
 use crate::rows::{bytes_of, layout, ROW_BYTES};
@@ -51,10 +52,10 @@ fn single() -> [Subject; 4] {
     ]
 }
 
-/// A table and a formula, each growing to its limit.
+/// A table, and a formula of mods, whose well-definedness is the longest, each growing to its limit.
 fn growing_ones() -> [Sizes; 2] {
     let grown = |quarters| rows_of(|random| growing(quarters).draft(random));
-    let deepened = |depth| rows_of(|random| deep(depth, random));
+    let deepened = |depth| rows_of(|random| deep(MOD, &[Side::Right], depth, random));
     [
         [
             subject("table, a quarter", grown(1)),

@@ -488,10 +488,11 @@ fn sees_after(draft: &Draft, (tag, _, target): Place, number: i32) -> bool {
     }
 }
 
-pub const EXTREMES: usize = 14;
+pub const EXTREMES: usize = 15;
 
-/// Tables at the limits. Numbers 1, 2 and 3 have the longest list without shared variables, the longest sequent and the
-/// longest spelled entry that were found, number 11 the longest list: of tables with all axioms, whose nodes add hypotheses.
+/// Tables at the limits. Numbers 1 and 2 have the longest list without shared variables and the longest sequent that were
+/// found, number 11 the longest list: of tables with all axioms, whose nodes add hypotheses. Number 3 has the longest spelled
+/// entry that can be, number 13 the longest without mod.
 pub fn extreme(number: usize, random: &mut Random) -> Draft {
     let full = Plan {
         axioms: 16,
@@ -506,7 +507,7 @@ pub fn extreme(number: usize, random: &mut Random) -> Draft {
         0 => everything(full),
         1 => return most_sequents(full, 0, random),
         2 => longest_sequent(full),
-        3 => return longest_entry(random),
+        3 => return deep(MOD, &[Side::Left, Side::Right], 255, random),
         4 => sixty_four_identifiers(random),
         5 => one_formula(random),
         6 => many_witnesses(full, random),
@@ -516,6 +517,7 @@ pub fn extreme(number: usize, random: &mut Random) -> Draft {
         10 => shared_everything(full, random),
         11 => return most_sequents(full, 60, random),
         12 => only_shared(full, random),
+        13 => return deep(DIVIDE, &[Side::Right], 255, random),
         _ => near_limits(full, random),
     };
     plan.draft(random)
@@ -657,16 +659,22 @@ fn only_shared(full: Plan, random: &mut Random) -> Plan {
     plan
 }
 
-fn longest_entry(random: &mut Random) -> Draft {
-    deep(255, random)
+/// The operand that has all other levels below it.
+#[derive(Clone, Copy, Debug)]
+pub enum Side {
+    Left,
+    Right,
 }
 
-/// A division of so many divisions, deep on the right, as the one initial action.
-pub fn deep(depth: usize, random: &mut Random) -> Draft {
+/// ÷ or mod over so many others, deep on any of these sides at each level, as the one initial action.
+pub fn deep(division: i32, sides: &[Side], depth: usize, random: &mut Random) -> Draft {
     let mut tree = Tree::one(NEGATION, Tree::leaf(LITERAL, 7));
     for _ in 0..depth {
-        let left = Tree::leaf(LITERAL, random.below(9) as i32);
-        tree = Tree::two(DIVIDE, left, tree);
+        let leaf = Tree::leaf(LITERAL, random.below(9) as i32);
+        tree = match random.pick(sides) {
+            Side::Left => Tree::two(division, tree, leaf),
+            Side::Right => Tree::two(division, leaf, tree),
+        };
     }
     Draft {
         identifiers: vec![[CONCRETE_VARIABLE, INTEGER, 0]],

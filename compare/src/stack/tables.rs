@@ -91,7 +91,7 @@ impl Shape {
     fn operators(self) -> &'static [i32] {
         match self {
             Shape::Chain => &[NEGATION, NOT],
-            Shape::Left | Shape::Right => &[MINUS, DIVIDE, AND, OR, IMPLIES, EQUIVALENT],
+            Shape::Left | Shape::Right => &[MINUS, DIVIDE, MOD, AND, OR, IMPLIES, EQUIVALENT],
             Shape::Bool => &[BOOL],
         }
     }
@@ -99,8 +99,8 @@ impl Shape {
     /// One or two of them, for tables whose calls take long.
     fn few_operators(self) -> &'static [i32] {
         match self {
-            Shape::Left => &[IMPLIES],
-            Shape::Right => &[DIVIDE],
+            Shape::Left => &[MOD, IMPLIES],
+            Shape::Right => &[DIVIDE, MOD],
             _ => self.operators(),
         }
     }

@@ -1,13 +1,17 @@
 //! The sizes that the paper wants run, and the largest answers found.
 
+use crate::common::definedness::rule;
 use crate::common::{refusal, table};
+use compare::formula::{Sort, MOD};
 use compare::generate::plan::{extreme, EXTREMES};
 use compare::generate::random::Random;
+use compare::operators::SHAPES;
 use compare::plain::may_lack_inv;
 use compare::rows::{bytes_of, Row};
 use compare::sequents::{sequents, spell_out, whole_list, Sequent, INV};
 use compare::services::{check, print, spell_entry};
 use compare::table::Table;
+use std::collections::BTreeMap;
 
 /// So many constants, and both initialisations.
 fn identifiers(count: usize) -> Vec<u8> {
@@ -131,15 +135,72 @@ fn longest_sequent() {
     }
 }
 
-#[test]
-fn longest_entry() {
-    let bytes = extreme_table(3);
+/// The rows of the longest well-definedness that a formula of at most so many nodes has, with these operators alone.
+fn longest_definedness(most: usize, allowed: impl Fn(i32) -> bool) -> usize {
+    // By sort and number of nodes; for each split of these between two operands the longest of both is the best.
+    let mut best: BTreeMap<(Sort, usize), usize> = BTreeMap::new();
+    for nodes in 1..=most {
+        for shape in SHAPES.iter().filter(|shape| allowed(shape.operator)) {
+            let of = |side: usize, nodes: usize| best.get(&(shape.takes[side], nodes)).copied();
+            let rows = match shape.takes.len() {
+                0 if nodes == 1 => Some(definedness_rows(shape.operator, [0; 2], [0; 2])),
+                1 if nodes > 1 => of(0, nodes - 1)
+                    .map(|below| definedness_rows(shape.operator, [nodes - 1, 0], [below, 0])),
+                2 => (1..nodes.saturating_sub(1))
+                    .filter_map(|left| {
+                        let sizes = [left, nodes - 1 - left];
+                        let below = [of(0, sizes[0])?, of(1, sizes[1])?];
+                        Some(definedness_rows(shape.operator, sizes, below))
+                    })
+                    .max(),
+                _ => None,
+            };
+            let longest = best.get(&(shape.makes, nodes)).copied();
+            if let Some(rows) = rows.max(longest) {
+                best.insert((shape.makes, nodes), rows);
+            }
+        }
+    }
+    best.into_values().max().expect("some formula")
+}
+
+/// The rows of an operator's well-definedness over operands of these sizes, with these rows of theirs.
+fn definedness_rows(operator: i32, sizes: [usize; 2], below: [usize; 2]) -> usize {
+    let rows = |word: &str| match word {
+        "a" => sizes[0],
+        "b" => sizes[1],
+        "wa" => below[0],
+        "wb" => below[1],
+        _ => 1,
+    };
+    rule(operator).split(' ').map(rows).sum()
+}
+
+/// The goal of the first sequent of an extreme table with 512 nodes has so many rows, and fits a buffer of as many.
+fn assert_longest(number: usize, rows: usize) {
+    let bytes = extreme_table(number);
     let read: Table = compare::checks::accept(&bytes).expect("accepted");
     assert_eq!(read.nodes.len(), 512);
     let goal = sequents(&read)[0].goal;
-    assert_eq!(spell_out(&read, goal).len(), 66_811);
-    let mut out = vec![0; 66_811 * 38];
-    assert_eq!(spell_entry(&bytes, 1, 1, &mut out), Ok(66_811));
+    assert_eq!(spell_out(&read, goal).len(), rows);
+    let mut out = vec![0; rows * 38];
+    assert_eq!(spell_entry(&bytes, 1, 1, &mut out), Ok(rows));
     out.pop();
     assert_eq!(spell_entry(&bytes, 1, 1, &mut out), Err(refusal(15, 0)));
+}
+
+/// No formula of 512 nodes has a longer well-definedness, and no other form has more than twice as many rows as nodes.
+#[test]
+fn longest_entry() {
+    assert_eq!(longest_definedness(512, |_| true), 67_576);
+    assert_longest(3, 67_576);
+    // A formula of 255 levels: 7 rows each, the operands as written, and ⊤ of the leaf and of what is deepest.
+    let levels = (1..=255).map(|level| 7 + (2 * level + 1) + 1);
+    assert_eq!(levels.sum::<usize>() + 1, 67_576);
+}
+
+#[test]
+fn longest_entry_without_mod() {
+    assert_eq!(longest_definedness(512, |one| one != MOD), 66_811);
+    assert_longest(13, 66_811);
 }
