@@ -25,10 +25,14 @@ enum Kind {
     Square,
     /// At an end of 64 bits or a little inside.
     End,
+    /// 2⁶³ − 1
+    Highest,
     /// −2⁶³
     Lowest,
     /// One past an end.
     Outside,
+    /// −2⁶³ − 1 or less.
+    Below,
     Undefined,
     /// Outside for some values of an identifier.
     MaybeOutside,
@@ -60,7 +64,7 @@ const KINDS: [Kind; 14] = [
 ];
 
 /// Dividends and divisors of mod.
-const REMAINDERS: [(Kind, Kind); 18] = [
+const REMAINDERS: [(Kind, Kind); 20] = [
     (Kind::Any, Kind::Any),
     (Kind::Any, Kind::Any),
     (Kind::Any, Kind::Small),
@@ -69,11 +73,13 @@ const REMAINDERS: [(Kind, Kind); 18] = [
     (Kind::Any, Kind::Unit),
     (Kind::Unit, Kind::Unit),
     (Kind::Zero, Kind::Unit),
-    (Kind::End, Kind::Unit),
+    (Kind::Highest, Kind::Unit),
     (Kind::Lowest, Kind::Unit),
     (Kind::Outside, Kind::Zero),
     (Kind::Outside, Kind::Any),
     (Kind::Outside, Kind::Small),
+    (Kind::Below, Kind::Any),
+    (Kind::Below, Kind::Small),
     (Kind::MaybeOutside, Kind::Any),
     (Kind::ZeroOutside, Kind::Small),
     (Kind::Any, Kind::Outside),
@@ -256,8 +262,13 @@ impl Terms<'_> {
                 Tree::two(TIMES, leaf.clone(), leaf)
             }
             Kind::End => self.end(),
+            Kind::Highest => self.highest(),
             Kind::Lowest => self.lowest(),
             Kind::Outside => self.outside(),
+            Kind::Below => match self.random.one_in(2) {
+                true => Tree::two(MINUS, self.lowest(), literal(1)),
+                false => Tree::two(TIMES, big(), literal(-3)),
+            },
             Kind::Undefined => self.divided(literal(0)),
             Kind::MaybeOutside => self.maybe_outside(),
             Kind::MaybeUndefined => {

@@ -198,7 +198,7 @@ fn differences_are_shown_on_small_tables_and_steps() {
         Mistake::SecondTypesUnwritten,
         Mistake::Term(Term::Wraps),
     ] {
-        let found = small(mistake, 20, 4);
+        let found = small(mistake, 24, 4);
         let records = found.case.state.expect("always there");
         assert!(records.len() <= 5, "{mistake:?}: {records:?}");
     }
