@@ -1,6 +1,6 @@
 //! A mistake in what request 4 leaves out, or in row 84, shows on explicit tables and on generated ones.
 
-use crate::common::rules::{Rule, Rules, RIGHT};
+use crate::common::rules::{Count, Rule, Rules, RIGHT};
 use crate::common::{table, INVARIANTS, L, PLACES, RICH};
 use compare::against::{Comparison, Effort};
 use compare::campaign::compare;
@@ -291,7 +291,7 @@ fn is_named(symbol: &Symbol) -> bool {
 }
 
 /// Mistakes in row 84.
-const ROWS_84: [(&str, fn(&Table, Entry) -> [i32; 3]); 9] = [
+const ROWS_84: [(&str, Count); 9] = [
     ("present and after values apart", |table, goal| {
         counted(&spell_out(table, goal), |one| {
             let after = one.operator == AFTER || one.operator == SOME_AFTER_VALUE;

@@ -2,7 +2,7 @@
 
 use crate::common::definedness::{self, Misdefined, Rule, QUOTIENT, REMAINDER};
 use crate::common::plain_values::{any_values, value, Mistake};
-use crate::common::rules::{self, Rules};
+use crate::common::rules::{self, Count, Rules};
 use compare::against::{Comparison, Effort, Services};
 use compare::checks::accept;
 use compare::evaluate::{evaluate, Reading, Value};
@@ -82,7 +82,7 @@ fn counted_by(operator: i32, rule: Rule, table: &Table, goal: Entry) -> [i32; 3]
 }
 
 /// Mistakes in row 84.
-const COUNTS: [(&str, fn(&Table, Entry) -> [i32; 3]); 3] = [
+const COUNTS: [(&str, Count); 3] = [
     ("dividends of mod aren't counted", |table, goal| {
         counted_by(14, QUOTIENT, table, goal)
     }),
@@ -96,7 +96,7 @@ const COUNTS: [(&str, fn(&Table, Entry) -> [i32; 3]); 3] = [
 
 #[test]
 fn a_wrong_row_84_is_found() {
-    let right: fn(&Table, Entry) -> [i32; 3] = |table, goal| counted_by(0, "", table, goal);
+    let right: Count = |table, goal| counted_by(0, "", table, goal);
     let with = |counts| Rules {
         counts,
         ..rules::RIGHT

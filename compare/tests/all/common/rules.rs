@@ -14,8 +14,11 @@ use compare::table::Table;
 pub struct Rules {
     pub leaves_out: Rule,
     pub changes: fn(&Table, &mut Sequent),
-    pub counts: fn(&Table, Entry) -> [i32; 3],
+    pub counts: Count,
 }
+
+/// Row 84 of a goal.
+pub type Count = fn(&Table, Entry) -> [i32; 3];
 
 /// Whether a sequent is left out.
 pub type Rule = fn(&Table, &Sequent) -> bool;
