@@ -102,7 +102,7 @@ fn replies_are_those_given() {
             written += 1;
         }
     }
-    assert_eq!((refused, written), (31, 13));
+    assert_eq!((refused, written), (31, 14));
 }
 
 /// Rows of a block that isn't an example of a reply stand in one of the models.
