@@ -1,291 +1,212 @@
--- 02, request 5: the answer is a value exactly where reading in order gives that value and no term met leaves 64 bits. By induction on the tree: each operator's answer
--- is a value where its operands' are and its own fits, and so are its reading and the terms that it meets.
+-- 02, requests 5 and 8: what an answer says. It is a value exactly where reading in order gives that value and every term met is fine, and a fault exactly where that is the
+-- first fault of the terms met, in order. By induction on the tree: an operand's fault is the first of what the operator meets, and where the operands are fine the operator's
+-- own term is the last that is met. One of these holds at most, so the answer is what holds.
 use mathlib.Core.Path.{_≡_, refl, sym, ap, ap₂, _∙_, subst}
 use mathlib.Core.Bool.{Bool, true, false, true≢false}
+use mathlib.Core.List.{List, [], _∷_, _++_}
 use mathlib.Core.Option.{Option, none, some, Option·map, Option·some-injective, Option·none-ne-some}
+use mathlib.Core.Logic.{_↔_}
 use Prim.Native.Nat.{ℕ}
 use lib.Dec.{T}
 use lib.IntN.{ℤ}
 use Rattle.lists.specs.Choice.{pick}
+use Rattle.lists.specs.All.{All, all-nil, all-cons, In, First, fault-here}
+use Rattle.lists.proofs.All.{all-at, all-in, all-join, first-left, first-right, first-in, first-not-fine, first-one}
 use Rattle.formula.specs.Values.{ValueType, AnyValue, number, truth, wrap, asTruth}
-use Rattle.formula.specs.Tree.{Constant, Unary, Binary, plus, minus, times, equal, less, atMost, iff, Division, Connective}
-use Rattle.formula.specs.Tree.{Tree, constant, identifier, after, unary, binary, division, connective}
+use Rattle.formula.specs.Tree.{Connective, Tree, constant, identifier, after, unary, binary, division, connective}
 use Rattle.formula.specs.Evaluate.{Env, readTree, constantValue, unaryValue, binaryValue, divisionDefined, divisionValue, connectiveValue, readsRight}
 use Rattle.formula.specs.Evaluate.{andThen, readDivision, readConnective}
 use Rattle.formula.proofs.Truth.{test-true, true-test}
-use Rattle.answer.specs.Answer.{Answer, value, outside, undefined, fits, fitsValue, within, valueThen, notNegative, operands, always}
+use Rattle.answer.specs.Answer.{Answer, value, outside, undefined, fits, fitsValue, within, valueThen, operands, always}
 use Rattle.answer.specs.Answer.{binaryAnswer, divisionAnswer, rightOf, connectiveAnswer, unaryAnswer, answer}
-use Rattle.answer.specs.Met.{met-itself, met-operand, met-left, met-right, met-dividend, met-divisor, met-first, met-second, NoneLeaves}
-
--- ---- answers apart
-
-abbrev isFault : Answer → Bool
-isFault (value v) = false
-isFault outside = true
-isFault undefined = true
-
-fault-never : {a : Answer} {v : AnyValue} → isFault a ≡ true → a ≡ value v → ⊥
-fault-never h e = true≢false (sym h ∙ ap isFault e)
-
-valueOr : AnyValue → Answer → AnyValue
-valueOr w a = elim a [ value v ↦ v | outside ↦ w | undefined ↦ w ]
-
-value-injective : {v w : AnyValue} → value v ≡ value w → v ≡ w
-unfolding valueOr
-value-injective {v} e = ap (valueOr v) e
-
--- ---- what a value comes from
-
-pub within-value : (x v : AnyValue) → within x ≡ value v → (x ≡ v) × T (fitsValue x)
-unfolding within
-within-value x v e = go (fitsValue x) e
-  where
-    go : (b : Bool) → pick b (value x) outside ≡ value v → (x ≡ v) × T b
-    go true e = (value-injective e, tt)
-    go false e = absurd (fault-never refl e)
-
-pub value-within : (x : AnyValue) → T (fitsValue x) → within x ≡ value x
-unfolding within
-value-within x h = ap (λ b. pick b (value x) outside) (test-true (fitsValue x) h)
-
-then-value : (a : Answer) (f : AnyValue → Answer) (v : AnyValue) → valueThen a f ≡ value v → (w : AnyValue) × (a ≡ value w) × (f w ≡ value v)
-then-value (value w) f v e = (w, refl, e)
-then-value outside f v e = absurd (fault-never refl e)
-then-value undefined f v e = absurd (fault-never refl e)
-
--- both operands are values, and the operator is defined on them
-pub record Both (l r : Answer) (defined : AnyValue → AnyValue → Bool) (f : AnyValue → AnyValue → AnyValue) (v : AnyValue) : Type 0 where
-  pub left : AnyValue
-  pub right : AnyValue
-  pub isLeft : l ≡ value left
-  pub isRight : r ≡ value right
-  pub isDefined : defined left right ≡ true
-  pub is : f left right ≡ v
-  pub inside : T (fitsValue (f left right))
-
-operands-value : (defined : AnyValue → AnyValue → Bool) (f : AnyValue → AnyValue → AnyValue) (l r : Answer) (v : AnyValue) → operands defined f l r ≡ value v → Both l r defined f v
-unfolding operands
-operands-value defined f (value a) (value b) v e = go (defined a b) refl e
-  where
-    go : (d : Bool) → defined a b ≡ d → pick d (within (f a b)) undefined ≡ value v → Both (value a) (value b) defined f v
-    go true h e = let p = within-value (f a b) v e in record { left = a; right = b; isLeft = refl; isRight = refl; isDefined = h; is = p .0; inside = p .1 }
-    go false h e = absurd (fault-never refl e)
-operands-value defined f (value a) outside v e = absurd (fault-never refl e)
-operands-value defined f (value a) undefined v e = absurd (fault-never refl e)
-operands-value defined f outside (value b) v e = absurd (go (defined notNegative b) e)
-  where
-    go : (d : Bool) → pick d outside undefined ≡ value v → ⊥
-    go true e = fault-never refl e
-    go false e = fault-never refl e
-operands-value defined f outside outside v e = absurd (fault-never refl e)
-operands-value defined f outside undefined v e = absurd (fault-never refl e)
-operands-value defined f undefined r v e = absurd (fault-never refl e)
-
-value-operands : (defined : AnyValue → AnyValue → Bool) (f : AnyValue → AnyValue → AnyValue) (a b : AnyValue) → defined a b ≡ true → T (fitsValue (f a b))
-    → operands defined f (value a) (value b) ≡ value (f a b)
-unfolding operands
-value-operands defined f a b d h = ap (λ x. pick x (within (f a b)) undefined) d ∙ value-within (f a b) h
-
--- a number or a truth value, of an operator
-binary-value : (o : Binary) (l r : Answer) (v : AnyValue) → binaryAnswer o l r ≡ value v → Both l r always (binaryValue o) v
-unfolding binaryAnswer
-binary-value plus l r v e = operands-value always (binaryValue plus) l r v e
-binary-value minus l r v e = operands-value always (binaryValue minus) l r v e
-binary-value times l r v e = operands-value always (binaryValue times) l r v e
-binary-value equal l r v e = operands-value always (binaryValue equal) l r v e
-binary-value less l r v e = operands-value always (binaryValue less) l r v e
-binary-value atMost l r v e = operands-value always (binaryValue atMost) l r v e
-binary-value iff l r v e =
-    let p = then-value l _ v e in
-    let q = then-value r _ v (p .2) in
-    record { left = p .0; right = q .0; isLeft = p .1; isRight = q .1; isDefined = refl; is = value-injective (q .2); inside = tt }
-
-value-binary : (o : Binary) (a b : AnyValue) → T (fitsValue (binaryValue o a b)) → binaryAnswer o (value a) (value b) ≡ value (binaryValue o a b)
-unfolding binaryAnswer
-value-binary plus a b h = value-operands always (binaryValue plus) a b refl h
-value-binary minus a b h = value-operands always (binaryValue minus) a b refl h
-value-binary times a b h = value-operands always (binaryValue times) a b refl h
-value-binary equal a b h = value-operands always (binaryValue equal) a b refl h
-value-binary less a b h = value-operands always (binaryValue less) a b refl h
-value-binary atMost a b h = value-operands always (binaryValue atMost) a b refl h
-value-binary iff a b h = refl
-
--- of a connective: the right side is read and is a value, or it isn't read
-abbrev joined : Connective → AnyValue → AnyValue → AnyValue
-joined o a b = truth (connectiveValue o (asTruth a) (asTruth b))
-
-abbrev decided : Connective → AnyValue → AnyValue
-decided o a = truth (connectiveValue o (asTruth a) false)
-
-right-value : {C : Type 0} (o : Connective) (a : AnyValue) (r : Answer) (v : AnyValue) → rightOf o a r ≡ value v
-    → (readsRight o (asTruth a) ≡ true → (b : AnyValue) → r ≡ value b → joined o a b ≡ v → C) → (readsRight o (asTruth a) ≡ false → decided o a ≡ v → C) → C
-right-value {C} o a r v e f g = go (readsRight o (asTruth a)) refl e
-  where
-    go : (d : Bool) → readsRight o (asTruth a) ≡ d → pick d (valueThen r (λ w. value (joined o a w))) (value (decided o a)) ≡ value v → C
-    go true h e = let p = then-value r (λ w. value (joined o a w)) v e in f h (p .0) (p .1) (value-injective (p .2))
-    go false h e = g h (value-injective e)
-
--- ---- what a reading comes from
-
-map-some : (f : AnyValue → AnyValue) (r : Option AnyValue) (v : AnyValue) → Option·map f r ≡ some v → (a : AnyValue) × (r ≡ some a) × (f a ≡ v)
-map-some f none v e = absurd (Option·none-ne-some v e)
-map-some f (some a) v e = (a, refl, Option·some-injective (f a) v e)
-
-then-some : (r : Option AnyValue) (f : AnyValue → Option AnyValue) (v : AnyValue) → andThen r f ≡ some v → (a : AnyValue) × (r ≡ some a) × (f a ≡ some v)
-then-some none f v e = absurd (Option·none-ne-some v e)
-then-some (some a) f v e = (a, refl, e)
-
-division-some : (o : Division) (a b v : AnyValue) → readDivision o a b ≡ some v → (divisionDefined o a b ≡ true) × (divisionValue o a b ≡ v)
-division-some o a b v e = go (divisionDefined o a b) e
-  where
-    go : (d : Bool) → pick d (some (divisionValue o a b)) none ≡ some v → (d ≡ true) × (divisionValue o a b ≡ v)
-    go true e = (refl, Option·some-injective (divisionValue o a b) v e)
-    go false e = absurd (Option·none-ne-some v e)
-
-some-division : (o : Division) (a b : AnyValue) → divisionDefined o a b ≡ true → readDivision o a b ≡ some (divisionValue o a b)
-some-division o a b d = ap (λ x. pick x (some (divisionValue o a b)) none) d
-
-right-some : {C : Type 0} (o : Connective) (a : AnyValue) (r : Option AnyValue) (v : AnyValue) → readConnective o a r ≡ some v
-    → (readsRight o (asTruth a) ≡ true → (b : AnyValue) → r ≡ some b → joined o a b ≡ v → C) → (readsRight o (asTruth a) ≡ false → decided o a ≡ v → C) → C
-right-some {C} o a r v e f g = go (readsRight o (asTruth a)) refl e
-  where
-    go : (d : Bool) → readsRight o (asTruth a) ≡ d → pick d (Option·map (joined o a) r) (some (decided o a)) ≡ some v → C
-    go true h e = let p = map-some (joined o a) r v e in f h (p .0) (p .1) (p .2)
-    go false h e = g h (Option·some-injective (decided o a) v e)
+use Rattle.answer.specs.Met.{whereRead, terms, NoneLeaves, Fine, TermFault, FirstFault, Says}
 
 module _ {type : ℕ → ValueType} (ρ : Env type) where
-  -- ---- the terms met
+  -- ---- what an answer says of a term, by the terms that are met with it
+  abbrev SaysOf : List Tree → Tree → Answer → Type 0
+  SaysOf ts t (value v) = (readTree ρ t ≡ some v) × All (Fine ρ) ts
+  SaysOf ts t outside = First (Fine ρ) (TermFault ρ) ts outside
+  SaysOf ts t undefined = First (Fine ρ) (TermFault ρ) ts undefined
 
-  -- the tree's own value fits
-  abbrev Own : Tree → Type 0
-  Own t = (z : ℤ) → readTree ρ t ≡ some (number z) → T (fits z)
+  abbrev SaysFine : Tree → Answer → Type 0
+  SaysFine t a = SaysOf (terms ρ t) t a
 
-  own-value : (t : Tree) (v : AnyValue) → readTree ρ t ≡ some v → T (fitsValue v) → Own t
-  own-value t v e h z d = subst (λ w. T (fitsValue w)) (Option·some-injective v (number z) (sym e ∙ d)) h
+  -- terms that are met before, and are fine
+  says-later : {ts : List Tree} (us : List Tree) (t : Tree) (a : Answer) → All (Fine ρ) ts → SaysOf us t a → SaysOf (ts ++ us) t a
+  says-later us t (value v) h (r, k) = (r, all-join h k)
+  says-later us t outside h s = first-right h s
+  says-later us t undefined h s = first-right h s
 
-  value-own : (t : Tree) (v : AnyValue) → readTree ρ t ≡ some v → Own t → T (fitsValue v)
-  value-own t (number z) e h = h z e
-  value-own t (truth b) e h = tt
+  -- an operand's fault, or what follows from its value
+  says-then : (t n : Tree) (us : List Tree) (a : Answer) (f : AnyValue → Answer) → SaysFine t a → ((v : AnyValue) → readTree ρ t ≡ some v → SaysOf us n (f v))
+      → SaysOf (terms ρ t ++ us) n (valueThen a f)
+  says-then t n us (value v) f (r, h) k = says-later us n (f v) h (k v r)
+  says-then t n us outside f s k = first-left us s
+  says-then t n us undefined f s k = first-left us s
 
-  itself : (t : Tree) → NoneLeaves ρ t → Own t
-  itself t h z e = h t z met-itself e
+  -- ---- a term by itself
+  says-within : (t : Tree) (v : AnyValue) → readTree ρ t ≡ some v → SaysOf (t ∷ []) t (within v)
+  unfolding within
+  says-within t (truth b) r = (r, all-cons (truth b, r, tt) all-nil)
+  says-within t (number z) r = go (fits z) refl
+    where
+      go : (b : Bool) → fits z ≡ b → SaysOf (t ∷ []) t (pick b (value (number z)) outside)
+      go true h = (r, all-cons (number z, r, true-test (fits z) h) all-nil)
+      go false h = fault-here {n = outside} (z, r, h)
 
-  leaves-constant : (c : Constant) → Own (constant c) → NoneLeaves ρ (constant c)
-  leaves-constant c h u z met-itself e = h z e
+  says-defined : (t : Tree) (d : Bool) (v : AnyValue) → readTree ρ t ≡ pick d (some v) none → SaysOf (t ∷ []) t (pick d (within v) undefined)
+  says-defined t true v r = says-within t v r
+  says-defined t false v r = fault-here {n = undefined} r
 
-  leaves-identifier : (x : ℕ) → Own (identifier x) → NoneLeaves ρ (identifier x)
-  leaves-identifier x h u z met-itself e = h z e
+  -- ---- two operands
+  says-operands : (t u n : Tree) (defined : AnyValue → AnyValue → Bool) (f : AnyValue → AnyValue → AnyValue) (a b : Answer) → SaysFine t a → SaysFine u b
+      → ((v w : AnyValue) → readTree ρ t ≡ some v → readTree ρ u ≡ some w → readTree ρ n ≡ pick (defined v w) (some (f v w)) none)
+      → SaysOf (terms ρ t ++ (terms ρ u ++ (n ∷ []))) n (operands defined f a b)
+  unfolding operands
+  says-operands t u n defined f a b s q k =
+      says-then t n (terms ρ u ++ (n ∷ [])) a (λ v. valueThen b (λ w. pick (defined v w) (within (f v w)) undefined)) s
+      (λ v r. says-then u n (n ∷ []) b (λ w. pick (defined v w) (within (f v w)) undefined) q (λ w p. says-defined n (defined v w) (f v w) (k v w r p)))
 
-  leaves-after : (x : ℕ) → Own (after x) → NoneLeaves ρ (after x)
-  leaves-after x h u z met-itself e = h z e
+  -- a right side, where it is read and where it isn't
+  says-right : (o : Connective) (v : AnyValue) (u n : Tree) (b : Answer) → SaysFine u b → readTree ρ n ≡ readConnective o v (readTree ρ u)
+      → SaysOf (whereRead o (some v) (terms ρ u) ++ (n ∷ [])) n (rightOf o v b)
+  says-right o v u n b q r = go (readsRight o (asTruth v)) r
+    where
+      joined : AnyValue → AnyValue
+      joined w = truth (connectiveValue o (asTruth v) (asTruth w))
 
-  leaves-unary : (o : Unary) (t : Tree) → Own (unary o t) → NoneLeaves ρ t → NoneLeaves ρ (unary o t)
-  leaves-unary o t h k u z met-itself e = h z e
-  leaves-unary o t h k u z (met-operand m) e = k u z m e
+      decided : AnyValue
+      decided = truth (connectiveValue o (asTruth v) false)
 
-  leaves-binary : (o : Binary) (s t : Tree) → Own (binary o s t) → NoneLeaves ρ s → NoneLeaves ρ t → NoneLeaves ρ (binary o s t)
-  leaves-binary o s t h k j u z met-itself e = h z e
-  leaves-binary o s t h k j u z (met-left m) e = k u z m e
-  leaves-binary o s t h k j u z (met-right m) e = j u z m e
+      go : (d : Bool) → readTree ρ n ≡ pick d (Option·map joined (readTree ρ u)) (some decided)
+          → SaysOf (pick d (terms ρ u) [] ++ (n ∷ [])) n (pick d (valueThen b (λ w. value (joined w))) (value decided))
+      go true r = says-then u n (n ∷ []) b (λ w. value (joined w)) q (λ w p. let is = r ∙ ap (Option·map joined) p in (is, all-cons (joined w, is, tt) all-nil))
+      go false r = (r, all-cons (decided, r, tt) all-nil)
 
-  leaves-division : (o : Division) (s t : Tree) → Own (division o s t) → NoneLeaves ρ s → NoneLeaves ρ t → NoneLeaves ρ (division o s t)
-  leaves-division o s t h k j u z met-itself e = h z e
-  leaves-division o s t h k j u z (met-dividend m) e = k u z m e
-  leaves-division o s t h k j u z (met-divisor m) e = j u z m e
+  -- ---- a formula
+  answer-says : (t : Tree) → SaysFine t (answer ρ t)
+  unfolding answer terms readTree unaryAnswer binaryAnswer divisionAnswer connectiveAnswer
+  answer-says (constant c) = says-within (constant c) (constantValue c) refl
+  answer-says (identifier x) = says-within (identifier x) (wrap (type x) (ρ .present x)) refl
+  answer-says (after x) = says-within (after x) (wrap (type x) (ρ .after x)) refl
+  answer-says (unary o t) =
+      says-then t (unary o t) (unary o t ∷ []) (answer ρ t) (λ v. within (unaryValue o v)) (answer-says t)
+      (λ v r. says-within (unary o t) (unaryValue o v) (ap (Option·map (unaryValue o)) r))
+  answer-says (binary o t u) =
+      says-operands t u (binary o t u) always (binaryValue o) (answer ρ t) (answer ρ u) (answer-says t) (answer-says u)
+      (λ v w r p. ap₂ (λ a b. andThen a (λ v. Option·map (binaryValue o v) b)) r p)
+  answer-says (division o t u) =
+      says-operands t u (division o t u) (divisionDefined o) (divisionValue o) (answer ρ t) (answer ρ u) (answer-says t) (answer-says u)
+      (λ v w r p. ap₂ (λ a b. andThen a (λ v. andThen b (readDivision o v))) r p)
+  answer-says (connective o t u) =
+      let n = connective o t u in
+      says-then t n (whereRead o (readTree ρ t) (terms ρ u) ++ (n ∷ [])) (answer ρ t) (λ v. rightOf o v (answer ρ u)) (answer-says t)
+      (λ v r. subst (λ x. SaysOf (whereRead o x (terms ρ u) ++ (n ∷ [])) n (rightOf o v (answer ρ u))) (sym r)
+      (says-right o v u n (answer ρ u) (answer-says u) (ap (λ x. andThen x (λ v. readConnective o v (readTree ρ u))) r)))
 
-  -- the right side is read where the left one's value says so
-  abbrev WhereRead : Connective → Tree → Tree → Type 0
-  WhereRead o s t = (v : AnyValue) → readTree ρ s ≡ some v → T (readsRight o (asTruth v)) → NoneLeaves ρ t
+  -- ---- only one answer says what holds
+  fine-not-faulty : (t : Tree) (a : Answer) → Fine ρ t → TermFault ρ t a → ⊥
+  fine-not-faulty t (value w) f g = g
+  fine-not-faulty t outside (v, r, h) (z, q, g) =
+      let is = Option·some-injective v (number z) (sym r ∙ q) in true≢false (sym (test-true (fits z) (subst (λ v. T (fitsValue v)) is h)) ∙ g)
+  fine-not-faulty t undefined (v, r, h) q = Option·none-ne-some v (sym q ∙ r)
 
-  leaves-connective : (o : Connective) (s t : Tree) → Own (connective o s t) → NoneLeaves ρ s → WhereRead o s t → NoneLeaves ρ (connective o s t)
-  leaves-connective o s t h k j u z met-itself e = h z e
-  leaves-connective o s t h k j u z (met-first m) e = k u z m e
-  leaves-connective o s t h k j u z (met-second {v = v} r w m) e = j v r w u z m e
+  one-fault : (t : Tree) (a b : Answer) → TermFault ρ t a → TermFault ρ t b → a ≡ b
+  one-fault t (value v) b f g = absurd f
+  one-fault t outside (value v) f g = absurd g
+  one-fault t outside outside f g = refl
+  one-fault t outside undefined (z, r, h) q = absurd (Option·none-ne-some (number z) (sym q ∙ r))
+  one-fault t undefined (value v) f g = absurd g
+  one-fault t undefined outside q (z, r, h) = absurd (Option·none-ne-some (number z) (sym q ∙ r))
+  one-fault t undefined undefined f g = refl
+
+  says-one : (t : Tree) (a b : Answer) → SaysFine t a → SaysFine t b → a ≡ b
+  says-one t (value v) (value w) (r, h) (q, k) = ap value (Option·some-injective v w (sym r ∙ q))
+  says-one t (value v) outside (r, h) f = absurd (first-not-fine fine-not-faulty h f)
+  says-one t (value v) undefined (r, h) f = absurd (first-not-fine fine-not-faulty h f)
+  says-one t outside (value w) f (r, h) = absurd (first-not-fine fine-not-faulty h f)
+  says-one t outside outside f g = refl
+  says-one t outside undefined f g = first-one fine-not-faulty one-fault f g
+  says-one t undefined (value w) f (r, h) = absurd (first-not-fine fine-not-faulty h f)
+  says-one t undefined outside f g = first-one fine-not-faulty one-fault f g
+  says-one t undefined undefined f g = refl
+
+  answer-fine : (t : Tree) (a : Answer) → (answer ρ t ≡ a) ↔ SaysFine t a
+  answer-fine t a = (λ e. subst (SaysFine t) e (answer-says t), λ s. says-one t (answer ρ t) a (answer-says t) s)
+
+  -- ---- where reading gives a value, so does it of every term that is met
+  abbrev Read : Tree → Type 0
+  Read t = (v : AnyValue) × (readTree ρ t ≡ some v)
+
+  -- from a value that was read
+  read-then : (r : Option AnyValue) (f : AnyValue → Option AnyValue) (v : AnyValue) → andThen r f ≡ some v → (a : AnyValue) × (r ≡ some a) × (f a ≡ some v)
+  read-then none f v e = absurd (Option·none-ne-some v e)
+  read-then (some a) f v e = (a, refl, e)
+
+  read-map : (f : AnyValue → AnyValue) (r : Option AnyValue) (v : AnyValue) → Option·map f r ≡ some v → (a : AnyValue) × (r ≡ some a)
+  read-map f none v e = absurd (Option·none-ne-some v e)
+  read-map f (some a) v e = (a, refl)
+
+  -- what a right side is read from
+  read-right : (o : Connective) (a v : AnyValue) (u : Tree) → readConnective o a (readTree ρ u) ≡ some v → ((b : AnyValue) → readTree ρ u ≡ some b → All Read (terms ρ u))
+      → All Read (whereRead o (some a) (terms ρ u))
+  read-right o a v u e k = go (readsRight o (asTruth a)) e
+    where
+      go : (d : Bool) → pick d (Option·map (λ w. truth (connectiveValue o (asTruth a) (asTruth w))) (readTree ρ u)) (some (truth (connectiveValue o (asTruth a) false))) ≡ some v
+          → All Read (pick d (terms ρ u) [])
+      go true e = let p = read-map (λ w. truth (connectiveValue o (asTruth a) (asTruth w))) (readTree ρ u) v e in k (p .0) (p .1)
+      go false e = all-nil
+
+  read-terms : (t : Tree) (v : AnyValue) → readTree ρ t ≡ some v → All Read (terms ρ t)
+  unfolding terms readTree
+  read-terms (constant c) v e = all-cons (v, e) all-nil
+  read-terms (identifier x) v e = all-cons (v, e) all-nil
+  read-terms (after x) v e = all-cons (v, e) all-nil
+  read-terms (unary o t) v e = let (a, r) = read-map (unaryValue o) (readTree ρ t) v e in all-join (read-terms t a r) (all-cons (v, e) all-nil)
+  read-terms (binary o t u) v e =
+      let (a, r, f) = read-then (readTree ρ t) (λ v. Option·map (binaryValue o v) (readTree ρ u)) v e in
+      let (b, q) = read-map (binaryValue o a) (readTree ρ u) v f in
+      all-join (read-terms t a r) (all-join (read-terms u b q) (all-cons (v, e) all-nil))
+  read-terms (division o t u) v e =
+      let (a, r, f) = read-then (readTree ρ t) (λ v. andThen (readTree ρ u) (readDivision o v)) v e in
+      let (b, q, g) = read-then (readTree ρ u) (readDivision o a) v f in
+      all-join (read-terms t a r) (all-join (read-terms u b q) (all-cons (v, e) all-nil))
+  read-terms (connective o t u) v e =
+      let (a, r, f) = read-then (readTree ρ t) (λ v. readConnective o v (readTree ρ u)) v e in
+      all-join (read-terms t a r) (all-join
+      (subst (λ x. All Read (whereRead o x (terms ρ u))) (sym r) (read-right o a v u f (λ b q. read-terms u b q))) (all-cons (v, e) all-nil))
 
   -- ---- a value is read, and no term met leaves 64 bits
   pub answer-reads : (t : Tree) (v : AnyValue) → answer ρ t ≡ value v → (readTree ρ t ≡ some v) × NoneLeaves ρ t
-  unfolding answer readTree unaryAnswer divisionAnswer connectiveAnswer
-  answer-reads (constant c) v e =
-      let p = within-value (constantValue c) v e in
-      let r = ap {B = Option AnyValue} some (p .0) in
-      (r, leaves-constant c (own-value (constant c) (constantValue c) refl (p .1)))
-  answer-reads (identifier x) v e =
-      let p = within-value (wrap (type x) (ρ .present x)) v e in
-      (ap {B = Option AnyValue} some (p .0), leaves-identifier x (own-value (identifier x) _ refl (p .1)))
-  answer-reads (after x) v e =
-      let p = within-value (wrap (type x) (ρ .after x)) v e in
-      (ap {B = Option AnyValue} some (p .0), leaves-after x (own-value (after x) _ refl (p .1)))
-  answer-reads (unary o t) v e =
-      let p = then-value (answer ρ t) (λ w. within (unaryValue o w)) v e in
-      let q = within-value (unaryValue o (p .0)) v (p .2) in
-      let h = answer-reads t (p .0) (p .1) in
-      let r : readTree ρ (unary o t) ≡ some (unaryValue o (p .0)) = ap (Option·map (unaryValue o)) (h .0) in
-      (r ∙ ap {B = Option AnyValue} some (q .0), leaves-unary o t (own-value (unary o t) _ r (q .1)) (h .1))
-  answer-reads (binary o t u) v e =
-      let p = binary-value o (answer ρ t) (answer ρ u) v e in
-      let h = answer-reads t (p .left) (p .isLeft) in
-      let k = answer-reads u (p .right) (p .isRight) in
-      let r : readTree ρ (binary o t u) ≡ some (binaryValue o (p .left) (p .right)) = ap₂ (λ a b. andThen a (λ v. Option·map (binaryValue o v) b)) (h .0) (k .0) in
-      (r ∙ ap {B = Option AnyValue} some (p .is), leaves-binary o t u (own-value (binary o t u) _ r (p .inside)) (h .1) (k .1))
-  answer-reads (division o t u) v e =
-      let p = operands-value (divisionDefined o) (divisionValue o) (answer ρ t) (answer ρ u) v e in
-      let h = answer-reads t (p .left) (p .isLeft) in
-      let k = answer-reads u (p .right) (p .isRight) in
-      let r : readTree ρ (division o t u) ≡ some (divisionValue o (p .left) (p .right)) =
-      ap₂ (λ a b. andThen a (λ v. andThen b (readDivision o v))) (h .0) (k .0) ∙ some-division o (p .left) (p .right) (p .isDefined) in
-      (r ∙ ap {B = Option AnyValue} some (p .is), leaves-division o t u (own-value (division o t u) _ r (p .inside)) (h .1) (k .1))
-  answer-reads (connective o t u) v e =
-      let p = then-value (answer ρ t) (λ w. rightOf o w (answer ρ u)) v e in
-      let h = answer-reads t (p .0) (p .1) in
-      let a : AnyValue = p .0 in
-      let l : readTree ρ (connective o t u) ≡ readConnective o a (readTree ρ u) = ap (λ x. andThen x (λ v. readConnective o v (readTree ρ u))) (h .0) in
-      right-value o a (answer ρ u) v (p .2)
-      (λ d b f q. let k = answer-reads u b f in
-      let r : readTree ρ (connective o t u) ≡ some (joined o a b) =
-      l ∙ ap (readConnective o a) (k .0) ∙ ap (λ x. pick x (some (joined o a b)) (some (decided o a))) d in
-      (r ∙ ap {B = Option AnyValue} some q, leaves-connective o t u (own-value (connective o t u) (joined o a b) r tt) (h .1) (λ w s x. k .1)))
-      (λ d q.
-      let r : readTree ρ (connective o t u) ≡ some (decided o a) = l ∙ ap (λ x. pick x (Option·map (joined o a) (readTree ρ u)) (some (decided o a))) d in (
-        r ∙ ap {B = Option AnyValue} some q,
-        leaves-connective o t u (own-value (connective o t u) (decided o a) r tt) (h .1)
-            (λ w s x. absurd (unread o a w t d (sym (h .0) ∙ s) x)),
-      ))
-    where
-      -- the right side isn't read
-      unread : (o : Connective) (a w : AnyValue) (t : Tree) → readsRight o (asTruth a) ≡ false → some a ≡ some w → T (readsRight o (asTruth w)) → ⊥
-      unread o a w t d e x = subst T (ap (λ y. readsRight o (asTruth y)) (sym (Option·some-injective a w e)) ∙ d) x
+  answer-reads t v e =
+      let (r, h) = answer-fine t (value v) .0 e in
+      (r, λ u z i q. let (w, p, k) = all-at h i in subst (λ w. T (fitsValue w)) (Option·some-injective w (number z) (sym p ∙ q)) k)
 
-  -- ---- a value that is read is the answer, if no term met leaves 64 bits
   pub reads-answer : (t : Tree) (v : AnyValue) → readTree ρ t ≡ some v → NoneLeaves ρ t → answer ρ t ≡ value v
-  unfolding answer readTree unaryAnswer divisionAnswer connectiveAnswer
-  reads-answer (constant c) v e h = ap within (Option·some-injective (constantValue c) v e) ∙ value-within v (value-own (constant c) v e (itself (constant c) h))
-  reads-answer (identifier x) v e h = ap within (Option·some-injective _ v e) ∙ value-within v (value-own (identifier x) v e (itself (identifier x) h))
-  reads-answer (after x) v e h = ap within (Option·some-injective _ v e) ∙ value-within v (value-own (after x) v e (itself (after x) h))
-  reads-answer (unary o t) v e h =
-      let p = map-some (unaryValue o) (readTree ρ t) v e in
-      let k = reads-answer t (p .0) (p .1) (λ u z m. h u z (met-operand m)) in
-      ap (λ a. valueThen a (λ w. within (unaryValue o w))) k ∙ ap within (p .2) ∙ value-within v (value-own (unary o t) v e (itself (unary o t) h))
-  reads-answer (binary o t u) v e h =
-      let p = then-some (readTree ρ t) _ v e in
-      let q = map-some (binaryValue o (p .0)) (readTree ρ u) v (p .2) in
-      let k = reads-answer t (p .0) (p .1) (λ u z m. h u z (met-left m)) in
-      let j = reads-answer u (q .0) (q .1) (λ u z m. h u z (met-right m)) in
-      let f = subst (λ w. T (fitsValue w)) (sym (q .2)) (value-own (binary o t u) v e (itself (binary o t u) h)) in
-      ap₂ (binaryAnswer o) k j ∙ value-binary o (p .0) (q .0) f ∙ ap value (q .2)
-  reads-answer (division o t u) v e h =
-      let p = then-some (readTree ρ t) _ v e in
-      let q = then-some (readTree ρ u) _ v (p .2) in
-      let d = division-some o (p .0) (q .0) v (q .2) in
-      let k = reads-answer t (p .0) (p .1) (λ u z m. h u z (met-dividend m)) in
-      let j = reads-answer u (q .0) (q .1) (λ u z m. h u z (met-divisor m)) in
-      let f = subst (λ w. T (fitsValue w)) (sym (d .1)) (value-own (division o t u) v e (itself (division o t u) h)) in
-      ap₂ (operands (divisionDefined o) (divisionValue o)) k j ∙ value-operands (divisionDefined o) (divisionValue o) (p .0) (q .0) (d .0) f ∙ ap value (d .1)
-  reads-answer (connective o t u) v e h =
-      let p = then-some (readTree ρ t) _ v e in
-      let a : AnyValue = p .0 in
-      let k = reads-answer t a (p .1) (λ u z m. h u z (met-first m)) in
-      ap (λ x. valueThen x (λ w. rightOf o w (answer ρ u))) k
-      ∙ right-some o a (readTree ρ u) v (p .2)
-      (λ d b f q. let j = reads-answer u b f (λ u z m. h u z (met-second (p .1) (true-test (readsRight o (asTruth a)) d) m)) in
-      ap (rightOf o a) j ∙ ap (λ x. pick x (value (joined o a b)) (value (decided o a))) d ∙ ap value q)
-      (λ d q. ap (λ x. pick x (valueThen (answer ρ u) (λ w. value (joined o a w))) (value (decided o a))) d ∙ ap value q)
+  reads-answer t v r h =
+      let read = read-terms t v r in
+      answer-fine t (value v) .1 (r, all-in (terms ρ t) (λ u i. let (w, p) = all-at read i in (w, p, fits-read w (λ z q. h u z i (p ∙ q)))))
+    where
+      fits-read : (w : AnyValue) → ((z : ℤ) → some w ≡ some (number z) → T (fits z)) → T (fitsValue w)
+      fits-read (number z) k = k z refl
+      fits-read (truth b) k = tt
+
+  -- ---- the answer is what holds
+  pub answer-exact : (t : Tree) (a : Answer) → (answer ρ t ≡ a) ↔ Says ρ t a
+  answer-exact t (value v) = (answer-reads t v, λ (r, h). reads-answer t v r h)
+  answer-exact t outside = answer-fine t outside
+  answer-exact t undefined = answer-fine t undefined
+
+  -- ---- a fault: a term met leaves 64 bits, or reading in order reaches an undefined term
+  abbrev pub SomeLeaves : Tree → Type 0
+  SomeLeaves t = (u : Tree) × (z : ℤ) × In u (terms ρ t) × (readTree ρ u ≡ some (number z)) × (fits z ≡ false)
+
+  pub first-outside : (t : Tree) → FirstFault ρ t outside → SomeLeaves t
+  first-outside t f = let (u, i, (z, r, h)) = first-in f in (u, z, i, r, h)
+
+  pub first-undefined : (t : Tree) → FirstFault ρ t undefined → readTree ρ t ≡ none
+  first-undefined t f = go (readTree ρ t) refl
+    where
+      go : (r : Option AnyValue) → readTree ρ t ≡ r → r ≡ none
+      go none e = refl
+      go (some v) e = let (u, i, q) = first-in f in let (w, p) = all-at (read-terms t v e) i in absurd (Option·none-ne-some w (sym q ∙ p))

@@ -1,13 +1,16 @@
--- 02, request 5, evaluation in signed 64 bits by examples: at the bounds, where both faults are met, and what the connectives don't read. All are computed from the definition.
+-- 02, requests 5, 7 and 8, evaluation in signed 64 bits by examples: at the bounds, where both faults are met, and what the connectives don't read. All are computed from the
+-- definition.
 use mathlib.Core.Path.{_≡_, refl}
 use mathlib.Core.Bool.{true, false}
+use mathlib.Core.List.{[], _∷_}
 use Prim.Native.Nat.{ℕ, _-_, _^_}
 use lib.IntN.{pos, negsuc}
 use Rattle.formula.specs.Values.{integer, number, truth}
 use Rattle.formula.specs.Tree.{literal, top, bottom, bool, negation, logicalNot, plus, minus, times, equal, less, iff, quotient, remainder, and, or, implies}
 use Rattle.formula.specs.Tree.{Tree, constant, unary, binary, division, connective}
-use Rattle.formula.specs.Evaluate.{Env}
+use Rattle.formula.specs.Evaluate.{Env, readTree}
 use Rattle.answer.specs.Answer.{Answer, value, outside, undefined, within, operands, binaryAnswer, divisionAnswer, connectiveAnswer, unaryAnswer, answer}
+use Rattle.answer.specs.Met.{terms}
 
 -- no identifier is mentioned
 abbrev env : Env (λ x. integer)
@@ -99,36 +102,37 @@ by-zero : (answered byZero ≡ undefined) × (answered (division remainder (word
 unfolding answer within divisionAnswer operands
 by-zero = (refl, refl)
 
--- undefined wins, on either side, of a term and of a comparison
-undefined-sum : (answered (binary plus tooLarge byZero) ≡ undefined) × (answered (binary plus byZero tooLarge) ≡ undefined)
+-- the left operand decides, of a term and of a comparison
+left-of-sum : (answered (binary plus tooLarge byZero) ≡ outside) × (answered (binary plus byZero tooLarge) ≡ undefined)
 unfolding answer within binaryAnswer divisionAnswer operands
-undefined-sum = (refl, refl)
+left-of-sum = (refl, refl)
 
-undefined-less : (answered (binary less tooLarge byZero) ≡ undefined) × (answered (binary less byZero tooLarge) ≡ undefined)
+left-of-less : (answered (binary less tooLarge byZero) ≡ outside) × (answered (binary less byZero tooLarge) ≡ undefined)
 unfolding answer within binaryAnswer divisionAnswer operands
-undefined-less = (refl, refl)
+left-of-less = (refl, refl)
 
--- a dividend outside 64 bits: divisor 0, and divisor 1
-dividend-outside : (answered (division quotient tooLarge (word 0)) ≡ undefined) × (answered (division quotient tooLarge (word 1)) ≡ outside)
+-- operands before their operator: a dividend outside 64 bits by 0, one of mod by 0 and by −1; before the divisor too
+dividend-first :
+    (answered (division quotient tooLarge (word 0)) ≡ outside) × (answered (division remainder tooSmall (word 0)) ≡ outside)
+    × (answered (division remainder tooLarge minusOne) ≡ outside) × (answered (division quotient tooLarge byZero) ≡ outside)
 unfolding answer within binaryAnswer divisionAnswer operands
-dividend-outside = (refl, refl)
+dividend-first = (refl, refl, refl, refl)
 
--- one of mod counts as not negative, also −2 ^ 63 − 1: divisor 1, 0 and −1
-dividend-not-negative :
-    (answered (division remainder tooSmall (word 1)) ≡ outside) × (answered (division remainder tooSmall (word 0)) ≡ undefined)
-    × (answered (division remainder tooSmall minusOne) ≡ undefined)
+-- a divisor outside 64 bits, or undefined, beside a negative dividend of mod
+divisor-next : (answered (division remainder minusOne tooLarge) ≡ outside) × (answered (division remainder minusOne byZero) ≡ undefined)
 unfolding answer within binaryAnswer divisionAnswer operands
-dividend-not-negative = (refl, refl, refl)
-
--- mod by one outside 64 bits isn't undefined itself, nor with a negative dividend
-negative-by-outside : (answered (division remainder minusOne tooLarge) ≡ outside) × (answered (division remainder minusOne tooSmall) ≡ outside)
-unfolding answer within binaryAnswer divisionAnswer operands
-negative-by-outside = (refl, refl)
+divisor-next = (refl, refl)
 
 -- a divisor with a part outside 64 bits, whose exact value is 0: 1 ÷ ((2 ^ 63 − 1 + 1) − (2 ^ 63 − 1 + 1))
-divisor-outside : (answered (division quotient (word 1) (binary minus tooLarge tooLarge)) ≡ outside) × (answered (division quotient byZero tooLarge) ≡ undefined)
+divisor-part : (answered (division quotient (word 1) (binary minus tooLarge tooLarge)) ≡ outside) × (answered (division quotient byZero tooLarge) ≡ undefined)
 unfolding answer within binaryAnswer divisionAnswer operands
-divisor-outside = (refl, refl)
+divisor-part = (refl, refl)
+
+-- the leftmost of three levels: ((2 ^ 63 − 1 + 1) + 1 ÷ 0) × (1 ÷ 0), and (1 ÷ 0 + (2 ^ 63 − 1 + 1)) × (2 ^ 63 − 1 + 1)
+leftmost-of-parts :
+    (answered (binary times (binary plus tooLarge byZero) byZero) ≡ outside) × (answered (binary times (binary plus byZero tooLarge) tooLarge) ≡ undefined)
+unfolding answer within binaryAnswer divisionAnswer operands
+leftmost-of-parts = (refl, refl)
 
 -- = of booleans is a comparison too: bool(2 ^ 63 = 0) = bool(1 ÷ 0 = 0)
 abbrev outsidePredicate : Tree
@@ -137,9 +141,11 @@ outsidePredicate = binary equal tooLarge (word 0)
 abbrev undefinedPredicate : Tree
 undefinedPredicate = binary equal byZero (word 0)
 
-undefined-equal : answered (binary equal (unary bool outsidePredicate) (unary bool undefinedPredicate)) ≡ undefined
+left-of-equal :
+    (answered (binary equal (unary bool outsidePredicate) (unary bool undefinedPredicate)) ≡ outside)
+    × (answered (binary equal (unary bool undefinedPredicate) (unary bool outsidePredicate)) ≡ undefined)
 unfolding answer within unaryAnswer binaryAnswer divisionAnswer operands
-undefined-equal = refl
+left-of-equal = (refl, refl)
 
 -- bool and ¬ of a faulty predicate
 faulty-bool : (answered (unary bool outsidePredicate) ≡ outside) × (answered (unary bool undefinedPredicate) ≡ undefined)
@@ -180,3 +186,17 @@ faulty-left = (refl, refl)
 faulty-iff : (answered (binary iff outsidePredicate undefinedPredicate) ≡ outside) × (answered (binary iff undefinedPredicate outsidePredicate) ≡ undefined)
 unfolding answer within binaryAnswer divisionAnswer operands
 faulty-iff = (refl, refl)
+
+-- ---- the order of terms: from the left, operands before their operator, and of ∧, ∨, ⇒ only what is read
+terms-of-sum : terms env (binary plus (word 1) (word 2)) ≡ word 1 ∷ word 2 ∷ binary plus (word 1) (word 2) ∷ []
+unfolding terms
+terms-of-sum = refl
+
+terms-of-quotient : terms env (division quotient (word 1) (word 2)) ≡ word 1 ∷ word 2 ∷ division quotient (word 1) (word 2) ∷ []
+unfolding terms
+terms-of-quotient = refl
+
+terms-of-and :
+    (terms env (connective and ⊤ᵗ ⊥ᵗ) ≡ ⊤ᵗ ∷ ⊥ᵗ ∷ connective and ⊤ᵗ ⊥ᵗ ∷ []) × (terms env (connective and ⊥ᵗ ⊤ᵗ) ≡ ⊥ᵗ ∷ connective and ⊥ᵗ ⊤ᵗ ∷ [])
+unfolding terms readTree
+terms-of-and = (refl, refl)

@@ -5,7 +5,7 @@ use lib.Dec.{ltb}
 use lib.IntN.{ℤ, pos, negsuc}
 use Rattle.lists.specs.Choice.{pick}
 use Rattle.formula.specs.Values.{ValueType, AnyValue, number, truth, wrap, asTruth}
-use Rattle.formula.specs.Tree.{Unary, Binary, plus, minus, times, equal, less, atMost, iff, Division, Connective}
+use Rattle.formula.specs.Tree.{Unary, Binary, Division, Connective}
 use Rattle.formula.specs.Tree.{Tree, constant, identifier, after, unary, binary, division, connective}
 use Rattle.formula.specs.Evaluate.{Env, constantValue, unaryValue, binaryValue, divisionDefined, divisionValue, connectiveValue, readsRight}
 
@@ -33,39 +33,17 @@ valueThen (value v) f = f v
 valueThen outside f = outside
 valueThen undefined f = undefined
 
--- a right operand beside one that is not undefined: "An operator whose divisor is outside, itself or in a part, is not undefined itself"
-abbrev pub rightThen : (AnyValue → Bool) → (AnyValue → Answer) → Answer → Answer
-rightThen defined f (value w) = pick (defined w) (f w) undefined
-rightThen defined f outside = outside
-rightThen defined f undefined = undefined
-
--- 02, request 7: "a dividend outside 64 bits, itself or in a part, counting there as not negative", where it is asked whether its operator is defined
-abbrev pub notNegative : AnyValue
-notNegative = number (pos 0)
-
--- Which fault wins at + − × ÷ mod = < ≤, which read both operands: "A term, or the two sides of a comparison taken together, that both leaves 64 bits and meets an
--- undefined part counts as undefined." The first test says on which operands the operator is defined.
+-- 02, request 8: "the leftmost operand now decides, operands before their operator": the left operand's fault, else the right's, else the operator's own. The first test
+-- says on which operands the operator is defined.
 unfoldable pub operands : (AnyValue → AnyValue → Bool) → (AnyValue → AnyValue → AnyValue) → Answer → Answer → Answer
-operands defined f (value v) r = rightThen (defined v) (λ w. within (f v w)) r
-operands defined f outside r = rightThen (defined notNegative) (λ w. outside) r
-operands defined f undefined r = undefined
+operands defined f l r = valueThen l (λ v. valueThen r (λ w. pick (defined v w) (within (f v w)) undefined))
 
--- operators that are defined on all operands
+-- operators that are defined on all operands; ⇔ "stops at a faulty left side" as the others do
 abbrev pub always : AnyValue → AnyValue → Bool
 always v w = true
 
--- "∧, ∨, ⇒ and ⇔ stop at a faulty left side"
-abbrev pub inOrder : (AnyValue → AnyValue → AnyValue) → Answer → Answer → Answer
-inOrder f l r = valueThen l (λ v. valueThen r (λ w. value (f v w)))
-
 unfoldable pub binaryAnswer : Binary → Answer → Answer → Answer
-binaryAnswer plus = operands always (binaryValue plus)
-binaryAnswer minus = operands always (binaryValue minus)
-binaryAnswer times = operands always (binaryValue times)
-binaryAnswer equal = operands always (binaryValue equal)
-binaryAnswer less = operands always (binaryValue less)
-binaryAnswer atMost = operands always (binaryValue atMost)
-binaryAnswer iff = inOrder (binaryValue iff)
+binaryAnswer o = operands always (binaryValue o)
 
 unfoldable pub divisionAnswer : Division → Answer → Answer → Answer
 divisionAnswer o = operands (divisionDefined o) (divisionValue o)
@@ -78,6 +56,7 @@ rightOf o v r =
     (valueThen r (λ w. value (truth (connectiveValue o (asTruth v) (asTruth w)))))
     (value (truth (connectiveValue o (asTruth v) false)))
 
+-- "∧, ∨, ⇒ and ⇔ stop at a faulty left side"
 unfoldable pub connectiveAnswer : Connective → Answer → Answer → Answer
 connectiveAnswer o l r = valueThen l (λ v. rightOf o v r)
 

@@ -10,8 +10,8 @@ use lib.IntN.{ℤ}
 use lib.ListN.{length}
 use borrow.Author.Tests.{eq-eqb, ne-eqb}
 use Rattle.lists.specs.Choice.{pick}
-use Rattle.lists.specs.All.{All}
-use Rattle.lists.proofs.All.{all-in, all-at}
+use Rattle.lists.specs.All.{All, First, fault-here, fault-later}
+use Rattle.lists.proofs.All.{all-in, all-at, first-left, first-right, first-either}
 use Rattle.formula.specs.Evaluate.{Env}
 use Rattle.formula.proofs.Truth.{and-split, and-join, test-true, true-test, eq→eqb}
 use Rattle.answer.specs.Answer.{answer}
@@ -31,8 +31,8 @@ use Rattle.log.specs.Lines.{lines}
 use Rattle.log.specs.Faults.{noFault, logFault, firstFault, untrue, stepFault}
 use Rattle.log.specs.Replay.{Values}
 use Rattle.log.specs.Recorded.{constantsAlone, AllInside}
-use Rattle.log.specs.Refusal.{First, fault-here, fault-later, FirstUntrue, StepFault}
-use Rattle.log.proofs.FirstFault.{None, Marks, first-left, first-right, first-either, number-first, first-number, number-untrue, untrue-number, number-fault, fault-number}
+use Rattle.log.specs.Refusal.{FirstUntrue, StepFault}
+use Rattle.log.proofs.FirstFault.{None, Marks, number-first, first-number, number-untrue, untrue-number, number-fault, fault-number}
 use Rattle.log.proofs.Judged.{predicates-judged, judged-predicates}
 use Rattle.log.proofs.Step.{Held, agree-constants, seen-axioms}
 use Rattle.log.proofs.Lines.{written-lines}

@@ -14,7 +14,7 @@ use Rattle.formula.specs.Evaluate.{Env, readsRight}
 use Rattle.machine.specs.Operator.{Operator, literalOf, identifierOf, afterOf, constantOf, unaryOf, binaryOf, divisionOf, connectiveOf, unknown, operatorNumbered}
 use Rattle.machine.specs.Described.{node, treeTo, treeOf}
 use Rattle.machine.proofs.Described.{operand-falls, tree-step}
-use Rattle.answer.specs.Answer.{Answer, answer, rightOf as rightAnswer, binaryAnswer, connectiveAnswer}
+use Rattle.answer.specs.Answer.{Answer, answer, rightOf as rightAnswer, operands, binaryAnswer, connectiveAnswer}
 use Rattle.signed.specs.Found.{foundOf, answerOf}
 use Rattle.signed.proofs.Answers.{answer-found}
 use Rattle.signed.specs.declared.Found.{Found}
@@ -26,7 +26,7 @@ unread : (o : Connective) (v : AnyValue) → readsRight o (asTruth v) ≡ false 
 unread o v e r s = not-chosen (readsRight o (asTruth v)) _ _ e ∙ sym (not-chosen (readsRight o (asTruth v)) _ _ e)
 
 right-unread : (o : Operator) (l : Found) → readsRightOf o l ≡ false → (r s : Answer) → combined o (answerOf l) r ≡ combined o (answerOf l) s
-unfolding binaryAnswer connectiveAnswer
+unfolding binaryAnswer operands connectiveAnswer
 right-unread literalOf l e r s = refl
 right-unread identifierOf l e r s = refl
 right-unread afterOf l e r s = refl

@@ -1,10 +1,10 @@
--- How "every member" and membership go through ++, map and flatMap, each by recursion on the list or on the derivation.
+-- How "every member", membership and the first fault go through ++, map and flatMap, each by recursion on the list or on the derivation.
 use mathlib.Core.Path.{_≡_, refl, sym, ap, ap₂, subst}
 use mathlib.Core.List.{List, [], _∷_, _++_, map, flatMap}
 use mathlib.Core.Logic.{_⊎_, inl, inr}
 use Prim.Native.Nat.{ℕ}
 use native.Mathlib.Decide.{ℕ-discrete}
-use Rattle.lists.specs.All.{All, all-nil, all-cons, In, here, there}
+use Rattle.lists.specs.All.{All, all-nil, all-cons, In, here, there, First, fault-here, fault-later}
 
 module _ {A : Type 0} {P : A → Type 0} where
   pub all-head : {x : A} {xs : List A} → All P (x ∷ xs) → P x
@@ -136,3 +136,55 @@ in-dec n (x ∷ xs) = decide (ℕ-discrete n x) (in-dec n xs)
 pub in-none : {A : Type 0} (xs : List A) → ((a : A) → In a xs → ⊥) → xs ≡ []
 in-none [] f = refl
 in-none (x ∷ xs) f = absurd (f x (here refl))
+
+-- ---- the first fault of a list
+module _ {A N : Type 0} {Fine : A → Type 0} {Fault : A → N → Type 0} {n : N} where
+  pub first-nil : First Fine Fault [] n → ⊥
+  first-nil f = elim f [ ]
+
+  pub first-left : {xs : List A} (ys : List A) → First Fine Fault xs n → First Fine Fault (xs ++ ys) n
+  first-left ys (fault-here h) = fault-here h
+  first-left ys (fault-later h f) = fault-later h (first-left ys f)
+
+  pub first-right : {xs ys : List A} → All Fine xs → First Fine Fault ys n → First Fine Fault (xs ++ ys) n
+  first-right all-nil f = f
+  first-right (all-cons h hs) f = fault-later h (first-right hs f)
+
+  pub first-either : (xs : List A) {ys : List A} → First Fine Fault (xs ++ ys) n → First Fine Fault xs n ⊎ (All Fine xs × First Fine Fault ys n)
+  first-either [] f = inr (all-nil, f)
+  first-either (x ∷ xs) (fault-here h) = inl (fault-here h)
+  first-either (x ∷ xs) {ys} (fault-later h f) = go (first-either xs f)
+    where
+      go : First Fine Fault xs n ⊎ (All Fine xs × First Fine Fault ys n) → First Fine Fault (x ∷ xs) n ⊎ (All Fine (x ∷ xs) × First Fine Fault ys n)
+      go (inl f) = inl (fault-later h f)
+      go (inr (hs, f)) = inr (all-cons h hs, f)
+
+  -- the member with the first fault
+  pub first-in : {xs : List A} → First Fine Fault xs n → (x : A) × In x xs × Fault x n
+  first-in (fault-here {x = x} h) = (x, here refl, h)
+  first-in (fault-later h f) = let (x, i, g) = first-in f in (x, there i, g)
+
+-- of the members of a list, of which each is mapped to another that is as fine or has the same fault
+module _ {A B N : Type 0} {Fine : A → Type 0} {Fault : A → N → Type 0} {Fine′ : B → Type 0} {Fault′ : B → N → Type 0} {n : N} (f : A → B) where
+  pub first-map : {xs : List A} → ((x : A) → In x xs → Fine x → Fine′ (f x)) → ((x : A) → In x xs → Fault x n → Fault′ (f x) n)
+      → First Fine Fault xs n → First Fine′ Fault′ (map f xs) n
+  first-map g h (fault-here {x = x} b) = fault-here (h x (here refl) b)
+  first-map g h (fault-later {x = x} a r) = fault-later (g x (here refl) a) (first-map (λ y i. g y (there i)) (λ y i. h y (there i)) r)
+
+  pub first-unmap : (xs : List A) → ((x : A) → In x xs → Fine′ (f x) → Fine x) → ((x : A) → In x xs → Fault′ (f x) n → Fault x n)
+      → First Fine′ Fault′ (map f xs) n → First Fine Fault xs n
+  first-unmap [] g h r = absurd (first-nil r)
+  first-unmap (x ∷ xs) g h (fault-here b) = fault-here (h x (here refl) b)
+  first-unmap (x ∷ xs) g h (fault-later a r) = fault-later (g x (here refl) a) (first-unmap xs (λ y i. g y (there i)) (λ y i. h y (there i)) r)
+
+-- a member is fine or has one fault: then the list's members are all fine or one of them has the first fault, which is one
+module _ {A N : Type 0} {Fine : A → Type 0} {Fault : A → N → Type 0} (apart : (x : A) (n : N) → Fine x → Fault x n → ⊥) where
+  pub first-not-fine : {xs : List A} {n : N} → All Fine xs → First Fine Fault xs n → ⊥
+  first-not-fine (all-cons h hs) (fault-here {x = x} {n = n} f) = apart x n h f
+  first-not-fine (all-cons h hs) (fault-later k f) = first-not-fine hs f
+
+  pub first-one : ((x : A) (m n : N) → Fault x m → Fault x n → m ≡ n) → {xs : List A} {m n : N} → First Fine Fault xs m → First Fine Fault xs n → m ≡ n
+  first-one one (fault-here {x = x} {n = m} f) (fault-here {n = n} g) = one x m n f g
+  first-one one (fault-here {x = x} {n = m} f) (fault-later h g) = absurd (apart x m h f)
+  first-one one (fault-later h f) (fault-here {x = x} {n = n} g) = absurd (apart x n h g)
+  first-one one (fault-later h f) (fault-later k g) = first-one one f g

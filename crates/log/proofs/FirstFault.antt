@@ -10,8 +10,8 @@ use lib.Dec.{T, eqb}
 use lib.IntN.{ℤ}
 use borrow.Author.Tests.{eqb-true, eq-eqb, ne-eqb}
 use Rattle.lists.specs.Choice.{pick}
-use Rattle.lists.specs.All.{All, all-nil, all-cons, In, here, there}
-use Rattle.lists.proofs.All.{all-at}
+use Rattle.lists.specs.All.{All, all-nil, In, First, fault-here, fault-later}
+use Rattle.lists.proofs.All.{all-at, first-nil, first-left, first-right, first-either, first-map, first-unmap}
 use Rattle.formula.specs.Values.{AnyValue, truth, wrap, equalValue}
 use Rattle.formula.specs.Tree.{Tree}
 use Rattle.formula.specs.Evaluate.{Env}
@@ -21,6 +21,7 @@ use Rattle.formula.proofs.Values.{wrap-injective, equal-value-eq, eq-equal-valu
 use Rattle.formula.proofs.Mentions.{Agree}
 use Rattle.answer.specs.Answer.{Answer, value, outside, undefined, answer}
 use Rattle.answer.specs.Stored.{storedEnv}
+use Rattle.answer.proofs.Answer.{answer-exact, answer-reads, reads-answer}
 use Rattle.answer.proofs.Mentions.{answer-agree}
 use Rattle.table.specs.Rows.{Rows, named, machineNumber, classOf, refinedBy}
 use Rattle.machine.specs.Machine.{Action, unassigned, becomesEqual, becomesSuchThat, Machine}
@@ -34,48 +35,13 @@ use Rattle.run.specs.Run.{State, blank, world, view}
 use Rattle.log.specs.Rows.{isInitial}
 use Rattle.log.specs.Faults.{noFault, logFault, differs, faultOf, firstFault, untrue, notAllowed, stepFault}
 use Rattle.log.specs.Recorded.{constantsAlone}
-use Rattle.log.specs.Refusal.{First, fault-here, fault-later, FormulaFault, outside-term, undefined-term, other-value, ActionFault, FirstUntrue, AxiomsMet}
+use Rattle.log.specs.Refusal.{FormulaFault, outside-term, undefined-term, other-value, ActionFault, FirstUntrue, AxiomsMet}
 use Rattle.log.specs.Refusal.{StepFault, axiom-fault, guard-fault, action-fault}
 use Rattle.log.proofs.Sight.{never, sees, aConstant, ActionSeen}
 use Rattle.log.proofs.Judged.{agree-less, agree-own, formula-judged, judged-formula, predicates-judged, judged-predicates, action-judged, judged-action}
 use Rattle.log.proofs.Step.{Held, aVariable, variable-in, agree-before, agree-both, agree-constants, seen-action, seen-axioms, seen-guards}
 
--- ---- the first fault of a list
-module _ {A : Type 0} {Fine : A → Type 0} {Fault : A → ℕ → Type 0} {n : ℕ} where
-  first-nil : First Fine Fault [] n → ⊥
-  first-nil f = elim f [ ]
-
-  pub first-left : {xs : List A} (ys : List A) → First Fine Fault xs n → First Fine Fault (xs ++ ys) n
-  first-left ys (fault-here h) = fault-here h
-  first-left ys (fault-later h f) = fault-later h (first-left ys f)
-
-  pub first-right : {xs ys : List A} → All Fine xs → First Fine Fault ys n → First Fine Fault (xs ++ ys) n
-  first-right all-nil f = f
-  first-right (all-cons h hs) f = fault-later h (first-right hs f)
-
-  pub first-either : (xs : List A) {ys : List A} → First Fine Fault (xs ++ ys) n → First Fine Fault xs n ⊎ (All Fine xs × First Fine Fault ys n)
-  first-either [] f = inr (all-nil, f)
-  first-either (x ∷ xs) (fault-here h) = inl (fault-here h)
-  first-either (x ∷ xs) {ys} (fault-later h f) = go (first-either xs f)
-    where
-      go : First Fine Fault xs n ⊎ (All Fine xs × First Fine Fault ys n) → First Fine Fault (x ∷ xs) n ⊎ (All Fine (x ∷ xs) × First Fine Fault ys n)
-      go (inl f) = inl (fault-later h f)
-      go (inr (hs, f)) = inr (all-cons h hs, f)
-
--- of the members of a list, of which each is mapped to another that is as fine or has the same fault
-module _ {A B : Type 0} {Fine : A → Type 0} {Fault : A → ℕ → Type 0} {Fine′ : B → Type 0} {Fault′ : B → ℕ → Type 0} {n : ℕ} (f : A → B) where
-  first-map : {xs : List A} → ((x : A) → In x xs → Fine x → Fine′ (f x)) → ((x : A) → In x xs → Fault x n → Fault′ (f x) n)
-      → First Fine Fault xs n → First Fine′ Fault′ (map f xs) n
-  first-map g h (fault-here {x = x} b) = fault-here (h x (here refl) b)
-  first-map g h (fault-later {x = x} a r) = fault-later (g x (here refl) a) (first-map (λ y i. g y (there i)) (λ y i. h y (there i)) r)
-
-  first-unmap : (xs : List A) → ((x : A) → In x xs → Fine′ (f x) → Fine x) → ((x : A) → In x xs → Fault′ (f x) n → Fault x n)
-      → First Fine′ Fault′ (map f xs) n → First Fine Fault xs n
-  first-unmap [] g h r = absurd (first-nil r)
-  first-unmap (x ∷ xs) g h (fault-here b) = fault-here (h x (here refl) b)
-  first-unmap (x ∷ xs) g h (fault-later a r) = fault-later (g x (here refl) a) (first-unmap xs (λ y i. g y (there i)) (λ y i. h y (there i)) r)
-
--- of numbers
+-- ---- the first fault of a list of numbers
 abbrev pub None : ℕ → Type 0
 None f = f ≡ noFault
 
@@ -127,17 +93,20 @@ module _ (t : Rows) where
     number-formula n m = go (answer ρ (tree r)) (sym (answer-agree ρ σ h (tree r) s)) m
       where
         go : (a : Answer) → answer σ (tree r) ≡ a → Marks (faultOf v a) n → FormulaFault t σ r v n
-        go (value w) e m = let d = number-differs v w n m in subst (FormulaFault t σ r v) (sym (d .1)) (other-value w e (λ q. d .0 (sym q)))
-        go outside e (m, z) = subst (FormulaFault t σ r v) m (outside-term e)
-        go undefined e (m, z) = subst (FormulaFault t σ r v) m (undefined-term e)
+        go (value w) e m =
+            let d = number-differs v w n m in
+            let p = answer-reads σ (tree r) w e in
+            subst (FormulaFault t σ r v) (sym (d .1)) (other-value w (p .0) (p .1) (λ q. d .0 (sym q)))
+        go outside e (m, z) = subst (FormulaFault t σ r v) m (outside-term (answer-exact σ (tree r) outside .0 e))
+        go undefined e (m, z) = subst (FormulaFault t σ r v) m (undefined-term (answer-exact σ (tree r) undefined .0 e))
 
     formula-number : {n : ℕ} → FormulaFault t σ r v n → Marks (faultOf v (answer ρ (tree r))) n
     formula-number {n} f = subst (λ a. Marks (faultOf v a) n) (sym (answer-agree ρ σ h (tree r) s)) (go f)
       where
         go : {n : ℕ} → FormulaFault t σ r v n → Marks (faultOf v (answer σ (tree r))) n
-        go (outside-term e) = (ap (faultOf v) e, λ e. let z : _≡_ {A = ℕ} 16 0 = e in omega arith)
-        go (undefined-term e) = (ap (faultOf v) e, λ e. let z : _≡_ {A = ℕ} 17 0 = e in omega arith)
-        go (other-value w e d) = subst (λ a. Marks (faultOf v a) logFault) (sym e) (differs-number v w (λ q. d (sym q)))
+        go (outside-term f) = (ap (faultOf v) (answer-exact σ (tree r) outside .1 f), λ e. let z : _≡_ {A = ℕ} 16 0 = e in omega arith)
+        go (undefined-term f) = (ap (faultOf v) (answer-exact σ (tree r) undefined .1 f), λ e. let z : _≡_ {A = ℕ} 17 0 = e in omega arith)
+        go (other-value w e l d) = subst (λ a. Marks (faultOf v a) logFault) (sym (reads-answer σ (tree r) w e l)) (differs-number v w (λ q. d (sym q)))
 
   -- ---- predicates that have to be true
   module _ {P Q : ℕ → Bool} (ρ σ : Env (machine .type)) (h : Agree P Q ρ σ) (rs : List ℕ) (seen : All (λ r. T (mentions P Q (tree r))) rs) {n : ℕ} where

@@ -7,8 +7,8 @@ use mathlib.Core.List.{List, [], _∷_, _++_, flatMap}
 use mathlib.Core.Logic.{_⊎_, inl, inr}
 use native.Mathlib.Omega.{arith}
 use lib.ListN.{length}
-use Rattle.lists.specs.All.{All, all-nil, In, here, there}
-use Rattle.lists.proofs.All.{all-join}
+use Rattle.lists.specs.All.{All, all-nil}
+use Rattle.lists.proofs.All.{all-join, first-in}
 use Rattle.lists.proofs.Flat.{flat-join}
 use Rattle.row.specs.Row.{greatest, width, rowBytes, Writable}
 use Rattle.row.specs.declared.Row.{Row}
@@ -26,7 +26,7 @@ use Rattle.log.specs.Rows.{logged}
 use Rattle.log.specs.Lines.{lines}
 use Rattle.log.specs.Faults.{outsideFault, undefinedFault, logFault}
 use Rattle.log.specs.Replay.{replayLog}
-use Rattle.log.specs.Refusal.{First, fault-here, fault-later, FormulaFault, outside-term, undefined-term, other-value, ActionFault}
+use Rattle.log.specs.Refusal.{FormulaFault, outside-term, undefined-term, other-value, ActionFault}
 use Rattle.log.specs.Refusal.{StepFault, axiom-fault, guard-fault, action-fault, beginning, Begun}
 use Rattle.log.specs.Refusal.{Refusal, empty, bad-step, bad-value, ends-inside, step-fault, after-step}
 use Rattle.log.proofs.Lines.{lines-nothing}
@@ -37,11 +37,6 @@ use Rattle.log.proofs.Refusals.{refused-number, refused-row, begun-leng
 abbrev pub LogNumber : ℕ → Type 0
 LogNumber n = (n ≡ outsideFault) ⊎ (n ≡ undefinedFault) ⊎ (n ≡ logFault)
 
--- the member with the first fault
-pub first-in : {A : Type 0} {Fine : A → Type 0} {Fault : A → ℕ → Type 0} {xs : List A} {n : ℕ} → First Fine Fault xs n → (x : A) × In x xs × Fault x n
-first-in (fault-here {x = x} h) = (x, here refl, h)
-first-in (fault-later h f) = let (x, i, g) = first-in f in (x, there i, g)
-
 module _ (t : Rows) where
   abbrev machine : Machine
   machine = machineOf t
@@ -50,7 +45,7 @@ module _ (t : Rows) where
   formula-fault-number : {ρ : Env (machine .type)} {r : ℕ} {v : AnyValue} {n : ℕ} → FormulaFault t ρ r v n → LogNumber n
   formula-fault-number (outside-term e) = inl refl
   formula-fault-number (undefined-term e) = inr (inl refl)
-  formula-fault-number (other-value w e d) = inr (inr refl)
+  formula-fault-number (other-value w e l d) = inr (inr refl)
 
   action-fault-number : (ρ : Env (machine .type)) (x : ℕ) (a : Action) (n : ℕ) → ActionFault t ρ x a n → LogNumber n
   action-fault-number ρ x unassigned n f = inr (inr (f .1))

@@ -1,14 +1,15 @@
 -- 02, request 5, what 16 and 17 say of the step that a log's refusal marks with them: one of the formulas that judging the step reads (an axiom, a guard, an action's) meets a
--- term outside 64 bits, or its reading reaches an undefined term. It is the first formula with a fault, and its answer says it.
+-- term outside 64 bits, or its reading reaches an undefined term. It is the first formula with a fault, and its first fault says it.
 use Prim.Native.Nat.{ℕ}
 use mathlib.Core.Path.{_≡_, refl}
 use mathlib.Core.Option.{none}
 use native.Mathlib.Omega.{arith}
 use lib.Dec.{T}
 use Rattle.lists.specs.All.{In}
+use Rattle.lists.proofs.All.{first-in}
 use Rattle.formula.specs.Values.{AnyValue}
 use Rattle.formula.specs.Evaluate.{Env, readTree}
-use Rattle.answer.proofs.Faults.{SomeLeaves, answer-outside, answer-undefined}
+use Rattle.answer.proofs.Answer.{SomeLeaves, first-outside, first-undefined}
 use Rattle.table.specs.Rows.{Rows}
 use Rattle.machine.specs.Machine.{Action, unassigned, becomesEqual, becomesSuchThat, Role, Machine}
 use Rattle.machine.specs.Described.{machineOf}
@@ -19,7 +20,6 @@ use Rattle.log.specs.Faults.{outsideFault, undefinedFault, logFault}
 use Rattle.log.specs.Recorded.{constantsAlone}
 use Rattle.log.specs.Refusal.{FormulaFault, outside-term, undefined-term, other-value, ActionFault}
 use Rattle.log.specs.Refusal.{StepFault, axiom-fault, guard-fault, action-fault}
-use Rattle.log.proofs.Marks.{first-in}
 
 module _ (t : Rows) where
   abbrev machine : Machine
@@ -33,14 +33,14 @@ module _ (t : Rows) where
   Undefined ρ r = readTree ρ (machine .tree r) ≡ none
 
   pub formula-outside : {ρ : Env (machine .type)} {r : ℕ} {v : AnyValue} {n : ℕ} → n ≡ outsideFault → FormulaFault t ρ r v n → Leaves ρ r
-  formula-outside {ρ} {r} z (outside-term e) = answer-outside ρ (machine .tree r) e
+  formula-outside {ρ} {r} z (outside-term f) = first-outside ρ (machine .tree r) f
   formula-outside z (undefined-term e) = absurd (let q : _≡_ {A = ℕ} 17 16 = z in omega arith)
-  formula-outside z (other-value w e d) = absurd (let q : _≡_ {A = ℕ} 18 16 = z in omega arith)
+  formula-outside z (other-value w e l d) = absurd (let q : _≡_ {A = ℕ} 18 16 = z in omega arith)
 
   pub formula-undefined : {ρ : Env (machine .type)} {r : ℕ} {v : AnyValue} {n : ℕ} → n ≡ undefinedFault → FormulaFault t ρ r v n → Undefined ρ r
   formula-undefined z (outside-term e) = absurd (let q : _≡_ {A = ℕ} 16 17 = z in omega arith)
-  formula-undefined {ρ} {r} z (undefined-term e) = answer-undefined ρ (machine .tree r) e
-  formula-undefined z (other-value w e d) = absurd (let q : _≡_ {A = ℕ} 18 17 = z in omega arith)
+  formula-undefined {ρ} {r} z (undefined-term f) = first-undefined ρ (machine .tree r) f
+  formula-undefined z (other-value w e l d) = absurd (let q : _≡_ {A = ℕ} 18 17 = z in omega arith)
 
   -- ---- a step
 

@@ -3,16 +3,17 @@
 use mathlib.Core.Path.{_≡_}
 use mathlib.Core.Bool.{Bool, true, false}
 use mathlib.Core.List.{List, [], _∷_, _++_, map, flatMap}
+use mathlib.Core.Option.{some}
 use Prim.Native.Nat.{ℕ, _+_}
 use lib.Dec.{T}
 use lib.ListN.{length}
-use Rattle.lists.specs.All.{All}
+use Rattle.lists.specs.All.{All, First}
 use Rattle.row.specs.Row.{greatest, width, rowBytes, Writable}
 use Rattle.row.specs.declared.Row.{Row}
 use Rattle.formula.specs.Values.{AnyValue, truth, wrap}
-use Rattle.formula.specs.Evaluate.{Env}
-use Rattle.answer.specs.Answer.{value, outside, undefined, answer}
-use Rattle.answer.specs.Met.{NoneLeaves}
+use Rattle.formula.specs.Evaluate.{Env, readTree}
+use Rattle.answer.specs.Answer.{outside, undefined}
+use Rattle.answer.specs.Met.{NoneLeaves, FirstFault}
 use Rattle.table.specs.Rows.{Rows}
 use Rattle.machine.specs.Machine.{Action, unassigned, becomesEqual, becomesSuchThat, Role, Machine}
 use Rattle.machine.specs.Described.{machineOf}
@@ -22,22 +23,17 @@ use Rattle.log.specs.Rows.{stepTag, isInitial, logged, isStepRow, isValu
 use Rattle.log.specs.Faults.{outsideFault, undefinedFault, logFault}
 use Rattle.log.specs.Recorded.{valueRow, loggedValue, constantsAlone, ActionInside, AllInside, StepInside}
 
--- "stopping at the first fault": of the members of a list, each of which is fine or has a fault
-pub data First {A : Type 0} (Fine : A → Type 0) (Fault : A → ℕ → Type 0) : List A → ℕ → Type 0 where
-  fault-here : {x : A} {xs : List A} {n : ℕ} → Fault x n → First Fine Fault (x ∷ xs) n
-  fault-later : {x : A} {xs : List A} {n : ℕ} → Fine x → First Fine Fault xs n → First Fine Fault (x ∷ xs) n
-
 module _ (t : Rows) where
   abbrev machine : Machine
   machine = machineOf t
 
   -- ---- a step whose values are known
 
-  -- a formula that has to have the value v
+  -- a formula that has to have the value v: the first fault of its terms, or another value
   pub data FormulaFault (ρ : Env (machine .type)) (r : ℕ) (v : AnyValue) : ℕ → Type 0 where
-    outside-term : answer ρ (machine .tree r) ≡ outside → FormulaFault ρ r v outsideFault
-    undefined-term : answer ρ (machine .tree r) ≡ undefined → FormulaFault ρ r v undefinedFault
-    other-value : (w : AnyValue) → answer ρ (machine .tree r) ≡ value w → ¬ (w ≡ v) → FormulaFault ρ r v logFault
+    outside-term : FirstFault ρ (machine .tree r) outside → FormulaFault ρ r v outsideFault
+    undefined-term : FirstFault ρ (machine .tree r) undefined → FormulaFault ρ r v undefinedFault
+    other-value : (w : AnyValue) → readTree ρ (machine .tree r) ≡ some w → NoneLeaves ρ (machine .tree r) → ¬ (w ≡ v) → FormulaFault ρ r v logFault
 
   -- an action of the variable x
   abbrev pub ActionFault : Env (machine .type) → ℕ → Action → ℕ → Type 0

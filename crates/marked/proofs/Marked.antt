@@ -1,4 +1,4 @@
--- The marked cases P1 to P10 and those of replays, presses and remainders hold of the definitions: all are computed, by one proof.
+-- The marked cases P1 to P10 and those of replays, presses, remainders and the order of faults hold of the definitions: all are computed, by one proof.
 use mathlib.Core.Path.{_≡_, refl}
 use mathlib.Core.List.{flatMap}
 use mathlib.Core.Bool.{true}

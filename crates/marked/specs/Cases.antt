@@ -276,6 +276,30 @@ stateR n = integerRecord n ∷ integerRecord (pos 9) ∷ []
 abbrev pressR : ℕ → ℤ → List ℕ
 pressR p n = let q = press bytesR (rowsBytes (row 90 3 0 0 ∷ row 91 2 p 0 ∷ [])) (stateR n) in ofPress (q .reply) ++ ofRecords (q .state)
 
+-- 02, request 8: a table with concrete variables n and p, where n × n × n leaves 64 bits for some n and a division by p is undefined for p = 0. Event 2, the concrete
+-- initialisation, makes both such that ⊤. Of the anticipated events, 3 has the guard n × n × n < n ÷ p, 4 the guard n ÷ p = n × n × n, and 5 makes n := (n × n × n) ÷ p.
+abbrev rowsO : List Row
+rowsO =
+    row 10 3 1 0 ∷ row 10 3 1 0 ∷ row 20 30 0 0 ∷ row 20 30 0 0 ∷
+    row 20 2 1 0 ∷ row 20 2 1 0 ∷ row 20 12 3 4 ∷ row 20 2 1 0 ∷ row 20 12 5 6 ∷ row 20 2 1 0 ∷ row 20 2 2 0 ∷ row 20 13 8 9 ∷ row 20 21 7 10 ∷
+    row 20 2 1 0 ∷ row 20 2 2 0 ∷ row 20 13 12 13 ∷ row 20 2 1 0 ∷ row 20 2 1 0 ∷ row 20 12 15 16 ∷ row 20 2 1 0 ∷ row 20 12 17 18 ∷ row 20 20 14 19 ∷
+    row 20 2 1 0 ∷ row 20 2 1 0 ∷ row 20 12 21 22 ∷ row 20 2 1 0 ∷ row 20 12 23 24 ∷ row 20 2 2 0 ∷ row 20 13 25 26 ∷
+    row 40 1 0 0 ∷ row 40 2 0 0 ∷ row 40 2 3 0 ∷ row 40 2 3 0 ∷ row 40 2 3 0 ∷
+    row 50 3 11 0 ∷ row 50 4 20 0 ∷ row 51 5 1 27 ∷ row 52 2 1 1 ∷ row 52 2 2 2 ∷ []
+
+abbrev bytesO : List ℕ
+bytesO = rowsBytes rowsO
+
+-- a log: n and p at first, then a step of the event e that leaves them
+abbrev replayO : ℕ → ℕ → ℕ → List ℕ
+replayO e n p = ofReplay (replay bytesO (rowsBytes (row 90 2 0 0 ∷ row 91 1 n 0 ∷ row 91 2 p 0 ∷ row 90 e 0 0 ∷ row 91 1 n 0 ∷ row 91 2 p 0 ∷ [])))
+
+abbrev stateO : ℤ → ℤ → List Record
+stateO n p = integerRecord n ∷ integerRecord p ∷ []
+
+abbrev pressO : ℕ → ℤ → ℤ → List ℕ
+pressO e n p = let q = press bytesO (rowsBytes (row 90 e 0 0 ∷ [])) (stateO n p) in ofPress (q .reply) ++ ofRecords (q .state)
+
 unfoldable pub cases : List Case
 cases =
     -- P1: the program prints for L
@@ -402,16 +426,30 @@ cases =
     ∷ gives (replayR 3 0 (minus 1)) (refused 17 3)
     ∷ gives (replayR (minus 2) 0 (minus 1)) (refused 17 3)
     ∷ gives (pressR 2 (negsuc 1)) (refused 17 0 ++ ofRecords (stateR (negsuc 1)))
-    -- a dividend outside 64 bits counts as not negative: 16 beside a divisor above 0, else 17
+    -- 02, request 8: a dividend outside 64 bits decides, whatever the divisor
     ∷ gives (replayR 2147483647 0 1) (refused 16 3)
     ∷ gives (replayR (minus 2147483648) 0 1) (refused 16 3)
-    ∷ gives (replayR (minus 2147483648) 0 0) (refused 17 3)
-    ∷ gives (replayR (minus 2147483648) 0 (minus 1)) (refused 17 3)
+    ∷ gives (replayR (minus 2147483648) 0 0) (refused 16 3)
+    ∷ gives (replayR (minus 2147483648) 0 (minus 1)) (refused 16 3)
     ∷ gives (pressR 1 (negsuc 2147483647)) (refused 16 0 ++ ofRecords (stateR (negsuc 2147483647)))
-    -- a divisor outside 64 bits: 16, also with a negative dividend
+    -- else a divisor outside, also with a negative dividend
     ∷ gives (replayR 3 0 (minus 2147483648)) (refused 16 3)
     ∷ gives (replayR (minus 2) 0 2147483647) (refused 16 3)
     ∷ gives (pressR 2147483647 (negsuc 1)) (refused 16 0 ++ ofRecords (stateR (negsuc 1)))
+    -- "the leftmost operand now decides": n × n × n outside beside n ÷ 0, on the left and on the right
+    ∷ gives (replayO 3 2147483647 0) (refused 16 4)
+    ∷ gives (replayO 4 2147483647 0) (refused 17 4)
+    ∷ gives (pressO 3 (pos 2147483647) (pos 0)) (refused 16 0 ++ ofRecords (stateO (pos 2147483647) (pos 0)))
+    ∷ gives (pressO 4 (pos 2147483647) (pos 0)) (refused 17 0 ++ ofRecords (stateO (pos 2147483647) (pos 0)))
+    -- "operands before their operator": (n × n × n) ÷ 0
+    ∷ gives (replayO 5 2147483647 0) (refused 16 4)
+    ∷ gives (pressO 5 (pos 2147483647) (pos 0)) (refused 16 0 ++ ofRecords (stateO (pos 2147483647) (pos 0)))
+    -- one fault alone, and none
+    ∷ gives (replayO 3 1 0) (refused 17 4)
+    ∷ gives (replayO 4 2147483647 1) (refused 16 4)
+    ∷ gives (replayO 5 1 0) (refused 17 4)
+    ∷ gives (replayO 5 3 9) (accepted 1)
+    ∷ gives (replayO 4 1 1) (accepted 1)
     ∷ []
 
 -- the two are the same in every case

@@ -1,14 +1,14 @@
 -- How the code combines answers is how the definition has it, by cases of the operands' answers.
 use mathlib.Core.Path.{_≡_, refl, sym, ap, ap₂, _∙_}
 use mathlib.Core.Bool.{Bool, true, false, not, _&&_, true≢false, Bool·beq}
-use lib.IntN.{negℤ, _+ℤ_, _-ℤ_, _*ℤ_}
+use lib.IntN.{negℤ}
 use Rattle.lists.specs.Choice.{pick}
-use Rattle.formula.specs.Values.{AnyValue, number, truth, asNumber, asTruth, equalℤ, equalValue, lessℤ, atMostℤ, quotientℤ, remainderℤ}
-use Rattle.formula.specs.Tree.{Unary, bool, negation, logicalNot, plus, minus, times, equal, less, atMost, iff, quotient, remainder, and, or, implies}
+use Rattle.formula.specs.Values.{AnyValue, number, truth, asNumber, asTruth, equalℤ, equalValue}
+use Rattle.formula.specs.Tree.{Unary, bool, negation, logicalNot, Binary, Division, and, or, implies}
 use Rattle.formula.specs.Evaluate.{unaryValue, binaryValue, divisionDefined, divisionValue}
-use Rattle.answer.specs.Answer.{Answer, value, outside, undefined, within, valueThen, operands, always, unaryAnswer, binaryAnswer, divisionAnswer, connectiveAnswer}
+use Rattle.answer.specs.Answer.{Answer, value, undefined, within, valueThen, operands, always, unaryAnswer, binaryAnswer, divisionAnswer, connectiveAnswer}
 use Rattle.signed.specs.Found.{foundOf, answerOf}
-use Rattle.operands.specs.Operands.{valueOf, isTruth, faultOr, bothOperands}
+use Rattle.operands.specs.Operands.{valueOf, isTruth, faultOr, bothOperands, ifDefined}
 use Rattle.signed.specs.declared.Found.{Found}
 use Rattle.signed.specs.declared.Found.the-variants.{Number, Truth, Outside, Undefined}
 
@@ -29,68 +29,39 @@ equal-parts (truth false) (truth false) = refl
 
 -- ---- operators that read both operands
 
-module _ (defined : AnyValue → AnyValue → Bool) (f : AnyValue → AnyValue → AnyValue) where
-  found-pick : (b : Bool) (a : Answer) → pick b (foundOf a) Undefined ≡ foundOf (pick b a undefined)
-  found-pick true a = refl
-  found-pick false a = refl
+found-defined : (b : Bool) (a : Answer) → ifDefined b (foundOf a) ≡ foundOf (pick b a undefined)
+found-defined true a = refl
+found-defined false a = refl
 
-  -- from whether the operator is defined and what it gives, worked out beforehand
-  both-operands : (l r : Found)
-      → bothOperands (defined (valueOf l) (valueOf r)) l r (foundOf (within (f (valueOf l) (valueOf r)))) ≡ foundOf (operands defined f (answerOf l) (answerOf r))
-  unfolding operands
-  both-operands (Number a) (Number b) = found-pick (defined (number a) (number b)) _
-  both-operands (Number a) (Truth b) = found-pick (defined (number a) (truth b)) _
-  both-operands (Number a) Outside = refl
-  both-operands (Number a) Undefined = refl
-  both-operands (Truth a) (Number b) = found-pick (defined (truth a) (number b)) _
-  both-operands (Truth a) (Truth b) = found-pick (defined (truth a) (truth b)) _
-  both-operands (Truth a) Outside = refl
-  both-operands (Truth a) Undefined = refl
-  both-operands Outside (Number b) = found-pick (defined (valueOf Outside) (number b)) outside
-  both-operands Outside (Truth b) = found-pick (defined (valueOf Outside) (truth b)) outside
-  both-operands Outside Outside = refl
-  both-operands Outside Undefined = refl
-  both-operands Undefined r = refl
+-- what the operator gives of two values is worked out beforehand, from what stands for a fault's value too
+both-operands : (defined : AnyValue → AnyValue → Bool) (f : AnyValue → AnyValue → AnyValue) (l r : Found)
+    → bothOperands l r (ifDefined (defined (valueOf l) (valueOf r)) (foundOf (within (f (valueOf l) (valueOf r))))) ≡ foundOf (operands defined f (answerOf l) (answerOf r))
+unfolding operands
+both-operands defined f (Number a) (Number b) = found-defined (defined (number a) (number b)) _
+both-operands defined f (Number a) (Truth b) = found-defined (defined (number a) (truth b)) _
+both-operands defined f (Number a) Outside = refl
+both-operands defined f (Number a) Undefined = refl
+both-operands defined f (Truth a) (Number b) = found-defined (defined (truth a) (number b)) _
+both-operands defined f (Truth a) (Truth b) = found-defined (defined (truth a) (truth b)) _
+both-operands defined f (Truth a) Outside = refl
+both-operands defined f (Truth a) Undefined = refl
+both-operands defined f Outside r = refl
+both-operands defined f Undefined r = refl
 
-module _ (l r : Found) {k : Found} where
-  pub plus-is : k ≡ foundOf (within (number (asNumber (valueOf l) +ℤ asNumber (valueOf r)))) → bothOperands true l r k ≡ foundOf (binaryAnswer plus (answerOf l) (answerOf r))
+module _ (l r : Found) where
+  pub binary-is : (o : Binary) {k : Found} → k ≡ foundOf (within (binaryValue o (valueOf l) (valueOf r)))
+      → bothOperands l r k ≡ foundOf (binaryAnswer o (answerOf l) (answerOf r))
   unfolding binaryAnswer
-  plus-is e = ap (bothOperands true l r) e ∙ both-operands always (binaryValue plus) l r
+  binary-is o e = ap (bothOperands l r) e ∙ both-operands always (binaryValue o) l r
 
-  pub minus-is : k ≡ foundOf (within (number (asNumber (valueOf l) -ℤ asNumber (valueOf r)))) → bothOperands true l r k ≡ foundOf (binaryAnswer minus (answerOf l) (answerOf r))
-  unfolding binaryAnswer
-  minus-is e = ap (bothOperands true l r) e ∙ both-operands always (binaryValue minus) l r
+  -- of = < ≤ ⇔
+  pub truth-is : (o : Binary) {b c : Bool} → binaryValue o (valueOf l) (valueOf r) ≡ truth c → b ≡ c → bothOperands l r (Truth b) ≡ foundOf (binaryAnswer o (answerOf l) (answerOf r))
+  truth-is o is e = binary-is o (truth-found e ∙ ap (λ v. foundOf (within v)) (sym is))
 
-  pub times-is : k ≡ foundOf (within (number (asNumber (valueOf l) *ℤ asNumber (valueOf r)))) → bothOperands true l r k ≡ foundOf (binaryAnswer times (answerOf l) (answerOf r))
-  unfolding binaryAnswer
-  times-is e = ap (bothOperands true l r) e ∙ both-operands always (binaryValue times) l r
-
-  pub quotient-is : {d : Bool} → d ≡ divisionDefined quotient (valueOf l) (valueOf r) → k ≡ foundOf (within (number (quotientℤ (asNumber (valueOf l)) (asNumber (valueOf r)))))
-      → bothOperands d l r k ≡ foundOf (divisionAnswer quotient (answerOf l) (answerOf r))
+  pub division-is : (o : Division) {d : Bool} {k : Found} → d ≡ divisionDefined o (valueOf l) (valueOf r) → k ≡ foundOf (within (divisionValue o (valueOf l) (valueOf r)))
+      → bothOperands l r (ifDefined d k) ≡ foundOf (divisionAnswer o (answerOf l) (answerOf r))
   unfolding divisionAnswer
-  quotient-is h e =
-      ap₂ (λ d k. bothOperands d l r k) h e
-      ∙ both-operands (divisionDefined quotient) (divisionValue quotient) l r
-
-  pub remainder-is : {d : Bool} → d ≡ divisionDefined remainder (valueOf l) (valueOf r) → k ≡ foundOf (within (number (remainderℤ (asNumber (valueOf l)) (asNumber (valueOf r)))))
-      → bothOperands d l r k ≡ foundOf (divisionAnswer remainder (answerOf l) (answerOf r))
-  unfolding divisionAnswer
-  remainder-is h e =
-      ap₂ (λ d k. bothOperands d l r k) h e
-      ∙ both-operands (divisionDefined remainder) (divisionValue remainder) l r
-
-module _ (l r : Found) {b : Bool} where
-  pub equal-operands : b ≡ equalValue (valueOf l) (valueOf r) → bothOperands true l r (Truth b) ≡ foundOf (binaryAnswer equal (answerOf l) (answerOf r))
-  unfolding binaryAnswer
-  equal-operands e = ap (bothOperands true l r) (truth-found e) ∙ both-operands always (binaryValue equal) l r
-
-  pub less-operands : b ≡ lessℤ (asNumber (valueOf l)) (asNumber (valueOf r)) → bothOperands true l r (Truth b) ≡ foundOf (binaryAnswer less (answerOf l) (answerOf r))
-  unfolding binaryAnswer
-  less-operands e = ap (bothOperands true l r) (truth-found e) ∙ both-operands always (binaryValue less) l r
-
-  pub at-most-operands : b ≡ atMostℤ (asNumber (valueOf l)) (asNumber (valueOf r)) → bothOperands true l r (Truth b) ≡ foundOf (binaryAnswer atMost (answerOf l) (answerOf r))
-  unfolding binaryAnswer
-  at-most-operands e = ap (bothOperands true l r) (truth-found e) ∙ both-operands always (binaryValue atMost) l r
+  division-is o h e = ap₂ (λ d k. bothOperands l r (ifDefined d k)) h e ∙ both-operands (divisionDefined o) (divisionValue o) l r
 
 -- ---- one operand
 
@@ -168,16 +139,3 @@ implies-false (Truth true) r e = absurd (true≢false e)
 implies-false (Truth false) r e = refl
 implies-false Outside r e = refl
 implies-false Undefined r e = refl
-
-iff-right : (p : Bool) (r : Found) → faultOr r (Truth (Bool·beq p (asTruth (valueOf r)))) ≡ foundOf (valueThen (answerOf r) (λ w. value (truth (Bool·beq p (asTruth w)))))
-iff-right p (Number z) = refl
-iff-right p (Truth b) = refl
-iff-right p Outside = refl
-iff-right p Undefined = refl
-
-pub iff-is : (l r : Found) → faultOr l (faultOr r (Truth (Bool·beq (asTruth (valueOf l)) (asTruth (valueOf r))))) ≡ foundOf (binaryAnswer iff (answerOf l) (answerOf r))
-unfolding binaryAnswer
-iff-is (Number z) r = iff-right false r
-iff-is (Truth b) r = iff-right b r
-iff-is Outside r = refl
-iff-is Undefined r = refl

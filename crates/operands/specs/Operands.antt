@@ -1,8 +1,8 @@
 -- How the code combines the answers of operands: as crates/answer has it, where what an operator gives of two values is worked out beforehand.
 use mathlib.Core.Bool.{Bool, true, false}
+use lib.IntN.{pos}
 use Rattle.lists.specs.Choice.{pick}
 use Rattle.formula.specs.Values.{AnyValue, number, truth}
-use Rattle.answer.specs.Answer.{notNegative}
 use Rattle.signed.specs.declared.Found.{Found}
 use Rattle.signed.specs.declared.Found.the-variants.{Number, Truth, Outside, Undefined}
 
@@ -12,12 +12,12 @@ isValue (Truth b) = true
 isValue Outside = false
 isValue Undefined = false
 
--- an answer's value; a fault counts as notNegative
+-- an answer's value; 0 stands for that of a fault, and counts nowhere
 abbrev pub valueOf : Found → AnyValue
 valueOf (Number z) = number z
 valueOf (Truth b) = truth b
-valueOf Outside = notNegative
-valueOf Undefined = notNegative
+valueOf Outside = number (pos 0)
+valueOf Undefined = number (pos 0)
 
 abbrev pub isTruth : AnyValue → Bool
 isTruth (number z) = false
@@ -30,13 +30,10 @@ faultOr (Truth b) next = next
 faultOr Outside next = Outside
 faultOr Undefined next = Undefined
 
--- a right operand beside one that is not undefined
-abbrev pub rightOr : Bool → Found → Found → Found
-rightOr defined r next = faultOr r (pick defined next Undefined)
+-- the left operand's fault, else the right's, else what the operator gives itself
+abbrev pub bothOperands : Found → Found → Found → Found
+bothOperands l r own = faultOr l (faultOr r own)
 
--- both operands
-abbrev pub bothOperands : Bool → Found → Found → Found → Found
-bothOperands defined (Number z) r result = rightOr defined r result
-bothOperands defined (Truth b) r result = rightOr defined r result
-bothOperands defined Outside r result = rightOr defined r Outside
-bothOperands defined Undefined r result = Undefined
+-- what an operator gives where it is defined
+abbrev pub ifDefined : Bool → Found → Found
+ifDefined defined result = pick defined result Undefined

@@ -15,7 +15,7 @@ ghost use Rattle.formula.specs.Tree.{bool, negation, logicalNot, plus, minus, t
 ghost use Rattle.formula.specs.Evaluate.{divisionDefined};
 ghost use Rattle.answer.specs.Answer.{unaryAnswer, binaryAnswer, divisionAnswer, connectiveAnswer};
 ghost use Rattle.signed.specs.Found.{foundOf, answerOf};
-ghost use Rattle.operands.specs.Operands.{valueOf, isValue, isTruth, faultOr, rightOr, bothOperands};
+ghost use Rattle.operands.specs.Operands.{valueOf, isValue, isTruth, faultOr, bothOperands, ifDefined};
 
 // An answer where a number is wanted; 0 of one that has none.
 pub fn as_number(f: Found) -> i64
@@ -76,27 +76,21 @@ fn fault_or(f: Found, next: Found) -> Found
     }
 }
 
-// What follows a right operand, beside a left one that is not undefined: "An operator whose divisor is outside, itself or in a part, is not undefined itself".
-fn right_or(defined: bool, right: Found, next: Found) -> Found
-    ensures { λ r. ⌜ r ≡ rightOr defined right next ⌝ }
+// 02, request 8: "the leftmost operand now decides, operands before their operator". Own is what the operator gives of two values.
+fn both_operands(left: Found, right: Found, own: Found) -> Found
+    ensures { λ r. ⌜ r ≡ bothOperands left right own ⌝ }
 {
-    if defined {
-        return fault_or(right, next);
-    }
-    fault_or(right, Found::Undefined)
+    fault_or(left, fault_or(right, own))
 }
 
-// Which fault wins at an operator that reads both operands: "A term, or the two sides of a comparison taken together, that both leaves 64 bits and
-// meets an undefined part counts as undefined." Result is what the operator gives of two values.
-fn both_operands(defined: bool, left: Found, right: Found, result: Found) -> Found
-    ensures { λ r. ⌜ r ≡ bothOperands defined left right result ⌝ }
+// What an operator gives where it is defined.
+fn if_defined(defined: bool, result: Found) -> Found
+    ensures { λ r. ⌜ r ≡ ifDefined defined result ⌝ }
 {
-    match left {
-        Found::Number(_) => right_or(defined, right, result),
-        Found::Truth(_) => right_or(defined, right, result),
-        Found::Outside => right_or(defined, right, Found::Outside),
-        Found::Undefined => Found::Undefined,
+    if defined {
+        return result;
     }
+    Found::Undefined
 }
 
 // 01, Rows: ÷ is "undefined for b = 0".
@@ -106,7 +100,7 @@ fn quotient_defined(left: Found, right: Found) -> bool
     !equal_values(right, Found::Number(0))
 }
 
-// 02, request 7: "a mod b only for 0 ≤ a and 0 < b", "a dividend outside 64 bits .. counting there as not negative", here as 0.
+// 02, request 7: "a mod b only for 0 ≤ a and 0 < b".
 fn remainder_defined(left: Found, right: Found) -> bool
     ensures { λ r. ⌜ r ≡ divisionDefined remainder (valueOf left) (valueOf right) ⌝ }
 {
@@ -133,53 +127,35 @@ pub fn bool_answer(operand: Found) -> Found
 pub fn plus_answer(left: Found, right: Found) -> Found
     ensures { λ r. ⌜ r ≡ foundOf (binaryAnswer plus (answerOf left) (answerOf right)) ⌝ }
 {
-    both_operands(true, left, right, add(as_number(left), as_number(right)))
+    both_operands(left, right, add(as_number(left), as_number(right)))
 }
 
 pub fn minus_answer(left: Found, right: Found) -> Found
     ensures { λ r. ⌜ r ≡ foundOf (binaryAnswer minus (answerOf left) (answerOf right)) ⌝ }
 {
-    both_operands(
-        true,
-        left,
-        right,
-        subtract(as_number(left), as_number(right)),
-    )
+    both_operands(left, right, subtract(as_number(left), as_number(right)))
 }
 
 pub fn times_answer(left: Found, right: Found) -> Found
     ensures { λ r. ⌜ r ≡ foundOf (binaryAnswer times (answerOf left) (answerOf right)) ⌝ }
 {
-    both_operands(
-        true,
-        left,
-        right,
-        multiply(as_number(left), as_number(right)),
-    )
+    both_operands(left, right, multiply(as_number(left), as_number(right)))
 }
 
 pub fn quotient_answer(left: Found, right: Found) -> Found
     ensures { λ r. ⌜ r ≡ foundOf (divisionAnswer quotient (answerOf left) (answerOf right)) ⌝ }
 {
     let defined = quotient_defined(left, right);
-    both_operands(
-        defined,
-        left,
-        right,
-        divide(as_number(left), as_number(right)),
-    )
+    let quotient = divide(as_number(left), as_number(right));
+    both_operands(left, right, if_defined(defined, quotient))
 }
 
 pub fn remainder_answer(left: Found, right: Found) -> Found
     ensures { λ r. ⌜ r ≡ foundOf (divisionAnswer remainder (answerOf left) (answerOf right)) ⌝ }
 {
     let defined = remainder_defined(left, right);
-    both_operands(
-        defined,
-        left,
-        right,
-        remainder(as_number(left), as_number(right)),
-    )
+    let rest = remainder(as_number(left), as_number(right));
+    both_operands(left, right, if_defined(defined, rest))
 }
 
 pub fn negation_answer(operand: Found) -> Found
@@ -191,14 +167,13 @@ pub fn negation_answer(operand: Found) -> Found
 pub fn equal_answer(left: Found, right: Found) -> Found
     ensures { λ r. ⌜ r ≡ foundOf (binaryAnswer equal (answerOf left) (answerOf right)) ⌝ }
 {
-    both_operands(true, left, right, Found::Truth(equal_values(left, right)))
+    both_operands(left, right, Found::Truth(equal_values(left, right)))
 }
 
 pub fn less_answer(left: Found, right: Found) -> Found
     ensures { λ r. ⌜ r ≡ foundOf (binaryAnswer less (answerOf left) (answerOf right)) ⌝ }
 {
     both_operands(
-        true,
         left,
         right,
         Found::Truth(less(as_number(left), as_number(right))),
@@ -209,7 +184,6 @@ pub fn at_most_answer(left: Found, right: Found) -> Found
     ensures { λ r. ⌜ r ≡ foundOf (binaryAnswer atMost (answerOf left) (answerOf right)) ⌝ }
 {
     both_operands(
-        true,
         left,
         right,
         Found::Truth(at_most(as_number(left), as_number(right))),
@@ -222,7 +196,7 @@ pub fn not_answer(operand: Found) -> Found
     fault_or(operand, Found::Truth(!as_truth(operand)))
 }
 
-// 01, The run: "∧ and ⇒ read their right side only where the left is true, ∨ only where it is false"; "∧, ∨, ⇒ and ⇔ stop at a faulty left side".
+// 01, The run: "∧ and ⇒ read their right side only where the left is true, ∨ only where it is false"; 02, request 5: "∧, ∨, ⇒ and ⇔ stop at a faulty left side".
 pub fn and_answer(left: Found, right: Found) -> Found
     ensures { λ r. ⌜ r ≡ foundOf (connectiveAnswer and (answerOf left) (answerOf right)) ⌝ }
 {
@@ -253,6 +227,6 @@ pub fn implies_answer(left: Found, right: Found) -> Found
 pub fn iff_answer(left: Found, right: Found) -> Found
     ensures { λ r. ⌜ r ≡ foundOf (binaryAnswer iff (answerOf left) (answerOf right)) ⌝ }
 {
-    let same = Found::Truth(as_truth(left) == as_truth(right));
-    fault_or(left, fault_or(right, same))
+    let same = as_truth(left) == as_truth(right);
+    both_operands(left, right, Found::Truth(same))
 }

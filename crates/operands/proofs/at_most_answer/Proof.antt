@@ -1,9 +1,10 @@
 -- From the operands' numbers.
 use borrow.Author.Needs.{needs}
-use mathlib.Core.Path.{ap₂, _∙_}
+use mathlib.Core.Path.{refl, ap₂, _∙_}
 use Rattle.formula.specs.Values.{atMostℤ}
+use Rattle.formula.specs.Tree.{atMost}
 use Rattle.signed.proofs.Numbers.{seen-is}
-use Rattle.operands.proofs.Operands.{at-most-operands}
+use Rattle.operands.proofs.Operands.{truth-is}
 use Rattle.operands.proofs.at_most_answer.Statement.{statement}
 use Rattle.operands.proofs.at_most_answer.Tie as tie
 
@@ -21,4 +22,4 @@ at-most-answer-spec =
     let m = seen-is (l .as-number .result) (l .as-number .ok) (l .as-number .ensures) in
     let n = seen-is (r .as-number2 .result) (r .as-number2 .ok) (r .as-number2 .ensures) in
     c .both-operands .ensures
-    ∙ at-most-operands (a .left) (a .right) (c .before .at-most .ensures ∙ ap₂ atMostℤ m n)))
+    ∙ truth-is (a .left) (a .right) atMost refl (c .before .at-most .ensures ∙ ap₂ atMostℤ m n)))

@@ -1,5 +1,7 @@
--- By the case of the left operand.
+-- The two choices in turn.
 use borrow.Author.Needs.{needs}
+use mathlib.Core.Path.{ap, _∙_}
+use Rattle.operands.specs.Operands.{faultOr}
 use Rattle.operands.proofs.both_operands.Statement.{statement}
 use Rattle.operands.proofs.both_operands.Tie as tie
 
@@ -7,14 +9,6 @@ pub both-operands-spec : {M : Type 1} → statement M
 both-operands-spec =
     tie.close
     (tie.spec
-    (λ c. search needs)
     (λ c κs. search needs)
-    (λ c. search needs)
     (λ c κs. search needs)
-    (λ c. search needs)
-    (λ c κs. search needs)
-    (λ c. search needs)
-    (λ c. cc)
-    (λ c. cc)
-    (λ c. cc)
-    (λ c. search needs))
+    (λ c. c .fault-or2 .ensures ∙ ap (faultOr (c .before .before .args .left)) (c .before .fault-or .ensures)))

@@ -1,10 +1,9 @@
 -- From both sides' truth.
 use borrow.Author.Needs.{needs}
-use mathlib.Core.Path.{ap, ap₂, _∙_}
+use mathlib.Core.Path.{refl, ap₂, _∙_}
 use mathlib.Core.Bool.{Bool·beq}
-use Rattle.operands.specs.Operands.{faultOr}
-use Rattle.signed.specs.declared.Found.the-variants.{Truth}
-use Rattle.operands.proofs.Operands.{iff-is}
+use Rattle.formula.specs.Tree.{iff}
+use Rattle.operands.proofs.Operands.{truth-is}
 use Rattle.operands.proofs.iff_answer.Statement.{statement}
 use Rattle.operands.proofs.iff_answer.Tie as tie
 
@@ -15,12 +14,7 @@ iff-answer-spec =
     (λ c κs. search needs)
     (λ c κs. search needs)
     (λ c κs. search needs)
-    (λ c κs. search needs)
-    (λ c. let r = c .before .before in
+    (λ c. let r = c .before in
     let l = r .before in
     let a = l .before .args in
-    c .fault-or2 .ensures
-    ∙ ap (faultOr (a .left))
-    (c .before .fault-or .ensures
-    ∙ ap₂ (λ p q. faultOr (a .right) (Truth (Bool·beq p q))) (l .as-truth .ensures) (r .as-truth2 .ensures))
-    ∙ iff-is (a .left) (a .right)))
+    c .both-operands .ensures ∙ truth-is (a .left) (a .right) iff refl (ap₂ Bool·beq (l .as-truth .ensures) (r .as-truth2 .ensures))))

@@ -1,9 +1,10 @@
 -- From the operands' numbers.
 use borrow.Author.Needs.{needs}
-use mathlib.Core.Path.{ap₂, _∙_}
+use mathlib.Core.Path.{refl, ap₂, _∙_}
 use Rattle.formula.specs.Values.{lessℤ}
+use Rattle.formula.specs.Tree.{less}
 use Rattle.signed.proofs.Numbers.{seen-is}
-use Rattle.operands.proofs.Operands.{less-operands}
+use Rattle.operands.proofs.Operands.{truth-is}
 use Rattle.operands.proofs.less_answer.Statement.{statement}
 use Rattle.operands.proofs.less_answer.Tie as tie
 
@@ -21,4 +22,4 @@ less-answer-spec =
     let m = seen-is (l .as-number .result) (l .as-number .ok) (l .as-number .ensures) in
     let n = seen-is (r .as-number2 .result) (r .as-number2 .ok) (r .as-number2 .ensures) in
     c .both-operands .ensures
-    ∙ less-operands (a .left) (a .right) (c .before .less .ensures ∙ ap₂ lessℤ m n)))
+    ∙ truth-is (a .left) (a .right) less refl (c .before .less .ensures ∙ ap₂ lessℤ m n)))

@@ -1,9 +1,11 @@
 -- From the operands' numbers, and whether the division is defined on them.
 use borrow.Author.Needs.{needs}
-use mathlib.Core.Path.{ap₂, _∙_}
+use mathlib.Core.Path.{ap, ap₂, _∙_}
 use Rattle.formula.specs.Values.{remainderℤ}
+use Rattle.formula.specs.Tree.{remainder}
 use Rattle.signed.proofs.Numbers.{numberFound, seen-is}
-use Rattle.operands.proofs.Operands.{remainder-is}
+use Rattle.operands.specs.Operands.{bothOperands}
+use Rattle.operands.proofs.Operands.{division-is}
 use Rattle.operands.proofs.remainder_answer.Statement.{statement}
 use Rattle.operands.proofs.remainder_answer.Tie as tie
 
@@ -16,10 +18,12 @@ remainder-answer-spec =
     (λ c κs. search needs)
     (λ c κs. search needs)
     (λ c κs. search needs)
-    (λ c. let r = c .before .before in
+    (λ c κs. search needs)
+    (λ c. let d = c .before .before in
+    let r = d .before in
     let l = r .before in
     let a = l .before .before .args in
     let m = seen-is (l .as-number .result) (l .as-number .ok) (l .as-number .ensures) in
     let n = seen-is (r .as-number2 .result) (r .as-number2 .ok) (r .as-number2 .ensures) in
-    c .both-operands .ensures
-    ∙ remainder-is (a .left) (a .right) (l .before .remainder-defined .ensures) (c .before .remainder .ensures ∙ ap₂ (λ m n. numberFound (remainderℤ m n)) m n)))
+    c .both-operands .ensures ∙ ap (bothOperands (a .left) (a .right)) (c .before .if-defined .ensures)
+    ∙ division-is (a .left) (a .right) remainder (l .before .remainder-defined .ensures) (d .remainder .ensures ∙ ap₂ (λ m n. numberFound (remainderℤ m n)) m n)))
