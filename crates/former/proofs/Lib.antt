@@ -1,0 +1,4 @@
+pub mod Answers
+pub mod Evaluated
+pub mod Changed
+pub mod Examples
