@@ -30,7 +30,8 @@
  *
  * Rows are counted from 1, those of 1 to 11 in the table, those of 16 to 18 in the log. Checks of the table run in the order of their
  * numbers, each over the whole table, and the first row that offends is named; the log is read only where the table is accepted, and
- * its first fault is named. Every input gets a reply; none is too damaged.
+ * its first fault is named. Between 16 and 17 the leftmost operand of a formula decides, operands before their operator. Every input
+ * gets a reply; none is too damaged.
  *
  * Buffers. On a refusal no byte of `out` and no record changes. On 0 the rows stand at the start of `out`, and every byte past them keeps
  * its value.

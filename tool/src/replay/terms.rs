@@ -47,7 +47,7 @@ impl State {
     }
 }
 
-/// The value of a formula. ∧, ∨, ⇒ and ⇔ stop at a faulty left side, all others read both.
+/// The value of a formula, or its first term without one: from the left, operands before their operator.
 pub fn value<'a>(formula: &'a Formula, state: &State) -> Answer<'a> {
     let of = |n: usize| value(&formula.operands[n], state);
     match formula.operator {
@@ -64,47 +64,31 @@ pub fn value<'a>(formula: &'a Formula, state: &State) -> Answer<'a> {
             let operand = of(0)?;
             inside(formula, operand.checked_neg(), &[operand])
         }
-        PLUS..=MOD | EQUAL..=AT_MOST => both(formula, of(0), of(1)),
+        PLUS..=MOD | EQUAL..=AT_MOST => both(formula, of(0)?, of(1)?),
         _ => connected(formula.operator, of(0)?, || of(1)),
     }
 }
 
-/// An operator that reads both operands. Undefined, by an operand or by the operator itself, wins over outside; a divisor
-/// without a value makes no operator undefined.
-fn both<'a>(formula: &'a Formula, left: Answer<'a>, right: Answer<'a>) -> Answer<'a> {
-    let is_undefined =
-        |answer: &Answer| matches!(answer, Err(one) if one.fault == Fault::Undefined);
-    if is_undefined(&left) {
-        return left;
-    }
-    if is_undefined(&right) {
-        return right;
-    }
-    if let Some(operands) = at_fault(formula.operator, &left, &right) {
+/// An operator that reads both operands, whose values these are.
+fn both(formula: &Formula, left: i64, right: i64) -> Answer<'_> {
+    if let Some(operands) = at_fault(formula.operator, left, right) {
         return Err(Faulty {
             fault: Fault::Undefined,
             term: formula,
             operands,
         });
     }
-    match (left, right) {
-        (Ok(left), Ok(right)) => inside(
-            formula,
-            strict(formula.operator, left, right),
-            &[left, right],
-        ),
-        (Err(faulty), _) | (_, Err(faulty)) => Err(faulty),
-    }
+    let exact = strict(formula.operator, left, right);
+    inside(formula, exact, &[left, right])
 }
 
-/// The operand for which ÷ or mod is undefined itself, and those after it: a divisor 0; of mod a dividend below 0 or a divisor
-/// that isn't above it. A dividend outside 64 bits counts as not negative.
-fn at_fault(operator: i64, left: &Answer, right: &Answer) -> Option<Vec<i64>> {
-    let divisor = *right.as_ref().ok()?;
-    match (operator, left) {
-        (DIVIDE, _) if divisor == 0 => Some(vec![divisor]),
-        (MOD, Ok(dividend)) if *dividend < 0 => Some(vec![*dividend, divisor]),
-        (MOD, _) if divisor <= 0 => Some(vec![divisor]),
+/// The operand for which ÷ or mod is undefined, and those after it: a divisor 0; of mod a dividend below 0 or a divisor
+/// that isn't above it.
+fn at_fault(operator: i64, dividend: i64, divisor: i64) -> Option<Vec<i64>> {
+    match operator {
+        DIVIDE if divisor == 0 => Some(vec![divisor]),
+        MOD if dividend < 0 => Some(vec![dividend, divisor]),
+        MOD if divisor <= 0 => Some(vec![divisor]),
         _ => None,
     }
 }

@@ -38,6 +38,8 @@ events
   anticipated event never where @grd1 ⊥ end
   anticipated event rest any d ∈ ℤ then @act1 v ≔ d mod c end
   anticipated event over any d ∈ ℤ then @act1 v ≔ (big ∗ big ∗ big) mod d end
+  anticipated event left where @grd1 big ∗ big ∗ big < 12 ÷ v end
+  anticipated event right where @grd1 12 ÷ v < big ∗ big ∗ big end
 end
 ";
 
@@ -241,15 +243,16 @@ fn a_term_without_value() {
     refuses("part: d = -2, ..", 17, 6, undefined);
     let undefined = "step 1: action @act1 of event rest: `d mod c` is undefined: its dividend `d` is −4 at c = 3, d = −4";
     refuses("rest: d = -4, ..", 17, 6, undefined);
-    // a divisor that isn't above 0 counts before a dividend outside
-    let undefined = "step 1: action @act1 of event over: `big ∗ big ∗ big mod d` is undefined: its divisor `d` is −1 at big = 2147483647, d = −1";
-    refuses("over: d = -1, ..", 17, 6, undefined);
-    let outside = "step 1: action @act1 of event over: `big ∗ big ∗ big` is outside signed 64 bits: 4611686014132420609 ∗ 2147483647 at big = 2147483647";
-    refuses("over: d = 1, ..", 16, 6, outside);
-    let undefined = "step 1: action @act1 of event both: `big ∗ big ∗ big ÷ (d + 1)` is undefined: its divisor `d + 1` is 0 at big = 2147483647, d = −1";
-    refuses("both: d = -1, ..", 17, 6, undefined);
-    let outside = "step 1: action @act1 of event both: `big ∗ big ∗ big` is outside signed 64 bits: 4611686014132420609 ∗ 2147483647 at big = 2147483647";
-    refuses("both: d = 1, ..", 16, 6, outside);
+    // the leftmost operand decides, before its operator
+    for (event, d) in [("over", 1), ("over", -1), ("both", 1), ("both", -1)] {
+        let outside = format!("step 1: action @act1 of event {event}: `big ∗ big ∗ big` is outside signed 64 bits: 4611686014132420609 ∗ 2147483647 at big = 2147483647");
+        refuses(&format!("{event}: d = {d}, .."), 16, 6, &outside);
+    }
+    let outside = "step 1: guard @grd1 of event left: `big ∗ big ∗ big` is outside signed 64 bits: 4611686014132420609 ∗ 2147483647 at big = 2147483647";
+    refuses("left: ..", 16, 6, outside);
+    let undefined =
+        "step 1: guard @grd1 of event right: `12 ÷ v` is undefined: its divisor `v` is 0 at v = 0";
+    refuses("right: ..", 17, 6, undefined);
     let such =
         "step 1 isn't allowed: action @act1 of event pick: `v < v'` is false at v = 0, v' = 0";
     refuses("pick: ..", 18, 6, such);
