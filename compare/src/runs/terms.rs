@@ -1,5 +1,7 @@
 //! Formulas whose terms reach and pass the ends of 64 bits, and that aren't defined, by the values that they mention.
 
+mod two_faults;
+
 use super::values::any_integer;
 use crate::formula::*;
 use crate::generate::random::Random;
@@ -44,9 +46,11 @@ enum Kind {
     ZeroOutside,
     /// mod of what its rule tells apart.
     Remainder,
+    /// Two faults, or a fault and an operator that is undefined, by one value.
+    BothFaults,
 }
 
-const KINDS: [Kind; 14] = [
+const KINDS: [Kind; 16] = [
     Kind::Small,
     Kind::Zero,
     Kind::End,
@@ -61,10 +65,12 @@ const KINDS: [Kind; 14] = [
     Kind::TwoFaults,
     Kind::ZeroOutside,
     Kind::Remainder,
+    Kind::BothFaults,
+    Kind::BothFaults,
 ];
 
 /// Dividends and divisors of mod.
-const REMAINDERS: [(Kind, Kind); 20] = [
+const REMAINDERS: [(Kind, Kind); 25] = [
     (Kind::Any, Kind::Any),
     (Kind::Any, Kind::Any),
     (Kind::Any, Kind::Small),
@@ -72,8 +78,13 @@ const REMAINDERS: [(Kind, Kind); 20] = [
     (Kind::Square, Kind::Small),
     (Kind::Any, Kind::Unit),
     (Kind::Unit, Kind::Unit),
+    (Kind::Unit, Kind::Unit),
     (Kind::Zero, Kind::Unit),
+    (Kind::Zero, Kind::Any),
+    (Kind::Zero, Kind::Any),
+    (Kind::Any, Kind::Zero),
     (Kind::Highest, Kind::Unit),
+    (Kind::Lowest, Kind::Unit),
     (Kind::Lowest, Kind::Unit),
     (Kind::Outside, Kind::Zero),
     (Kind::Outside, Kind::Any),
@@ -216,9 +227,10 @@ impl Terms<'_> {
     }
 
     fn pair(&mut self, operator: i32, depth: usize) -> Tree {
-        match self.random.below(8) {
+        match self.random.below(10) {
             0 | 1 => self.two_faults(operator),
             2 | 3 => self.one_outside(operator),
+            4 | 5 => self.both_faults(operator),
             _ => {
                 let left = self.operand(depth);
                 Tree::two(operator, left, self.operand(depth))
@@ -287,6 +299,7 @@ impl Terms<'_> {
                 }
             },
             Kind::Remainder => self.remainder(),
+            Kind::BothFaults => self.deep_both_faults(),
         }
     }
 
@@ -387,7 +400,7 @@ impl Terms<'_> {
         if depth == 0 {
             return self.condition();
         }
-        match self.random.below(14) {
+        match self.random.below(18) {
             0 => Tree::one(NOT, self.predicate(depth - 1)),
             1 | 2 => {
                 let left = self.boolean(depth);
@@ -400,7 +413,8 @@ impl Terms<'_> {
             6..=7 => self.connected(depth),
             8 => self.faulty_sides(),
             9 => self.guarded_remainder(),
-            10 => self.open_remainder(),
+            10 | 11 => self.open_remainder(),
+            12..=14 => self.compared_faults(),
             _ => self.left_open(depth),
         }
     }

@@ -149,7 +149,7 @@ fn remainders_decide() {
 fn lists_have_many_lengths_values_and_types() {
     let (mut lengths, mut seconds) = (BTreeSet::new(), BTreeSet::new());
     let (mut values, mut types) = (BTreeSet::new(), BTreeSet::new());
-    for number in 0..250 {
+    for number in 0..400 {
         let generated = batch(number);
         assert_eq!(generated.cases.len(), CASES);
         assert!(generated.cases[0].state.is_some());

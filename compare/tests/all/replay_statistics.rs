@@ -40,7 +40,7 @@ const ANSWERS: [(&str, usize); 37] = [
     ("18 Equal False, first", 100),
     ("18 Equal False, later", 100),
     ("18 SuchThat False, first", 200),
-    ("18 SuchThat False, later", 200),
+    ("18 SuchThat False, later", 150),
     ("18 Kept", 200),
     ("18 Boolean", 200),
     ("18 Identifier", 400),
