@@ -11,7 +11,7 @@ pub enum Fault {
     Undefined,
 }
 
-/// A value, or the fault that counts. Truth values and booleans are 0 and 1.
+/// A value, or the first fault. Truth values and booleans are 0 and 1.
 pub type Answer = Result<i64, Fault>;
 
 /// Values by identifier number less one: `now` of constants, parameters and variables before a step, `after` of variables
@@ -32,7 +32,7 @@ impl Default for State {
     }
 }
 
-/// The value of the formula with this root. ∧, ∨, ⇒ and ⇔ stop at a faulty left side, all others read both.
+/// The value of the formula with this root, or its first fault from the left, operands before their operator.
 pub fn value(nodes: &[Node], root: i32, state: &State) -> Answer {
     let Node { operator, b, c, .. } = nodes[root as usize - 1];
     let of = |operand: i32| value(nodes, operand, state);
@@ -45,52 +45,40 @@ pub fn value(nodes: &[Node], root: i32, state: &State) -> Answer {
         BOOL => of(b),
         NEGATION => inside(of(b)?.checked_neg()),
         NOT => Ok(1 - of(b)?),
-        DIVIDE | MOD => divided(operator, of(b), of(c)),
-        PLUS..=TIMES | EQUAL..=AT_MOST => {
-            let (a, b) = both(of(b), of(c), false)?;
-            strict(operator, a, b)
-        }
+        PLUS..=MOD => arithmetic(operator, of(b)?, of(c)?),
+        EQUAL..=AT_MOST => Ok(i64::from(compared(operator, of(b)?, of(c)?))),
         _ => connected(operator, of(b)?, || of(c)),
     }
 }
 
-/// Both operands, or the fault that counts: undefined, by an operand or by the operator itself, wins over outside.
-fn both(left: Answer, right: Answer, undefined: bool) -> Result<(i64, i64), Fault> {
-    match (left, right) {
-        (Err(Fault::Undefined), _) | (_, Err(Fault::Undefined)) => Err(Fault::Undefined),
-        _ if undefined => Err(Fault::Undefined),
-        (Ok(a), Ok(b)) => Ok((a, b)),
-        _ => Err(Fault::Outside),
-    }
-}
-
-/// Whether ÷ or mod is undefined itself: never where its divisor is faulty; a faulty dividend isn't negative.
-fn is_undefined(operator: i32, dividend: Answer, divisor: Answer) -> bool {
-    let negative = dividend.is_ok_and(|a| a < 0);
-    divisor.is_ok_and(|b| match operator {
+/// ÷ is undefined for a divisor 0, mod but for 0 ≤ a and 0 < b.
+fn is_undefined(operator: i32, a: i64, b: i64) -> bool {
+    match operator {
         DIVIDE => b == 0,
-        _ => b <= 0 || negative,
-    })
+        MOD => a < 0 || b <= 0,
+        _ => false,
+    }
 }
 
 /// ÷ rounds toward zero, and −2⁶³ ÷ −1 is outside 64 bits. A remainder that is defined never is.
-fn divided(operator: i32, dividend: Answer, divisor: Answer) -> Answer {
-    let undefined = is_undefined(operator, dividend, divisor);
-    let (a, b) = both(dividend, divisor, undefined)?;
-    match operator {
-        DIVIDE => inside(a.checked_div(b)),
-        _ => inside(a.checked_rem(b)),
+fn arithmetic(operator: i32, a: i64, b: i64) -> Answer {
+    if is_undefined(operator, a, b) {
+        return Err(Fault::Undefined);
     }
+    inside(match operator {
+        PLUS => a.checked_add(b),
+        MINUS => a.checked_sub(b),
+        TIMES => a.checked_mul(b),
+        DIVIDE => a.checked_div(b),
+        _ => a.checked_rem(b),
+    })
 }
 
-fn strict(operator: i32, a: i64, b: i64) -> Answer {
+fn compared(operator: i32, a: i64, b: i64) -> bool {
     match operator {
-        PLUS => inside(a.checked_add(b)),
-        MINUS => inside(a.checked_sub(b)),
-        TIMES => inside(a.checked_mul(b)),
-        EQUAL => Ok(i64::from(a == b)),
-        LESS => Ok(i64::from(a < b)),
-        _ => Ok(i64::from(a <= b)),
+        EQUAL => a == b,
+        LESS => a < b,
+        _ => a <= b,
     }
 }
 

@@ -36,7 +36,7 @@ pub const ENDS: [(i64, i64); 6] = [
 pub struct Remainders {
     /// Those that are stopped by a fault which one mod has alone, by its operands.
     pub decided: BTreeMap<(Fault, Pair), usize>,
-    /// Those of them that 17 stops though a term beside this mod is outside.
+    /// Those of them that 17 stops though a term to the right of this mod is outside.
     pub beside: BTreeMap<Pair, usize>,
     /// Those that are accepted with a mod worked out, and by its operands.
     pub accepted: usize,
@@ -128,11 +128,10 @@ impl Remainders {
                 if node.operator == MOD {
                     self.add_decided(fault, left, right, outside_beside);
                 }
-                let outside = [left, right].contains(&Err(Fault::Outside));
-                let beside = outside_beside || (outside && fault == Fault::Undefined);
-                match [left, right].map(|side| side == Err(fault)) {
-                    [true, false] => self.go_down(seen, node.b, fault, beside),
-                    [false, true] => self.go_down(seen, node.c, fault, beside),
+                let outside = fault == Fault::Undefined && right == Err(Fault::Outside);
+                match (left, right) {
+                    (Err(_), _) => self.go_down(seen, node.b, fault, outside_beside || outside),
+                    (_, Err(_)) => self.go_down(seen, node.c, fault, outside_beside),
                     _ => {}
                 }
             }
@@ -160,7 +159,8 @@ impl Remainders {
             text += &format!("{dividend:?} mod {divisor:?} decides {fault:?}: {count}\n");
         }
         for ((dividend, divisor), count) in &self.beside {
-            text += &format!("{dividend:?} mod {divisor:?} wins over a term outside: {count}\n");
+            text +=
+                &format!("{dividend:?} mod {divisor:?} stands before a term outside: {count}\n");
         }
         text += &format!("accepted with mod: {}\n", self.accepted);
         for ((dividend, divisor), count) in &self.worked_out {

@@ -28,7 +28,7 @@ pub enum Side {
 /// Counts of what was met.
 #[derive(Clone, Debug, Default)]
 pub struct Terms {
-    /// Operators that read both operands, by what these give.
+    /// Arithmetic operators and comparisons, by what their operands give, be the right one read or not.
     pub pairs: BTreeMap<(i32, Class, Class), usize>,
     /// Connectives with a fault on one side, by the sort of formula.
     pub connected: BTreeMap<(Role, i32, Side, Fault), usize>,
@@ -79,7 +79,11 @@ impl Terms {
             }
             Some(Columns::TwoOperands) if operator >= AND => self.connect(seen, operator, b, c),
             Some(Columns::TwoOperands) => {
-                let (left, right) = (self.meet(seen, b), self.meet(seen, c));
+                let left = self.meet(seen, b);
+                let right = match left {
+                    Ok(_) => self.meet(seen, c),
+                    Err(_) => seen.machine.value(c, seen.state),
+                };
                 let pair = (operator, class(left), class(right));
                 *self.pairs.entry(pair).or_default() += 1;
                 self.count_end(operator, left, right);

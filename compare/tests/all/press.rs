@@ -572,7 +572,7 @@ fn records_hold_and_get_values_of_64_bits() {
     assert_eq!(becomes("* i1 i2", [1 << 62, -2]), Ok(lowest));
     assert_eq!(becomes("* i1 i2", [1 << 62, 2]), Err(OUTSIDE));
     assert_eq!(becomes("/ i1 i2", [highest, 0]), Err(UNDEFINED));
-    assert_eq!(becomes("/ + i1 i1 i2", [highest, 0]), Err(UNDEFINED));
+    assert_eq!(becomes("/ + i1 i1 i2", [highest, 0]), Err(OUTSIDE));
     assert_eq!(becomes("/ i1 + i2 i2", [1, highest]), Err(OUTSIDE));
     assert_eq!(becomes("- - i1 i2 1", [lowest, 0]), Err(OUTSIDE));
 }
@@ -600,28 +600,28 @@ fn remainders_of_64_bits() {
     ] {
         assert_eq!(becomes("mod i1 i2", values), Err(UNDEFINED), "{values:?}");
     }
-    // i1 + i1 is outside: as a dividend not negative, as a divisor never at fault.
+    // i1 + i1 is outside, which comes before what the operator says of either operand.
     for outside in [lowest, highest] {
-        assert_eq!(becomes("mod + i1 i1 i2", [outside, 1]), Err(OUTSIDE));
-        assert_eq!(becomes("mod + i1 i1 i2", [outside, 0]), Err(UNDEFINED));
-        assert_eq!(becomes("mod + i1 i1 i2", [outside, -1]), Err(UNDEFINED));
-        assert_eq!(becomes("mod i2 + i1 i1", [outside, -1]), Err(OUTSIDE));
-        assert_eq!(becomes("mod i2 + i1 i1", [outside, 1]), Err(OUTSIDE));
+        for other in [1, 0, -1] {
+            assert_eq!(becomes("mod + i1 i1 i2", [outside, other]), Err(OUTSIDE));
+            assert_eq!(becomes("mod i2 + i1 i1", [outside, other]), Err(OUTSIDE));
+        }
     }
 }
 
-/// As in replay: of two faults, undefined counts; connectives stop at the left one.
+/// As in replay: of two faults, the left one counts.
 #[test]
 fn terms_are_read_by_replays_rules() {
     let highest = [i64::MAX, 0];
-    assert_eq!(becomes("+ + i1 1 / 1 i2", highest), Err(UNDEFINED));
+    assert_eq!(becomes("+ + i1 1 / 1 i2", highest), Err(OUTSIDE));
     assert_eq!(becomes("* / 1 i2 + i1 1", highest), Err(UNDEFINED));
     let guarded = |words: &'static str| {
         let more = [(50, 7, 0, words)];
         let answer = both(&machine_with(&more), &table(IDLE), &with(&[(3, i64::MAX)]));
         answer.map(|_| ()).map_err(|refusal| refusal.number)
     };
-    assert_eq!(guarded("< + i3 1 / 1 0"), Err(UNDEFINED));
+    assert_eq!(guarded("< + i3 1 / 1 0"), Err(OUTSIDE));
+    assert_eq!(guarded("< / 1 0 + i3 1"), Err(UNDEFINED));
     assert_eq!(guarded("and < + i3 1 0 = / 1 0 1"), Err(OUTSIDE));
     assert_eq!(guarded("or true = / 1 0 1"), Ok(()));
     assert_eq!(guarded("and false = / 1 0 1"), Err(NOT_A_RUN));

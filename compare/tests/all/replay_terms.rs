@@ -1,4 +1,4 @@
-//! The values of terms in a replay: at the ends of 64 bits, undefined, and which of two faults counts. Every predicate is read as
+//! The values of terms in a replay: at the ends of 64 bits, undefined, and which of two faults is first. Every predicate is read as
 //! an axiom, a guard, and both sorts of action, at the initialisation and later.
 
 use crate::common::prefix::laid_out;
@@ -205,9 +205,9 @@ fn quotients_are_as_they_were() {
     assert_is("= mod MIN -1 0", Undefined);
 }
 
-/// A dividend outside, by either end or in a part, isn't negative; the divisor decides.
+/// A dividend outside, by either end or in a part, decides, whatever the divisor is.
 #[test]
-fn a_dividend_outside_is_not_negative() {
+fn a_dividend_outside_decides() {
     for dividend in [
         "OUT",
         "neg OUT",
@@ -216,25 +216,23 @@ fn a_dividend_outside_is_not_negative() {
         "- -1 * 0 OUT",
         "- OUT OUT",
     ] {
-        for divisor in ["1", "2", "MAX"] {
+        for divisor in ["1", "MAX", "0", "-1", "MIN", "OUT", "UND", "* 0 OUT"] {
             assert_is(&format!("= mod {dividend} {divisor} 0"), Outside);
+            assert_is(&format!("= / {dividend} {divisor} 0"), Outside);
         }
-        for divisor in ["0", "-1", "MIN"] {
-            assert_is(&format!("= mod {dividend} {divisor} 0"), Undefined);
-        }
-        assert_is(&format!("= mod {dividend} OUT 0"), Outside);
-        assert_is(&format!("= mod {dividend} UND 0"), Undefined);
     }
 }
 
-/// 5's rule on the divisor stays, also beside a negative dividend.
+/// The operator comes last, so that a negative dividend or an exact divisor 0 doesn't make it undefined.
 #[test]
-fn a_divisor_outside_wins_over_a_negative_dividend() {
+fn a_divisor_outside_comes_before_the_operator() {
     for divisor in ["OUT", "neg OUT", "- OUT OUT", "* 0 OUT", "- -1 * 0 OUT"] {
         for dividend in ["-1", "-7", "MIN", "0", "7"] {
             assert_is(&format!("= mod {dividend} {divisor} 0"), Outside);
+            assert_is(&format!("= / {dividend} {divisor} 0"), Outside);
         }
         assert_is(&format!("= mod UND {divisor} 0"), Undefined);
+        assert_is(&format!("= / UND {divisor} 0"), Undefined);
     }
 }
 
@@ -246,13 +244,14 @@ fn remainders_below_remainders() {
     assert_is("= mod mod -1 2 2 0", Undefined);
     assert_is("= mod 1 mod 1 -1 0", Undefined);
     assert_is("= mod 1 mod 4 2 0", Undefined);
-    assert_is("= mod mod -1 OUT 0 0", Undefined);
+    assert_is("= mod mod -1 OUT 0 0", Outside);
     assert_is("= mod mod -1 OUT 1 0", Outside);
     assert_is("= mod -1 mod 1 OUT 0", Outside);
     assert_is("= / mod 7 2 -1 -1", True);
     assert_is("= mod / -7 2 2 0", Undefined);
     assert_is("= + mod -1 1 OUT 0", Undefined);
-    assert_is("= + mod OUT 1 mod -1 1 0", Undefined);
+    assert_is("= + mod OUT 1 mod -1 1 0", Outside);
+    assert_is("= + mod -1 1 mod OUT 1 0", Undefined);
     assert_is("= + mod OUT 1 mod -1 OUT 0", Outside);
 }
 
@@ -268,43 +267,62 @@ fn a_divisor_0_is_undefined() {
     }
 }
 
-/// + − × = < ≤ read both operands: an undefined one wins, on either side.
+/// Left operand and right operand of every operator that reads both, and what it is then.
+const SIDES: [(&str, &str, Is); 8] = [
+    ("OUT", "UND", Outside),
+    ("UND", "OUT", Undefined),
+    ("UND", "UND", Undefined),
+    ("OUT", "OUT", Outside),
+    ("UND", "1", Undefined),
+    ("1", "UND", Undefined),
+    ("OUT", "1", Outside),
+    ("1", "OUT", Outside),
+];
+
 #[test]
-fn undefined_wins_over_outside() {
-    for operator in ["+", "-", "*", "/", "mod"] {
-        assert_is(&format!("= {operator} OUT UND 0"), Undefined);
-        assert_is(&format!("= {operator} UND OUT 0"), Undefined);
-        assert_is(&format!("= {operator} UND UND 0"), Undefined);
-        assert_is(&format!("= {operator} OUT OUT 0"), Outside);
-        assert_is(&format!("= {operator} UND 1 0"), Undefined);
-        assert_is(&format!("= {operator} 1 UND 0"), Undefined);
-        assert_is(&format!("= {operator} OUT 1 0"), Outside);
-        assert_is(&format!("= {operator} 1 OUT 0"), Outside);
+fn the_left_operand_decides() {
+    for (left, right, is) in SIDES {
+        for operator in ["+", "-", "*", "/", "mod"] {
+            assert_is(&format!("= {operator} {left} {right} 0"), is);
+            assert_is(&format!("= 0 {operator} {left} {right}"), is);
+            assert_is(&format!("= 0 neg {operator} {left} {right}"), is);
+        }
+        for operator in ["=", "<", "<="] {
+            assert_is(&format!("{operator} {left} {right}"), is);
+        }
     }
-    for operator in ["=", "<", "<="] {
-        assert_is(&format!("{operator} OUT UND"), Undefined);
-        assert_is(&format!("{operator} UND OUT"), Undefined);
-        assert_is(&format!("{operator} UND UND"), Undefined);
-        assert_is(&format!("{operator} OUT OUT"), Outside);
-        assert_is(&format!("{operator} 0 OUT"), Outside);
-        assert_is(&format!("{operator} OUT 0"), Outside);
-        assert_is(&format!("{operator} 0 UND"), Undefined);
-        assert_is(&format!("{operator} UND 0"), Undefined);
-    }
-    // Deep down on either side.
-    assert_is("< + 1 * 2 OUT - 3 neg mod 4 0", Undefined);
+}
+
+/// Deep down on either side.
+#[test]
+fn the_leftmost_of_all_operands_decides() {
+    assert_is("< + 1 * 2 OUT - 3 neg mod 4 0", Outside);
     assert_is("< - 3 neg mod 4 0 + 1 * 2 OUT", Undefined);
+    assert_is("< + + 1 2 + OUT UND / 1 0", Outside);
+    assert_is("= * + 1 UND OUT OUT", Undefined);
+    assert_is("= - 1 - 2 - 3 + OUT UND 0", Outside);
+    assert_is("= - 1 - 2 - UND + OUT 3 0", Undefined);
+    assert_is("<= neg / OUT 0 neg UND", Outside);
+    assert_is("<= + / 1 0 OUT OUT", Undefined);
 }
 
+/// Both operands have a value, or else one of them decides before.
 #[test]
-fn the_operator_itself_may_be_undefined() {
-    assert_is("= / OUT 0 0", Undefined);
-    assert_is("= mod OUT 0 0", Undefined);
+fn the_operator_itself_comes_last() {
+    assert_is("= / OUT 0 0", Outside);
+    assert_is("= mod OUT 0 0", Outside);
+    assert_is("= mod OUT -1 0", Outside);
     assert_is("= / UND 0 0", Undefined);
+    assert_is("= mod -1 UND 0", Undefined);
+    assert_is("= mod -1 OUT 0", Outside);
+    assert_is("= + MAX UND 0", Undefined);
+    assert_is("= * 0 OUT UND", Outside);
+    assert_is("= + / MIN -1 UND 0", Outside);
+    assert_is("= + UND / MIN -1 0", Undefined);
 }
 
 #[test]
-fn an_operator_with_a_divisor_outside_is_not_undefined_itself() {
+fn a_divisor_outside_decides_after_the_dividend() {
     for operator in ["/", "mod"] {
         assert_is(&format!("= {operator} 1 OUT 0"), Outside);
         assert_is(&format!("= {operator} OUT OUT 0"), Outside);
@@ -312,16 +330,19 @@ fn an_operator_with_a_divisor_outside_is_not_undefined_itself() {
         assert_is(&format!("= {operator} 1 - OUT OUT 0"), Outside);
         assert_is(&format!("= {operator} 1 * 0 OUT 0"), Outside);
         assert_is(&format!("= {operator} OUT * 0 OUT 0"), Outside);
-        // It can still be undefined by its dividend or by a part of the divisor.
+        // Something before it is undefined.
         assert_is(&format!("= {operator} UND OUT 0"), Undefined);
         assert_is(&format!("= {operator} 1 * UND OUT 0"), Undefined);
+        assert_is(&format!("= {operator} 1 * OUT UND 0"), Outside);
     }
 }
 
 #[test]
 fn equality_of_booleans_is_a_comparison_too() {
-    assert_is("= bool < 0 OUT bool < 0 UND", Undefined);
+    assert_is("= bool < 0 OUT bool < 0 UND", Outside);
     assert_is("= bool < 0 UND bool < 0 OUT", Undefined);
+    assert_is("= bool < UND OUT bool < 0 OUT", Undefined);
+    assert_is("= bool < OUT UND bool < 0 UND", Outside);
     assert_is("= TRUE bool < 0 OUT", Outside);
     assert_is("= bool < 0 OUT FALSE", Outside);
     assert_is("= FALSE bool < 0 UND", Undefined);
@@ -388,12 +409,13 @@ fn comparisons_are_exact() {
     }
 }
 
-/// Inside bool the connective stops, then the comparison around it reads its other side.
+/// Inside bool the connective stops, and so does the comparison around it.
 #[test]
 fn connectives_under_bool_stop_too() {
     assert_is("= bool and = OUT 0 = UND 0 TRUE", Outside);
     assert_is("= bool or = UND 0 = OUT 0 TRUE", Undefined);
-    assert_is("= bool => = OUT 0 = UND 0 bool = UND 0", Undefined);
+    assert_is("= bool => = OUT 0 = UND 0 bool = UND 0", Outside);
+    assert_is("= bool = UND 0 bool => = OUT 0 = UND 0", Undefined);
     assert_is("= bool and = OUT 0 = UND 0 bool and false = UND 0", Outside);
     assert_is("= bool and false = UND 0 bool <=> = OUT 0 = UND 0", Outside);
     assert_is("= bool and false = UND 0 FALSE", True);

@@ -2,6 +2,7 @@
 
 pub mod definedness;
 pub mod faults;
+pub mod former_order;
 pub mod machine;
 pub mod plain_press;
 pub mod plain_replay;
@@ -9,6 +10,7 @@ pub mod plain_values;
 pub mod prefix;
 pub mod remainders;
 pub mod rules;
+pub mod wrong_orders;
 
 use compare::against::{Call, Reply, Services};
 use compare::checks::Refusal;

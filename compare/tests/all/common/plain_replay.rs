@@ -1,5 +1,6 @@
 //! Replay once more, step by step over exact values, with mistakes that can be put in.
 
+use super::wrong_orders::{wrong_order, At};
 use compare::against::Reply;
 use compare::checks::{accept, initialisation, Refusal};
 use compare::formula::*;
@@ -76,16 +77,10 @@ pub enum Mistake {
     QuotientAsRemainder,
     ZeroDivisorIsZero,
     PartsUncounted,
-    OutsideWins,
-    LeftWins,
-    RightWins,
-    ComparisonStops,
-    BooleanEqualityStops,
-    DivisorRuleDropped,
-    OutsideByZeroIsOutside,
-    OutsideByNegativeIsOutside,
+    DivisorOutsideIsZero,
     DividendOutsideIsNegative,
     DividendOutsideHasItsSign,
+    /// The operator's fault comes before that of its right operand.
     NegativeByOutsideIsUndefined,
     AndReadsRight,
     OrReadsRight,
@@ -94,11 +89,21 @@ pub enum Mistake {
     EquivalentReadsBoth,
     EquivalentIsShort,
     FaultyRightIsFalse,
+    // The order of faults: the former one, the right operand's first, that of the node with the lower number, the operator's
+    // before an operand's, and others.
+    Former(At),
+    RightFirst(At),
+    LowerNumberFirst,
+    OperatorBeforeLeft(At),
+    OutsideWins,
+    UndefinedDivisorWins,
+    ZeroTimesStops,
+    EquivalentRightFirst,
 }
 
-/// A value that is exact even outside 64 bits, or the fault that counts.
+/// A value that is exact even outside 64 bits, or the first fault.
 #[derive(Clone, Copy, Debug, PartialEq, Eq)]
-enum Value {
+pub enum Value {
     Inside(i128),
     Outside(i128),
     Undefined,
@@ -165,13 +170,17 @@ impl Plain {
         if self.0 == Mistake::LogFirst && run.is_empty() {
             return stop(NOT_A_RUN, 0);
         }
-        let table = accept(table)?;
+        self.answer_for(&accept(table)?, run)
+    }
+
+    /// The same for a table that is read already.
+    pub fn answer_for(&self, table: &Table, run: &[u8]) -> Result<u64, Refusal> {
         if self.0 == Mistake::LongIsRefused && run.len() > Table::MOST_BYTES {
             return stop(NOT_A_RUN, 0);
         }
         let run = Run {
             mistake: self.0,
-            table: &table,
+            table,
             log: run,
             rows: 0,
             now: [0; 64],
@@ -498,40 +507,22 @@ impl Run<'_> {
         }
     }
 
+    /// The left operand's fault, else the right one's, else the operator's own.
     fn strict(&self, number: i32) -> Value {
-        let Node { operator, b, c, .. } = self.table.nodes[number as usize - 1];
-        let (left, right) = (self.value(b), self.value(c));
-        let comparison = operator >= EQUAL;
-        let booleans =
-            comparison && sort(self.table, self.table.nodes[b as usize - 1]) != Sort::Integer;
-        let stops = match self.mistake {
-            Mistake::LeftWins => true,
-            Mistake::ComparisonStops => comparison,
-            Mistake::BooleanEqualityStops => booleans,
-            _ => false,
-        };
-        if stops && !matches!(left, Inside(_)) {
-            return left;
-        }
-        if self.is(Mistake::RightWins) && !matches!(right, Inside(_)) {
-            return right;
-        }
-        let undefined = match operator {
+        let node = self.table.nodes[number as usize - 1];
+        let (left, right) = (self.value(node.b), self.value(node.c));
+        let undefined = || match node.operator {
             DIVIDE => self.undefined_quotient(left, right),
             MOD => self.undefined_remainder(left, right),
             _ => None,
         };
-        if let Some(value) = undefined {
-            return value;
-        }
-        match (left, right) {
-            (Inside(a), Inside(b)) => self.combined(operator, a, b),
-            (Undefined, Outside(_)) | (Outside(_), Undefined) if self.is(Mistake::OutsideWins) => {
-                Outside(0)
-            }
-            (Undefined, _) | (_, Undefined) => Undefined,
-            (Inside(a) | Outside(a), Inside(b) | Outside(b)) => self.uncounted(operator, a, b),
-        }
+        let value = wrong_order(self.mistake, self.table, node, left, right).or_else(undefined);
+        value.unwrap_or_else(|| match (left, right) {
+            (Inside(a), Inside(b)) => self.combined(node.operator, a, b),
+            (Undefined, _) | (Inside(_), Undefined) => Undefined,
+            (Outside(_), Undefined) => left,
+            (Inside(a) | Outside(a), Inside(b) | Outside(b)) => self.uncounted(node.operator, a, b),
+        })
     }
 
     /// A term with a part outside.
@@ -551,10 +542,9 @@ impl Run<'_> {
     /// What ÷ gives where it is undefined itself.
     fn undefined_quotient(&self, left: Value, right: Value) -> Option<Value> {
         match (left, right) {
-            (Outside(_), Inside(0)) if self.is(Mistake::OutsideByZeroIsOutside) => Some(left),
-            (_, Inside(0)) if self.is(Mistake::ZeroDivisorIsZero) => Some(Inside(0)),
-            (_, Inside(0)) => Some(Undefined),
-            (_, Outside(0)) if self.is(Mistake::DivisorRuleDropped) => Some(Undefined),
+            (Inside(_), Inside(0)) if self.is(Mistake::ZeroDivisorIsZero) => Some(Inside(0)),
+            (Inside(_), Inside(0)) => Some(Undefined),
+            (Inside(_), Outside(0)) if self.is(Mistake::DivisorOutsideIsZero) => Some(Undefined),
             (Inside(a), Inside(b)) if self.is(Mistake::QuotientAsRemainder) => {
                 (a < 0 || b < 0).then_some(Undefined)
             }
@@ -562,10 +552,10 @@ impl Run<'_> {
         }
     }
 
-    /// What mod gives where it is undefined itself: a dividend outside isn't negative, a divisor outside is never at fault.
+    /// What mod gives where it is undefined itself.
     fn undefined_remainder(&self, left: Value, right: Value) -> Option<Value> {
         let right_way = match (left, right) {
-            (_, Inside(..=0)) | (Inside(..0), Inside(_)) => Some(Undefined),
+            (Inside(_), Inside(..=0)) | (Inside(..0), Inside(_)) => Some(Undefined),
             _ => None,
         };
         self.mistaken_remainder(left, right).unwrap_or(right_way)
@@ -579,14 +569,12 @@ impl Run<'_> {
             (Mistake::NegativeDividendAllowed, Inside(..0), Inside(1..)) => None,
             (Mistake::NegativeDivisorAllowed, Inside(0..), Inside(..0)) => None,
             (Mistake::ZeroDivisorOfModAllowed, Inside(0..), Inside(0)) => Some(left),
-            (Mistake::ZeroDivisorIsZero, _, Inside(0)) => Some(Inside(0)),
+            (Mistake::ZeroDivisorIsZero, Inside(_), Inside(0)) => Some(Inside(0)),
             (Mistake::LowestModMinusOneOutside, Inside(LOWEST), Inside(-1)) => Some(Outside(0)),
-            (Mistake::OutsideByZeroIsOutside, Outside(_), Inside(0)) => Some(left),
-            (Mistake::OutsideByNegativeIsOutside, Outside(_), Inside(..0)) => Some(left),
             (Mistake::DividendOutsideIsNegative, Outside(_), Inside(_)) => Some(Undefined),
             (Mistake::DividendOutsideHasItsSign, Outside(..0), Inside(_)) => Some(Undefined),
             (Mistake::NegativeByOutsideIsUndefined, Inside(..0), Outside(_)) => Some(Undefined),
-            (Mistake::DivisorRuleDropped, _, Outside(..=0)) => Some(Undefined),
+            (Mistake::DivisorOutsideIsZero, Inside(_), Outside(..=0)) => Some(Undefined),
             _ => return None,
         })
     }
@@ -626,6 +614,12 @@ impl Run<'_> {
             Mistake::EquivalentReadsBoth => operator == EQUIVALENT,
             _ => false,
         };
+        if self.is(Mistake::EquivalentRightFirst) && operator == EQUIVALENT {
+            let right = self.value(c);
+            if !matches!(right, Inside(_)) {
+                return right;
+            }
+        }
         let Inside(truth) = left else {
             let undefined = both && self.value(c) == Undefined;
             return if undefined { Undefined } else { left };

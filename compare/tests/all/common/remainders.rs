@@ -13,8 +13,8 @@ const DECIDED: [(Fault, Pair, usize); 11] = [
     (Fault::Undefined, (Zero, Negative), 60),
     (Fault::Undefined, (Positive, Zero), 80),
     (Fault::Undefined, (Positive, Negative), 150),
-    (Fault::Undefined, (Outside, Zero), 25),
-    (Fault::Undefined, (Outside, Negative), 25),
+    (Fault::Outside, (Outside, Zero), 25),
+    (Fault::Outside, (Outside, Negative), 25),
     (Fault::Outside, (Outside, Positive), 25),
     (Fault::Outside, (Negative, Outside), 25),
 ];
