@@ -13,6 +13,7 @@ mod marked;
 mod models;
 mod operator_faults;
 mod operators;
+mod order_faults;
 mod press;
 mod press_faults;
 mod press_laws;
