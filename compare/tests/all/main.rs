@@ -4,6 +4,7 @@ mod against;
 mod anticipated;
 mod by_sequent;
 mod common;
+mod former_replies;
 mod generated;
 mod guide;
 mod left_out;

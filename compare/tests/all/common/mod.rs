@@ -2,6 +2,7 @@
 
 pub mod definedness;
 pub mod faults;
+pub mod first_fault;
 pub mod former_order;
 pub mod machine;
 pub mod plain_press;
