@@ -9,6 +9,7 @@ pub mod replays;
 pub mod shapes;
 pub mod shared;
 pub mod terms;
+pub mod two_faults;
 
 use crate::checks::{accept, Refusal};
 use crate::generate::sections::COMBINATIONS;

@@ -4,6 +4,7 @@ use super::count;
 use super::remainders::{has_mod, Met, Remainders, Seen};
 use super::replays::accepted;
 use super::terms::formulas;
+use super::two_faults::TwoFaults;
 use crate::press::{Cause, Panel, Record};
 use crate::replay::machine::Change;
 use crate::replay::{self, NOT_A_RUN};
@@ -25,6 +26,7 @@ pub struct Presses {
     /// Accepted tables by words for what they have.
     pub tables: BTreeMap<&'static str, usize>,
     pub remainders: Remainders,
+    pub two_faults: TwoFaults,
 }
 
 impl Presses {
@@ -54,9 +56,7 @@ impl Presses {
             }
             let before = now.clone();
             let answer = panel.press(&case.step, &mut now);
-            if has_mod(table) {
-                self.add_remainders(table, &panel, case, &before);
-            }
+            self.add_formulas(table, &panel, case, &before);
             let mut second = case.second.clone();
             let previewed = panel.preview(&case.step, &before, &mut second);
             self.second += usize::from(number(answer) != number(previewed));
@@ -71,8 +71,8 @@ impl Presses {
         }
     }
 
-    /// Counts what mod has to do with the press's answer.
-    fn add_remainders(&mut self, table: &Table, panel: &Panel, case: &Case, before: &[Record]) {
+    /// Counts what mod and the order of faults have to do with the press's answer.
+    fn add_formulas(&mut self, table: &Table, panel: &Panel, case: &Case, before: &[Record]) {
         let Ok((step, state)) = panel.begin(&case.step, before) else {
             return;
         };
@@ -81,17 +81,18 @@ impl Presses {
             machine: &panel.machine,
             state: &state,
         };
-        let axioms = panel.axioms().iter().copied();
-        let all = axioms.chain(formulas(step)).map(|one| one.1);
-        let roots: Vec<i32> = all.collect();
+        let all = [panel.axioms(), &formulas(step)].concat();
         match panel.after(&case.step, before).map_err(Cause::number) {
-            Ok(_) => {
+            Ok(_) if has_mod(table) => {
                 let mut met = Met::new();
-                roots.iter().for_each(|&root| seen.meet(root, &mut met));
+                seen.meet_all(&all, &mut met);
                 self.remainders.add_accepted(&met);
             }
-            Err(NOT_A_RUN) => {}
-            Err(_) => self.remainders.add_stopped(&seen, &roots),
+            Ok(_) | Err(NOT_A_RUN) => {}
+            Err(_) => {
+                self.two_faults.add(&seen, &all);
+                self.remainders.add_stopped(&seen, &all);
+            }
         }
     }
 
@@ -150,7 +151,7 @@ impl Presses {
         for (word, count) in &self.tables {
             text += &format!("accepted tables with {word}: {count}\n");
         }
-        text + &self.remainders.report()
+        text + &self.remainders.report() + &self.two_faults.report()
     }
 }
 

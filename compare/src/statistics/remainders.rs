@@ -5,6 +5,7 @@ use super::terms::is_read;
 use crate::formula::*;
 use crate::replay::machine::Machine;
 use crate::replay::term::{Answer, Fault, State};
+use crate::replay::Role;
 use crate::table::{Node, Table};
 use std::collections::{BTreeMap, BTreeSet};
 
@@ -34,7 +35,7 @@ pub const ENDS: [(i64, i64); 6] = [
 /// Counts over logs, or over presses.
 #[derive(Clone, Debug, Default)]
 pub struct Remainders {
-    /// Those that are stopped by a fault which one mod has alone, by its operands.
+    /// Those that are stopped by a fault of a mod or below it, by its operands.
     pub decided: BTreeMap<(Fault, Pair), usize>,
     /// Those of them that 17 stops though a term to the right of this mod is outside.
     pub beside: BTreeMap<Pair, usize>,
@@ -61,16 +62,20 @@ pub struct Seen<'a> {
 }
 
 impl Seen<'_> {
-    fn node(&self, root: i32) -> Node {
+    pub fn node(&self, root: i32) -> Node {
         self.table.nodes[root as usize - 1]
     }
 
-    fn value(&self, root: i32) -> Answer {
+    pub fn value(&self, root: i32) -> Answer {
         self.machine.value(root, self.state)
     }
 
+    pub fn meet_all(&self, formulas: &[(Role, i32)], met: &mut Met) {
+        formulas.iter().for_each(|one| self.meet(one.1, met));
+    }
+
     /// Adds the operands of all mods that are read below a root without a fault.
-    pub fn meet(&self, root: i32, met: &mut Met) {
+    fn meet(&self, root: i32, met: &mut Met) {
         let node = self.node(root);
         let Some(Columns::TwoOperands) = columns(node.operator) else {
             operands(node)
@@ -104,14 +109,14 @@ impl Remainders {
     }
 
     /// Counts one that is stopped by a fault of the first of these formulas that has any.
-    pub fn add_stopped(&mut self, seen: &Seen, roots: &[i32]) {
-        let faulty = |&root: &i32| Some((root, seen.value(root).err()?));
-        if let Some((root, fault)) = roots.iter().find_map(faulty) {
+    pub fn add_stopped(&mut self, seen: &Seen, formulas: &[(Role, i32)]) {
+        let faulty = |&(_, root): &(Role, i32)| Some((root, seen.value(root).err()?));
+        if let Some((root, fault)) = formulas.iter().find_map(faulty) {
             self.go_down(seen, root, fault, false);
         }
     }
 
-    /// Goes down to what has the fault alone, and counts each mod on the way.
+    /// Goes down to the first fault, and counts each mod on the way.
     fn go_down(&mut self, seen: &Seen, root: i32, fault: Fault, outside_beside: bool) {
         let node = seen.node(root);
         let answers: Vec<Answer> = operands(node)

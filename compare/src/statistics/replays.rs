@@ -3,6 +3,7 @@
 use super::count;
 use super::remainders::{has_mod, Met, Remainders, Seen};
 use super::terms::{formulas, Terms};
+use super::two_faults::TwoFaults;
 use crate::checks::{accept, Refusal};
 use crate::replay::log::Log;
 use crate::replay::machine::Machine;
@@ -23,6 +24,7 @@ pub struct Replays {
     /// What was met in the steps that a formula stops.
     pub terms: Terms,
     pub remainders: Remainders,
+    pub two_faults: TwoFaults,
 }
 
 impl Replays {
@@ -48,9 +50,7 @@ impl Replays {
         for log in logs {
             let answer = machine.replay(log);
             let first = matches!(answer, Err(stop) if stop.row == 1);
-            if has_mod(table) {
-                self.add_remainders(table, &machine, log);
-            }
+            self.add_formulas(table, &machine, log);
             if let Err(Cause::Formula(..)) = answer.map_err(|stop| stop.cause) {
                 self.terms.add(table, &machine, log);
             }
@@ -62,8 +62,8 @@ impl Replays {
         }
     }
 
-    /// Counts what mod has to do with the log's answer.
-    fn add_remainders(&mut self, table: &Table, machine: &Machine, run: &[u8]) {
+    /// Counts what mod and the order of faults have to do with the log's answer.
+    fn add_formulas(&mut self, table: &Table, machine: &Machine, run: &[u8]) {
         let (mut log, mut state) = (Log::new(run), State::default());
         let (mut first, mut met) = (true, Met::new());
         while first || !log.is_at_end() {
@@ -75,11 +75,14 @@ impl Replays {
                 machine,
                 state: &state,
             };
-            let roots: Vec<i32> = formulas(step).into_iter().map(|one| one.1).collect();
             match machine.judge(step, &state).map_err(Cause::number) {
-                Ok(()) => roots.iter().for_each(|&root| seen.meet(root, &mut met)),
+                Ok(()) if has_mod(table) => seen.meet_all(&formulas(step), &mut met),
+                Ok(()) => {}
                 Err(NOT_A_RUN) => return,
-                Err(_) => return self.remainders.add_stopped(&seen, &roots),
+                Err(_) => {
+                    self.two_faults.add(&seen, &formulas(step));
+                    return self.remainders.add_stopped(&seen, &formulas(step));
+                }
             }
             step.settle(&mut state);
             first = false;
@@ -96,7 +99,7 @@ impl Replays {
         for (word, count) in &self.tables {
             text += &format!("accepted tables with {word}: {count}\n");
         }
-        text + &self.terms.report() + &self.remainders.report()
+        text + &self.terms.report() + &self.remainders.report() + &self.two_faults.report()
     }
 }
 

@@ -1,6 +1,7 @@
 //! Generated presses give every answer, by every cause and often, and damage gives what it must.
 
 use crate::common::remainders::assert_remainders;
+use crate::common::two_faults::assert_two_faults;
 use compare::checks::accept;
 use compare::generate::random::Random;
 use compare::press::{Cause, Panel, Record};
@@ -142,6 +143,11 @@ fn what_is_performed_and_where_differs() {
 #[test]
 fn remainders_decide() {
     assert_remainders(&GATE.remainders);
+}
+
+#[test]
+fn the_order_of_two_faults_decides() {
+    assert_two_faults(&GATE.two_faults);
 }
 
 /// What lists have: lengths around the right one and around the limit, values and types at their ends.

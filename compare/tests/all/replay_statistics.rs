@@ -1,6 +1,7 @@
 //! Generated logs give every answer, by every cause and often, and their formulas meet what request 5 tells apart.
 
 use crate::common::remainders::assert_remainders;
+use crate::common::two_faults::assert_two_faults;
 use compare::checks::accept;
 use compare::formula::*;
 use compare::replay::term::Fault;
@@ -137,6 +138,11 @@ fn operators_meet_faults_on_either_side() {
 #[test]
 fn remainders_decide() {
     assert_remainders(&GATE.remainders);
+}
+
+#[test]
+fn the_order_of_two_faults_decides() {
+    assert_two_faults(&GATE.two_faults);
 }
 
 #[test]

@@ -11,6 +11,7 @@ pub mod plain_values;
 pub mod prefix;
 pub mod remainders;
 pub mod rules;
+pub mod two_faults;
 pub mod wrong_orders;
 
 use compare::against::{Call, Reply, Services};
