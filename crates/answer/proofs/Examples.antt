@@ -13,17 +13,17 @@ use Rattle.answer.specs.Answer.{Answer, value, outside, undefined, withi
 use Rattle.answer.specs.Met.{terms}
 
 -- no identifier is mentioned
-abbrev env : Env (λ x. integer)
+abbrev pub env : Env (λ x. integer)
 env = record { present = λ x. pos 0; after = λ x. pos 0 }
 
 abbrev answered : Tree → Answer
 answered t = answer env t
 
 -- a literal by its word, a negative one in two's complement
-abbrev word : ℕ → Tree
+abbrev pub word : ℕ → Tree
 word w = constant (literal w)
 
-abbrev minusOne : Tree
+abbrev pub minusOne : Tree
 minusOne = word (2 ^ 64 - 1)
 
 -- 2 ^ 62, 2 ^ 63 − 1 and −2 ^ 63
@@ -76,13 +76,13 @@ least-negated = refl
 -- ---- both faults
 
 -- terms outside 64 bits, and an undefined one
-abbrev tooLarge : Tree
+abbrev pub tooLarge : Tree
 tooLarge = binary plus greatest (word 1)
 
 abbrev tooSmall : Tree
 tooSmall = binary minus least (word 1)
 
-abbrev byZero : Tree
+abbrev pub byZero : Tree
 byZero = division quotient (word 1) (word 0)
 
 -- mod of a negative number, or by one: −1 mod 1, 1 mod −1, −2 ^ 63 mod −1
@@ -135,10 +135,10 @@ unfolding answer within binaryAnswer divisionAnswer operands
 leftmost-of-parts = (refl, refl)
 
 -- = of booleans is a comparison too: bool(2 ^ 63 = 0) = bool(1 ÷ 0 = 0)
-abbrev outsidePredicate : Tree
+abbrev pub outsidePredicate : Tree
 outsidePredicate = binary equal tooLarge (word 0)
 
-abbrev undefinedPredicate : Tree
+abbrev pub undefinedPredicate : Tree
 undefinedPredicate = binary equal byZero (word 0)
 
 left-of-equal :
