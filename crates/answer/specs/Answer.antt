@@ -38,7 +38,7 @@ valueThen undefined f = undefined
 unfoldable pub operands : (AnyValue → AnyValue → Bool) → (AnyValue → AnyValue → AnyValue) → Answer → Answer → Answer
 operands defined f l r = valueThen l (λ v. valueThen r (λ w. pick (defined v w) (within (f v w)) undefined))
 
--- operators that are defined on all operands; ⇔ "stops at a faulty left side" as the others do
+-- operators that are defined on all operands; ⇔ is one of them, as its stopping at a faulty left side is the same order
 abbrev pub always : AnyValue → AnyValue → Bool
 always v w = true
 
