@@ -278,12 +278,12 @@ Refuses table step state room n row =
     (verdictOf table ≡ verdict.Refused n row)
     ⊎ ((count : ℕ) × (verdictOf table ≡ verdict.Accepted count) × (row ≡ 0) × PressRefusal (decoded table) step (valuesIn state) (typesIn state) room n)
 
-outcome-refused : (o : Outcome) (n row : ℕ) → replyOf o ≡ Refused n row → o ≡ refused n row
+pub outcome-refused : (o : Outcome) (n row : ℕ) → replyOf o ≡ Refused n row → o ≡ refused n row
 outcome-refused (made zs) n row h = absurd (performed-never (sym h))
 outcome-refused (refused m i) n row h =
     ap₂ refused (ap (λ (p : Press). elim p [ Performed ↦ m | Refused n row ↦ n ]) h) (ap (λ (p : Press). elim p [ Performed ↦ i | Refused n row ↦ row ]) h)
 
-records-refused : (table step : List ℕ) (state : List Record) (room n row : ℕ) → (replyOf (recordsOutcome table step state room) ≡ Refused n row) ↔ Refuses table step state room n row
+pub records-refused : (table step : List ℕ) (state : List Record) (room n row : ℕ) → (replyOf (recordsOutcome table step state room) ≡ Refused n row) ↔ Refuses table step state room n row
 unfolding recordsOutcome outcome
 records-refused table step state room n row = (λ h. by (verdictOf table) refl (outcome-refused (outcomeBy (verdictOf table) on) n row h), back)
   where

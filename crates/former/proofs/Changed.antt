@@ -1,7 +1,7 @@
 -- 02, request 8: "The replies that change are exactly the 17s whose first fault in this order is outside 64 bits, and they become 16", for every table, log, step and state. A reply is the
--- former one or 16 for 17 with the same row (crates/former/proofs/Evaluated.antt), and it is 16 exactly where the first fault is outside (`replay-refused`, `press-refused`).
+-- former one or 16 for 17 with the same row (crates/former/proofs/Evaluated.antt), and it is 16 exactly where the first fault is outside (`replay-refused`, `records-refused`).
 use Prim.Native.Nat.{ℕ}
-use mathlib.Core.Path.{_≡_, refl, sym, ap, ap₂, _∙_}
+use mathlib.Core.Path.{_≡_, refl, sym, ap, _∙_}
 use mathlib.Core.List.{List}
 use mathlib.Core.Logic.{_⊎_, inl, inr}
 use native.Mathlib.Omega.{arith}
@@ -10,7 +10,6 @@ use Rattle.formula.specs.Values.{ValueType}
 use Rattle.formula.specs.Tree.{Tree}
 use Rattle.formula.specs.Evaluate.{Env}
 use Rattle.answer.specs.Answer.{Answer, value, outside, undefined, answer}
-use Rattle.answer.specs.Met.{FirstFault}
 use Rattle.answer.proofs.Answer.{answer-exact}
 use Rattle.rules.specs.declared.Verdict.the-variants as verdict
 use Rattle.rules.specs.Decoded.{decoded}
@@ -22,30 +21,26 @@ use Rattle.log.specs.declared.Replay.the-variants.{Steps, Refused}
 use Rattle.log.proofs.Refusals.{refused-number}
 use Rattle.log.proofs.Exact.{replay-refused}
 use Rattle.bench.specs.State.{valuesIn, typesIn}
-use Rattle.bench.specs.Press.{outcomeBy, replyOf, Pressed, press, Previewed, preview}
+use Rattle.bench.specs.Press.{Outcome, made, refused, outcomeBy, replyOf, recordsOutcome, Pressed, press, Previewed, preview}
 use Rattle.bench.specs.declared.Record.{Record}
 use Rattle.bench.specs.declared.Press.{Press}
-use Rattle.bench.specs.declared.Press.the-variants as reply
-use Rattle.bench.proofs.Exact.{press-keeps, preview-first, preview-keeps}
-use Rattle.bench.proofs.Refused.{press-refused, preview-refused}
+use Rattle.bench.proofs.Refused.{outcome-refused, records-refused}
 use Rattle.former.specs.Former.{formerAnswer}
-use Rattle.former.specs.Evaluated.{replayLogBy, replayWith, pressOnBy, outcomeWith, pressWith, previewWith}
-use Rattle.former.specs.Changed.{Changed, becomes-outside, stays, formerly, formerReplay, formerPress, formerPreview, pressRefused, previewRefused}
+use Rattle.former.specs.Evaluated.{pressedOf, previewedOf, replayLogBy, replayWith, pressOnBy, outcomeWith, pressWith, previewWith}
+use Rattle.former.specs.Changed.{Changed, becomes-outside, stays, AnswerChanged, formerly, formerReplay, formerPress, formerPreview, pressRefused, previewRefused}
 use Rattle.former.specs.Changed.{LogOutside, PressOutside}
 use Rattle.former.proofs.Answers.{answer-now}
-use Rattle.former.proofs.Evaluated.{Reply, replay-reply, press-reply, preview-reply}
+use Rattle.former.proofs.Evaluated.{Reply, replay-reply, outcome-reply}
 
 -- ---- a formula
 module _ {type : ℕ → ValueType} (ρ : Env type) where
-  pub answer-changes : (t : Tree)
-      → ((formerAnswer ρ t ≡ undefined) × FirstFault ρ t outside × (answer ρ t ≡ outside)) ⊎ (¬ ((formerAnswer ρ t ≡ undefined) × FirstFault ρ t outside) × (answer ρ t ≡ formerAnswer ρ t))
+  pub answer-changes : (t : Tree) → AnswerChanged ρ t
   answer-changes t = go (answer-now ρ t)
     where
       sort : Answer → ℕ
       sort a = elim a [ value v ↦ 0 | outside ↦ 1 | undefined ↦ 2 ]
 
-      go : (formerAnswer ρ t ≡ answer ρ t) ⊎ (Unit {0} × (formerAnswer ρ t ≡ undefined) × (answer ρ t ≡ outside))
-          → ((formerAnswer ρ t ≡ undefined) × FirstFault ρ t outside × (answer ρ t ≡ outside)) ⊎ (¬ ((formerAnswer ρ t ≡ undefined) × FirstFault ρ t outside) × (answer ρ t ≡ formerAnswer ρ t))
+      go : (formerAnswer ρ t ≡ answer ρ t) ⊎ (Unit {0} × (formerAnswer ρ t ≡ undefined) × (answer ρ t ≡ outside)) → AnswerChanged ρ t
       go (inl e) = inr (λ (u, f). let z : _≡_ {A = ℕ} 1 2 = ap sort (sym (answer-exact ρ t outside .1 f) ∙ sym e ∙ u) in omega arith, sym e)
       go (inr (p, u, o)) = inl (u, answer-exact ρ t outside .0 o, o)
 
@@ -79,46 +74,44 @@ replay-changes table run =
     go row u (inl v) = absurd (never-both refl refl (refused-number (sym u ∙ table-refused table run outsideFault row v)))
     go row u (inr f) = f
 
--- ---- a press, and a preview
-pressNumber : Press → ℕ
-pressNumber p = elim p [ reply.Performed ↦ 0 | reply.Refused n row ↦ n ]
+-- ---- a press and a preview, by their outcome
+outcomeNumber : Outcome → ℕ
+outcomeNumber o = elim o [ made zs ↦ 0 | refused n row ↦ n ]
 
--- the table's own refusal is what it was
-outcome-table : (table step : List ℕ) (state : List Record) (room n row : ℕ) → verdictOf table ≡ verdict.Refused n row → replyOf (outcomeWith formerly table step state room) ≡ reply.Refused n row
+outcome-table : (table step : List ℕ) (state : List Record) (room n row : ℕ) → verdictOf table ≡ verdict.Refused n row → outcomeWith formerly table step state room ≡ refused n row
 unfolding outcomeWith
-outcome-table table step state room n row v = ap (λ v. replyOf (outcomeBy v (pressOnBy formerly (decoded table) step (valuesIn state) (typesIn state) room))) v
+outcome-table table step state room n row v = ap (λ v. outcomeBy v (pressOnBy formerly (decoded table) step (valuesIn state) (typesIn state) room)) v
 
-by-refusal : (table step : List ℕ) (state : List Record) (room row : ℕ) → replyOf (outcomeWith formerly table step state room) ≡ reply.Refused undefinedFault row
-    → (verdictOf table ≡ verdict.Refused outsideFault row) ⊎ PressOutside table step state room row → PressOutside table step state room row
-unfolding pressNumber
-by-refusal table step state room row u (inl v) = absurd (never-both refl refl (ap pressNumber (sym u ∙ outcome-table table step state room outsideFault row v)))
-by-refusal table step state room row u (inr f) = f
+outcome-changes : (table step : List ℕ) (state : List Record) (room : ℕ)
+    → Changed refused (PressOutside table step state room) (outcomeWith formerly table step state room) (recordsOutcome table step state room)
+unfolding outcomeNumber
+outcome-changes table step state room =
+    changes refused outcomeNumber (λ n row. refl) (PressOutside table step state room) former (recordsOutcome table step state room)
+    (outcome-reply (Unit {0}) formerly (λ type ρ u. answer-now ρ u) table step state room)
+    (λ row f. outcome-refused (recordsOutcome table step state room) outsideFault row (records-refused table step state room outsideFault row .1 (inr f)))
+    (λ row u o. go row u (records-refused table step state room outsideFault row .0 (ap replyOf o)))
+  where
+    former : Outcome
+    former = outcomeWith formerly table step state room
+
+    go : (row : ℕ) → former ≡ refused undefinedFault row → (verdictOf table ≡ verdict.Refused outsideFault row) ⊎ PressOutside table step state room row → PressOutside table step state room row
+    go row u (inl v) = absurd (never-both refl refl (ap outcomeNumber (sym u ∙ outcome-table table step state room outsideFault row v)))
+    go row u (inr f) = f
+
+-- what is given of an outcome, its reply among it
+given-changes : {A : Type 0} (give : Outcome → A) (replyIn : A → Press) → ((o : Outcome) → replyIn (give o) ≡ replyOf o) → (FirstOutside : ℕ → Type 0) (former now : Outcome)
+    → Changed refused FirstOutside former now → Changed (λ n row. give (refused n row)) FirstOutside (give former) (give now)
+given-changes give replyIn is FirstOutside former now (becomes-outside row u f o) = becomes-outside row (ap give u) f (ap give o)
+given-changes give replyIn is FirstOutside former now (stays h e) =
+    stays (λ row u f. h row (outcome-refused former undefinedFault row (sym (is former) ∙ ap replyIn u ∙ is (refused undefinedFault row))) f) (ap give e)
 
 pub press-changes : (table step : List ℕ) (state : List Record)
     → Changed (pressRefused state) (PressOutside table step state (length state)) (formerPress table step state) (press table step state)
-unfolding pressNumber pressWith
-press-changes table step state =
-    changes (pressRefused state) (λ (p : Pressed). pressNumber (p .reply)) (λ n row. refl) (PressOutside table step state (length state)) (formerPress table step state) (press table step state)
-    (press-reply (Unit {0}) formerly (λ type ρ u. answer-now ρ u) table step state)
-    (λ row f. refused-whole row (press-refused table step state outsideFault row .1 (inr f)))
-    (λ row u o. by-refusal table step state (length state) row (ap (λ (p : Pressed). p .reply) u) (press-refused table step state outsideFault row .0 (ap (λ (p : Pressed). p .reply) o)))
-  where
-    refused-whole : (row : ℕ) → press table step state .reply ≡ reply.Refused outsideFault row → press table step state ≡ pressRefused state outsideFault row
-    refused-whole row e = ap₂ (λ r s. record { reply = r; state = s }) e (press-keeps table step state outsideFault row e)
+unfolding pressWith press
+press-changes table step state = given-changes (pressedOf state) (λ (p : Pressed). p .reply) (λ o. refl) _ _ _ (outcome-changes table step state (length state))
 
 pub preview-changes : (table step : List ℕ) (first second : List Record)
     → Changed (previewRefused first second) (PressOutside table step first (length second)) (formerPreview table step first second) (preview table step first second)
-unfolding pressNumber previewWith
+unfolding previewWith preview
 preview-changes table step first second =
-    changes (previewRefused first second) (λ (p : Previewed). pressNumber (p .reply)) (λ n row. refl) (PressOutside table step first (length second)) (formerPreview table step first second)
-    (preview table step first second)
-    (preview-reply (Unit {0}) formerly (λ type ρ u. answer-now ρ u) table step first second)
-    (λ row f. refused-whole row (preview-refused table step first second outsideFault row .1 (inr f)))
-    (λ row u o. by-refusal table step first (length second) row (ap (λ (p : Previewed). p .reply) u) (preview-refused table step first second outsideFault row .0 (ap (λ (p : Previewed). p .reply) o)))
-  where
-    refused-whole : (row : ℕ) → preview table step first second .reply ≡ reply.Refused outsideFault row → preview table step first second ≡ previewRefused first second outsideFault row
-    refused-whole row e =
-        let kept = preview-keeps table step first second outsideFault row e in
-        let same = preview-first table step first second in
-        ap₂ (λ r s. record { reply = r; first = preview table step first second .first; second = s }) e kept
-        ∙ ap (λ f. record { reply = reply.Refused outsideFault row; first = f; second = second }) same
+    given-changes (previewedOf first second) (λ (p : Previewed). p .reply) (λ o. refl) _ _ _ (outcome-changes table step first (length second))

@@ -31,14 +31,13 @@ use Rattle.log.specs.Faults.{noFault, outsideFault, undefinedFault, logFault, f
 use Rattle.log.specs.Replay.{Values, Found, found, bad, noValues, readValues, moved, judged, replayFrom, replayLog, replayBy, replay}
 use Rattle.log.specs.declared.Replay.{Replay}
 use Rattle.log.specs.declared.Replay.the-variants.{Refused}
-use Rattle.bench.specs.State.{valuesIn, typesIn, isState, updated, withValues}
+use Rattle.bench.specs.State.{valuesIn, typesIn, isState, updated}
 use Rattle.bench.specs.Choice.{Choice, chosen, none, choice}
-use Rattle.bench.specs.Press.{Outcome, made, refused, answered, afterBy, complete, completed, pressFault, pressChoice, atHand, pressOn, outcomeBy, outcome, replyOf, keptOr}
+use Rattle.bench.specs.Press.{Outcome, made, refused, answered, afterBy, complete, completed, pressFault, pressChoice, atHand, pressOn, outcomeBy, outcome}
 use Rattle.bench.specs.Press.{recordsOutcome, press, preview}
 use Rattle.bench.specs.declared.Record.{Record}
-use Rattle.former.specs.Evaluated.{Evaluation, untrueBy, notAllowedBy, stepFaultBy, judgedBy, replayFromBy, replayLogBy, replayWith, afterOf, completeBy, pressFaultBy}
+use Rattle.former.specs.Evaluated.{Evaluation, pressedOf, previewedOf, untrueBy, notAllowedBy, stepFaultBy, judgedBy, replayFromBy, replayLogBy, replayWith, afterOf, completeBy, pressFaultBy}
 use Rattle.former.specs.Evaluated.{pressChoiceBy, pressOnBy, outcomeWith, pressWith, previewWith}
-use Rattle.former.specs.Changed.{pressRefused, previewRefused}
 use Rattle.former.proofs.Answers.{Instead}
 
 module _ (possible : Type 0) where
@@ -189,28 +188,13 @@ module _ (possible : Type 0) where
         go (verdict.Accepted n) = from-reply (decoded table) (suc (length (lines run))) 0 1 (lines run) noValues
         go (verdict.Refused n row) = inl refl
 
-    outcome-reply : (table step : List ℕ) (rs : List Record) (room : ℕ) → Reply refused (outcomeWith evaluation table step rs room) (recordsOutcome table step rs room)
+    pub outcome-reply : (table step : List ℕ) (rs : List Record) (room : ℕ) → Reply refused (outcomeWith evaluation table step rs room) (recordsOutcome table step rs room)
     unfolding outcomeWith recordsOutcome outcome
     outcome-reply table step rs room = go (verdictOf table)
       where
         go : (v : Verdict) → Reply refused (outcomeBy v (pressOnBy evaluation (decoded table) step (valuesIn rs) (typesIn rs) room)) (outcomeBy v (pressOn (decoded table) step (valuesIn rs) (typesIn rs) room))
         go (verdict.Accepted n) = on-reply (decoded table) step (valuesIn rs) (typesIn rs) room
         go (verdict.Refused n row) = inl refl
-
-    -- what is answered from an outcome
-    given : {A : Type 0} (f : Outcome → A) (x y : Outcome) → Reply refused x y → Reply (λ n row. f (refused n row)) (f x) (f y)
-    given f x y (inl e) = inl (ap f e)
-    given f x y (inr (p, row, e, h)) = inr (p, row, ap f e, ap f h)
-
-    pub press-reply : (table step : List ℕ) (state : List Record) → Reply (pressRefused state) (pressWith evaluation table step state) (press table step state)
-    unfolding pressWith press
-    press-reply table step state =
-        given (λ (o : Outcome). record { reply = replyOf o; state = keptOr (λ zs. withValues zs state) state o }) _ _ (outcome-reply table step state (length state))
-
-    pub preview-reply : (table step : List ℕ) (first second : List Record) → Reply (previewRefused first second) (previewWith evaluation table step first second) (preview table step first second)
-    unfolding previewWith preview
-    preview-reply table step first second =
-        given (λ (o : Outcome). record { reply = replyOf o; first = first; second = keptOr (λ zs. withValues zs first) second o }) _ _ (outcome-reply table step first (length second))
 
 -- ---- with `answer`
 abbrev pub asNow : Evaluation
@@ -223,8 +207,13 @@ never refusal (inr (p, row, e, h)) = absurd p
 pub replay-same : (table run : List ℕ) → replayWith asNow table run ≡ replay table run
 replay-same table run = never Refused (replay-reply ⊥ asNow (λ type ρ u. inl refl) table run)
 
+outcome-same : (table step : List ℕ) (rs : List Record) (room : ℕ) → outcomeWith asNow table step rs room ≡ recordsOutcome table step rs room
+outcome-same table step rs room = never refused (outcome-reply ⊥ asNow (λ type ρ u. inl refl) table step rs room)
+
 pub press-same : (table step : List ℕ) (state : List Record) → pressWith asNow table step state ≡ press table step state
-press-same table step state = never (pressRefused state) (press-reply ⊥ asNow (λ type ρ u. inl refl) table step state)
+unfolding pressWith press
+press-same table step state = ap (pressedOf state) (outcome-same table step state (length state))
 
 pub preview-same : (table step : List ℕ) (first second : List Record) → previewWith asNow table step first second ≡ preview table step first second
-preview-same table step first second = never (previewRefused first second) (preview-reply ⊥ asNow (λ type ρ u. inl refl) table step first second)
+unfolding previewWith preview
+preview-same table step first second = ap (previewedOf first second) (outcome-same table step first (length second))

@@ -2,7 +2,13 @@
 use mathlib.Core.Path.{_≡_}
 use mathlib.Core.Bool.{true}
 use mathlib.Core.List.{List}
+use mathlib.Core.Logic.{_⊎_}
 use Prim.Native.Nat.{ℕ}
+use Rattle.formula.specs.Values.{ValueType}
+use Rattle.formula.specs.Tree.{Tree}
+use Rattle.formula.specs.Evaluate.{Env}
+use Rattle.answer.specs.Answer.{outside, undefined, answer}
+use Rattle.answer.specs.Met.{FirstFault}
 use Rattle.rules.specs.declared.Verdict.the-variants as verdict
 use Rattle.rules.specs.Decoded.{decoded}
 use Rattle.rules.specs.Verdict.{verdict as verdictOf}
@@ -20,9 +26,16 @@ use Rattle.former.specs.Former.{formerAnswer}
 use Rattle.former.specs.Evaluated.{Evaluation, replayWith, pressWith, previewWith}
 
 -- a reply beside the former one: 16 in the place of 17, with the same row, exactly where the first fault is outside 64 bits; everywhere else the same
-pub data Changed {A : Type 0} (refused : ℕ → ℕ → A) (FirstOutside : ℕ → Type 0) (former now : A) : Type 0 where
-  becomes-outside : (row : ℕ) → former ≡ refused undefinedFault row → FirstOutside row → now ≡ refused outsideFault row → Changed refused FirstOutside former now
-  stays : ((row : ℕ) → former ≡ refused undefinedFault row → FirstOutside row → ⊥) → now ≡ former → Changed refused FirstOutside former now
+pub data Changed {A : Type 0} (refusal : ℕ → ℕ → A) (FirstOutside : ℕ → Type 0) (former now : A) : Type 0 where
+  becomes-outside : (row : ℕ) → former ≡ refusal undefinedFault row → FirstOutside row → now ≡ refusal outsideFault row → Changed refusal FirstOutside former now
+  stays : ((row : ℕ) → former ≡ refusal undefinedFault row → FirstOutside row → ⊥) → now ≡ former → Changed refusal FirstOutside former now
+
+-- the same of one formula's answer
+module _ {type : ℕ → ValueType} (ρ : Env type) where
+  abbrev pub AnswerChanged : Tree → Type 0
+  AnswerChanged t =
+      ((formerAnswer ρ t ≡ undefined) × FirstFault ρ t outside × (answer ρ t ≡ outside))
+      ⊎ (¬ ((formerAnswer ρ t ≡ undefined) × FirstFault ρ t outside) × (answer ρ t ≡ formerAnswer ρ t))
 
 -- the replies with the former order
 abbrev pub formerly : Evaluation

@@ -34,6 +34,13 @@ use Rattle.bench.specs.declared.Record.{Record}
 abbrev pub Evaluation : Type 0
 Evaluation = (type : ℕ → ValueType) → Env type → Tree → Answer
 
+-- what a press and a preview give of an outcome
+abbrev pub pressedOf : List Record → Outcome → Pressed
+pressedOf state o = record { reply = replyOf o; state = keptOr (λ zs. withValues zs state) state o }
+
+abbrev pub previewedOf : List Record → List Record → Outcome → Previewed
+previewedOf first second o = record { reply = replyOf o; first = first; second = keptOr (λ zs. withValues zs first) second o }
+
 module _ (evaluation : Evaluation) where
   module _ (t : Rows) where
     abbrev machine : Machine
@@ -113,11 +120,7 @@ module _ (evaluation : Evaluation) where
   outcomeWith table step rs room = outcomeBy (verdictOf table) (pressOnBy (decoded table) step (valuesIn rs) (typesIn rs) room)
 
   unfoldable pub pressWith : List ℕ → List ℕ → List Record → Pressed
-  pressWith table step state =
-      let o = outcomeWith table step state (length state) in
-      record { reply = replyOf o; state = keptOr (λ zs. withValues zs state) state o }
+  pressWith table step state = pressedOf state (outcomeWith table step state (length state))
 
   unfoldable pub previewWith : List ℕ → List ℕ → List Record → List Record → Previewed
-  previewWith table step first second =
-      let o = outcomeWith table step first (length second) in
-      record { reply = replyOf o; first = first; second = keptOr (λ zs. withValues zs first) second o }
+  previewWith table step first second = previewedOf first second (outcomeWith table step first (length second))
