@@ -13,8 +13,8 @@ use Rattle.answer.specs.Stored.{stored_env}
 use Rattle.table.specs.Rows.{Rows, tagged, count}
 use Rattle.machine.specs.Described.{tree_of, sets, variables_of, machine_of}
 use Rattle.machine.proofs.Described.{action_by_row}
-use Rattle.log.specs.Rows.{is_state_variable}
-use Rattle.log.specs.Replay.{Values}
+use Rattle.recording.specs.Rows.{is_state_variable}
+use Rattle.recording.specs.Replay.{Values}
 use Rattle.values.specs.Values.{values_of}
 use Rattle.values.proofs.Behind.{behind_all, behind_next, behind_none}
 use Rattle.values.proofs.Moving.{variables_from}

@@ -16,9 +16,9 @@ use Rattle.table.specs.Rows.{Rows, count}
 use Rattle.table.proofs.Sections.{named_bounds, bounds_named}
 use Rattle.machine.specs.Described.{machine_of}
 use Rattle.machine.proofs.Described.{variable_named, named_variable_lem}
-use Rattle.log.specs.Rows.{is_state_variable}
-use Rattle.log.specs.Replay.{Values, moved}
-use Rattle.log.proofs.Values.{Moved, move_moved}
+use Rattle.recording.specs.Rows.{is_state_variable}
+use Rattle.recording.specs.Replay.{Values, moved}
+use Rattle.recording.proofs.Values.{Moved, move_moved}
 use Rattle.values.specs.Values.{values_of}
 use Rattle.bench.specs.State.{value_of, laid, placed, updated}
 use Rattle.bench.proofs.State.{map_at, map_size, laid_whole, placed_size, placed_at}

@@ -10,7 +10,7 @@ ghost use Rattle.answer.specs.Answer.{answer};
 ghost use Rattle.answer.specs.Stored.{stored_env};
 ghost use Rattle.machine.specs.Described.{tree_of, machine_of};
 ghost use Rattle.signed.specs.Found.{answer_of};
-ghost use Rattle.log.specs.Rows.{is_state_variable};
+ghost use Rattle.recording.specs.Rows.{is_state_variable};
 ghost use Rattle.values.specs.Values.{values_of};
 ghost use Rattle.bench.specs.State.{updated};
 ghost use Rattle.bench.specs.Press.{answered, after_by, completed};

@@ -12,8 +12,8 @@ use Rattle.lists.proofs.Distinct.{Distinct, pairwise_head, pairwise_tail}
 use Rattle.table.specs.Rows.{Rows}
 use Rattle.machine.specs.Machine.{Action, unassigned, becomes_equal, becomes_such_that}
 use Rattle.machine.specs.Described.{machine_of}
-use Rattle.log.specs.Replay.{Values}
-use Rattle.log.proofs.Values.{Sized}
+use Rattle.recording.specs.Replay.{Values}
+use Rattle.recording.proofs.Values.{Sized}
 use Rattle.bench.specs.Press.{after_by, complete}
 
 module _ (t : Rows) (e : ℕ) where

@@ -26,16 +26,16 @@ use Rattle.rules.specs.Decoded.{decoded}
 use Rattle.rules.specs.Verdict.{verdict as verdictOf}
 use Rattle.rules.proofs.Obeys.{Obeys}
 use Rattle.run.specs.Run.{State, blank, AllReadTrue, Step, Taken, of_run, Follows}
-use Rattle.log.specs.declared.Replay.TheVariants.{Steps}
-use Rattle.log.specs.Rows.{is_initial, is_given, is_state_variable, is_step_row, logged}
-use Rattle.log.specs.Lines.{lines}
-use Rattle.log.specs.Faults.{no_fault}
-use Rattle.log.specs.Replay.{Values, replay}
-use Rattle.log.specs.Recorded.{value_row, logged_value, step_rows, steps_rows, run_rows, constants_alone, AllInside, StepInside, StepsInside, Recorded}
-use Rattle.log.proofs.Lines.{written_lines}
-use Rattle.log.proofs.Steps.{logged_in, logged_variable, logged_parameter, of_variable, variable_of_lem}
-use Rattle.log.proofs.Runs.{step_row_of, step_row, event_of, of_event_lem, later_role, role_later}
-use Rattle.log.proofs.Exact.{replay_exact}
+use Rattle.recording.specs.declared.Replay.TheVariants.{Steps}
+use Rattle.recording.specs.Rows.{is_initial, is_given, is_state_variable, is_step_row, logged}
+use Rattle.recording.specs.Lines.{lines}
+use Rattle.recording.specs.Faults.{no_fault}
+use Rattle.recording.specs.Replay.{Values, replay}
+use Rattle.recording.specs.Recorded.{value_row, logged_value, step_rows, steps_rows, run_rows, constants_alone, AllInside, StepInside, StepsInside, Recorded}
+use Rattle.recording.proofs.Lines.{written_lines}
+use Rattle.recording.proofs.Steps.{logged_in, logged_variable, logged_parameter, of_variable, variable_of_lem}
+use Rattle.recording.proofs.Runs.{step_row_of, step_row, event_of, of_event_lem, later_role, role_later}
+use Rattle.recording.proofs.Exact.{replay_exact}
 use Rattle.bench.specs.declared.Record.{Record}
 use Rattle.bench.specs.State.{values_in, types_in, value_of, IsState, updated, with_values_of}
 use Rattle.bench.specs.Choice.{chosen, none, asked, choice}

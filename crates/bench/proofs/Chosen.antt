@@ -26,12 +26,12 @@ use Rattle.machine.specs.Machine.{Machine}
 use Rattle.machine.specs.Described.{action_of, machine_of}
 use Rattle.rules.proofs.Obeys.{Obeys}
 use Rattle.run.specs.Run.{State, blank}
-use Rattle.log.specs.Rows.{is_given, is_state_variable, is_step_row, is_logged, is_value_row}
-use Rattle.log.specs.Replay.{Values, Found, found, bad, store, read_values}
-use Rattle.log.specs.Recorded.{value_row, logged_value}
-use Rattle.log.proofs.Values.{LineFormed, Sized, placed as placed_of, value_at, read_first, read_row, read_rows, store_size, Reads, rows_read_lem}
-use Rattle.log.proofs.Steps.{named_small}
-use Rattle.log.proofs.Runs.{step_row_of}
+use Rattle.recording.specs.Rows.{is_given, is_state_variable, is_step_row, is_logged, is_value_row}
+use Rattle.recording.specs.Replay.{Values, Found, found, bad, store, read_values}
+use Rattle.recording.specs.Recorded.{value_row, logged_value}
+use Rattle.recording.proofs.Values.{LineFormed, Sized, placed as placed_of, value_at, read_first, read_row, read_rows, store_size, Reads, rows_read_lem}
+use Rattle.recording.proofs.Steps.{named_small}
+use Rattle.recording.proofs.Runs.{step_row_of}
 use Rattle.bench.specs.State.{is_of_type}
 use Rattle.bench.specs.Choice.{is_such_that, Choice, chosen, none, choice_of, asked, choice}
 use Rattle.bench.specs.Press.{at_hand}

@@ -17,9 +17,9 @@ use Rattle.rules.specs.Decoded.{decoded}
 use Rattle.rules.specs.Verdict.{verdict as verdictOf}
 use Rattle.rules.proofs.Full.{few_identifiers}
 use Rattle.rules.proofs.Accepted.{accepted_none, none_obeys}
-use Rattle.log.specs.Lines.{lines}
-use Rattle.log.specs.Replay.{Values}
-use Rattle.log.specs.Faults.{no_fault, log_fault}
+use Rattle.recording.specs.Lines.{lines}
+use Rattle.recording.specs.Replay.{Values}
+use Rattle.recording.specs.Faults.{no_fault, log_fault}
 use Rattle.bench.specs.State.{is_state, IsState, updated}
 use Rattle.bench.specs.Choice.{Choice, chosen, none, choice}
 use Rattle.bench.specs.Press.{Outcome, made, refused, completed, press_fault, press_choice, at_hand, press_on, outcome_by, outcome}

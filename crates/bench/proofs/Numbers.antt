@@ -11,7 +11,7 @@ use Rattle.formula.specs.Values.{ValueType, integer, boolean, Value, wrap, whole
 use Rattle.formula.proofs.Truth.{test_true}
 use Rattle.answer.specs.Stored.{stored_value}
 use Rattle.machine.specs.Described.{type_numbered}
-use Rattle.log.specs.Rows.{is_logged}
+use Rattle.recording.specs.Rows.{is_logged}
 use Rattle.bench.specs.State.{is_of_type}
 use Rattle.bench.specs.Press.{number_in}
 

@@ -30,15 +30,15 @@ use Rattle.machine.specs.Described.{action_of, variables_of, machine_of}
 use Rattle.rules.proofs.Obeys.{Obeys}
 use Rattle.rules.proofs.Full.{few_identifiers}
 use Rattle.run.specs.Run.{State, blank, world, Allows}
-use Rattle.log.specs.Rows.{is_initial, is_given, is_state_variable}
-use Rattle.log.specs.Faults.{no_fault, untrue, step_fault}
-use Rattle.log.specs.Replay.{Values, found, read_values}
-use Rattle.log.specs.Recorded.{ActionInside}
-use Rattle.log.proofs.Faults.{first_none, none_first}
-use Rattle.log.proofs.Sight.{never, sees, ActionSeen}
-use Rattle.log.proofs.Step.{Held, agree_before, seen_action}
-use Rattle.log.proofs.Values.{read_size, read_present}
-use Rattle.log.proofs.Steps.{not_given, logged_variable, variables_small, of_variable}
+use Rattle.recording.specs.Rows.{is_initial, is_given, is_state_variable}
+use Rattle.recording.specs.Faults.{no_fault, untrue, step_fault}
+use Rattle.recording.specs.Replay.{Values, found, read_values}
+use Rattle.recording.specs.Recorded.{ActionInside}
+use Rattle.recording.proofs.Faults.{first_none, none_first}
+use Rattle.recording.proofs.Sight.{never, sees, ActionSeen}
+use Rattle.recording.proofs.Step.{Held, agree_before, seen_action}
+use Rattle.recording.proofs.Values.{read_size, read_present}
+use Rattle.recording.proofs.Steps.{not_given, logged_variable, variables_small, of_variable}
 use Rattle.bench.specs.State.{value_of, is_of_type, IsState, updated}
 use Rattle.bench.specs.Choice.{is_such_that, asked}
 use Rattle.bench.specs.Press.{number_in, answered, after_by, completed, press_fault, at_hand}

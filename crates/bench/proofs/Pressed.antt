@@ -19,17 +19,17 @@ use Rattle.machine.specs.Machine.{Action, unassigned, becomes_equal, becomes_suc
 use Rattle.machine.specs.Described.{action_of, machine_of}
 use Rattle.rules.proofs.Obeys.{Obeys}
 use Rattle.run.specs.Run.{State, blank, world, AllReadTrue, Allows, Step, of_run}
-use Rattle.log.specs.Rows.{is_initial, is_given, is_state_variable}
-use Rattle.log.specs.Lines.{lines}
-use Rattle.log.specs.Faults.{no_fault}
-use Rattle.log.specs.Replay.{Values}
-use Rattle.log.specs.Recorded.{ActionInside, AllInside, StepInside, constants_alone, logged_value}
-use Rattle.log.proofs.Judged.{predicates_judged, judged_predicates}
-use Rattle.log.proofs.Step.{Held, agree_constants, seen_axioms, fault_allowed, allowed_fault}
-use Rattle.log.proofs.Values.{LineFormed, value_at}
-use Rattle.log.proofs.Lines.{lines_formed, lines_written, written_lines}
-use Rattle.log.proofs.Steps.{value_given, value_after, not_given, logged_variable, logged_parameter}
-use Rattle.log.proofs.Runs.{step_row, step_row_of, row_step, event_of, of_event_lem, later_role, role_later}
+use Rattle.recording.specs.Rows.{is_initial, is_given, is_state_variable}
+use Rattle.recording.specs.Lines.{lines}
+use Rattle.recording.specs.Faults.{no_fault}
+use Rattle.recording.specs.Replay.{Values}
+use Rattle.recording.specs.Recorded.{ActionInside, AllInside, StepInside, constants_alone, logged_value}
+use Rattle.recording.proofs.Judged.{predicates_judged, judged_predicates}
+use Rattle.recording.proofs.Step.{Held, agree_constants, seen_axioms, fault_allowed, allowed_fault}
+use Rattle.recording.proofs.Values.{LineFormed, value_at}
+use Rattle.recording.proofs.Lines.{lines_formed, lines_written, written_lines}
+use Rattle.recording.proofs.Steps.{value_given, value_after, not_given, logged_variable, logged_parameter}
+use Rattle.recording.proofs.Runs.{step_row, step_row_of, row_step, event_of, of_event_lem, later_role, role_later}
 use Rattle.bench.specs.State.{IsState}
 use Rattle.bench.specs.Choice.{is_such_that, chosen, none, asked, choice}
 use Rattle.bench.specs.Press.{made, at_hand, completed, press_fault, press_on}

@@ -20,9 +20,9 @@ use Rattle.table.proofs.Sections.{named_bounds, bounds_named}
 use Rattle.machine.specs.Machine.{Machine}
 use Rattle.machine.specs.Described.{machine_of}
 use Rattle.run.specs.Run.{State, blank}
-use Rattle.log.specs.Rows.{is_state_variable}
-use Rattle.log.specs.Recorded.{logged_value}
-use Rattle.log.proofs.Steps.{logged_variable, logged_constant}
+use Rattle.recording.specs.Rows.{is_state_variable}
+use Rattle.recording.specs.Recorded.{logged_value}
+use Rattle.recording.proofs.Steps.{logged_variable, logged_constant}
 use Rattle.bench.specs.declared.Record.{Record}
 use Rattle.bench.specs.State.{values_in, types_in, value_of, is_of_type, is_right, IsState, updated, with_values_of}
 use Rattle.bench.specs.Press.{number_in}

@@ -26,18 +26,18 @@ use Rattle.rules.specs.Decoded.{decoded}
 use Rattle.rules.specs.Verdict.{verdict as verdictOf}
 use Rattle.rules.proofs.Obeys.{Obeys}
 use Rattle.run.specs.Run.{State, blank, world, view, AllReadTrue, of_run}
-use Rattle.log.specs.Rows.{is_initial}
-use Rattle.log.specs.Lines.{lines}
-use Rattle.log.specs.Faults.{no_fault, log_fault, first_fault, untrue, step_fault}
-use Rattle.log.specs.Replay.{Values}
-use Rattle.log.specs.Recorded.{constants_alone, AllInside}
-use Rattle.log.specs.Refusal.{FirstUntrue, StepFault}
-use Rattle.log.proofs.FirstFault.{None, Marks, number_first, first_number, number_untrue, untrue_number, number_fault, fault_number}
-use Rattle.log.proofs.Judged.{predicates_judged, judged_predicates}
-use Rattle.log.proofs.Step.{Held, agree_constants, seen_axioms}
-use Rattle.log.proofs.Lines.{written_lines}
-use Rattle.log.proofs.Steps.{of_variable, variable_of_lem}
-use Rattle.log.proofs.Runs.{of_event_lem, role_later}
+use Rattle.recording.specs.Rows.{is_initial}
+use Rattle.recording.specs.Lines.{lines}
+use Rattle.recording.specs.Faults.{no_fault, log_fault, first_fault, untrue, step_fault}
+use Rattle.recording.specs.Replay.{Values}
+use Rattle.recording.specs.Recorded.{constants_alone, AllInside}
+use Rattle.recording.specs.Refusal.{FirstUntrue, StepFault}
+use Rattle.recording.proofs.FirstFault.{None, Marks, number_first, first_number, number_untrue, untrue_number, number_fault, fault_number}
+use Rattle.recording.proofs.Judged.{predicates_judged, judged_predicates}
+use Rattle.recording.proofs.Step.{Held, agree_constants, seen_axioms}
+use Rattle.recording.proofs.Lines.{written_lines}
+use Rattle.recording.proofs.Steps.{of_variable, variable_of_lem}
+use Rattle.recording.proofs.Runs.{of_event_lem, role_later}
 use Rattle.bench.specs.declared.Record.{Record}
 use Rattle.bench.specs.declared.Press.{Press}
 use Rattle.bench.specs.declared.Press.TheVariants.{Performed, Refused}

@@ -8,7 +8,7 @@ use Rattle.machine.specs.Machine.{Machine}
 use Rattle.machine.specs.Described.{machine_of}
 use Rattle.rules.specs.Decoded.{decoded}
 use Rattle.run.specs.Run.{Taken}
-use Rattle.log.specs.Recorded.{steps_rows, Recorded, Inside}
+use Rattle.recording.specs.Recorded.{steps_rows, Recorded, Inside}
 use Rattle.bench.specs.declared.Record.{Record}
 use Rattle.bench.specs.declared.Press.TheVariants.{Performed}
 use Rattle.bench.specs.State.{values_in}

@@ -8,8 +8,8 @@ use Rattle.table.specs.Names.{identifier_tag}
 use Rattle.table.specs.Rows.{Rows, count}
 use Rattle.machine.specs.Machine.{Action, unassigned, becomes_equal, becomes_such_that}
 use Rattle.machine.specs.Described.{action_of}
-use Rattle.log.specs.Rows.{is_given, is_state_variable, is_step_row}
-use Rattle.log.specs.Replay.{Values, Found, found, bad, read_values}
+use Rattle.recording.specs.Rows.{is_given, is_state_variable, is_step_row}
+use Rattle.recording.specs.Replay.{Values, Found, found, bad, read_values}
 
 abbrev pub is_such_that : Action → Bool
 is_such_that unassigned = false

@@ -14,9 +14,9 @@ use Rattle.rules.specs.declared.Verdict.{Verdict}
 use Rattle.rules.specs.declared.Verdict.TheVariants as verdict
 use Rattle.rules.specs.Decoded.{decoded}
 use Rattle.rules.specs.Verdict.{verdict as verdictOf}
-use Rattle.log.specs.Lines.{lines}
-use Rattle.log.specs.Faults.{no_fault, log_fault, first_fault, untrue, step_fault}
-use Rattle.log.specs.Replay.{Values}
+use Rattle.recording.specs.Lines.{lines}
+use Rattle.recording.specs.Faults.{no_fault, log_fault, first_fault, untrue, step_fault}
+use Rattle.recording.specs.Replay.{Values}
 use Rattle.bench.specs.declared.Record.{Record}
 use Rattle.bench.specs.declared.Press.{Press}
 use Rattle.bench.specs.declared.Press.TheVariants.{Performed, Refused}

@@ -16,8 +16,8 @@ use Rattle.rules.specs.declared.Verdict.TheVariants as verdict
 use Rattle.rules.specs.Decoded.{decoded}
 use Rattle.rules.specs.Verdict.{verdict as verdictOf}
 use Rattle.run.specs.Run.{State, blank, AllReadTrue, Step, Taken, of_run}
-use Rattle.log.specs.Rows.{step_tag, is_state_variable}
-use Rattle.log.specs.Recorded.{value_row, logged_value, constants_alone, AllInside, StepInside}
+use Rattle.recording.specs.Rows.{step_tag, is_state_variable}
+use Rattle.recording.specs.Recorded.{value_row, logged_value, constants_alone, AllInside, StepInside}
 use Rattle.bench.specs.declared.Record.{Record}
 use Rattle.bench.specs.State.{values_in, types_in, value_of, IsState, with_values_of}
 use Rattle.bench.specs.Choice.{asked}

@@ -11,9 +11,9 @@ use Rattle.table.specs.Rows.{Rows, count}
 use Rattle.machine.specs.Machine.{Action, unassigned, becomes_equal, becomes_such_that, Machine}
 use Rattle.machine.specs.Described.{machine_of}
 use Rattle.run.specs.Run.{State, blank, view, AllReadTrue, of_run}
-use Rattle.log.specs.Faults.{log_fault}
-use Rattle.log.specs.Recorded.{constants_alone, AllInside}
-use Rattle.log.specs.Refusal.{FirstUntrue, StepFault}
+use Rattle.recording.specs.Faults.{log_fault}
+use Rattle.recording.specs.Recorded.{constants_alone, AllInside}
+use Rattle.recording.specs.Refusal.{FirstUntrue, StepFault}
 use Rattle.bench.specs.State.{IsState}
 use Rattle.bench.specs.Press.{answered}
 use Rattle.bench.specs.Pressed.{state_of, choice_rows}

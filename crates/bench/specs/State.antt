@@ -7,7 +7,7 @@ use Rattle.lists.specs.Different.{some_of}
 use Rattle.formula.specs.Values.{equalℤ}
 use Rattle.table.specs.Names.{boolean_type, identifier_tag}
 use Rattle.table.specs.Rows.{Rows, count, type_of}
-use Rattle.log.specs.Rows.{is_state_variable}
+use Rattle.recording.specs.Rows.{is_state_variable}
 use Rattle.bench.specs.declared.Record.{Record}
 
 unfoldable pub values_in : List Record → List ℤ

@@ -14,12 +14,12 @@ use Rattle.answer.proofs.Answer.{answer_exact}
 use Rattle.rules.specs.declared.Verdict.TheVariants as verdict
 use Rattle.rules.specs.Decoded.{decoded}
 use Rattle.rules.specs.Verdict.{verdict as verdictOf}
-use Rattle.log.specs.Faults.{outside_fault, undefined_fault}
-use Rattle.log.specs.Replay.{replay_by, replay}
-use Rattle.log.specs.declared.Replay.{Replay}
-use Rattle.log.specs.declared.Replay.TheVariants.{Steps, Refused}
-use Rattle.log.proofs.Refusals.{refused_number}
-use Rattle.log.proofs.Exact.{replay_refused}
+use Rattle.recording.specs.Faults.{outside_fault, undefined_fault}
+use Rattle.recording.specs.Replay.{replay_by, replay}
+use Rattle.recording.specs.declared.Replay.{Replay}
+use Rattle.recording.specs.declared.Replay.TheVariants.{Steps, Refused}
+use Rattle.recording.proofs.Refusals.{refused_number}
+use Rattle.recording.proofs.Exact.{replay_refused}
 use Rattle.bench.specs.State.{values_in, types_in}
 use Rattle.bench.specs.Press.{Outcome, made, refused, outcome_by, reply_of, records_outcome, Pressed, press, Previewed, preview}
 use Rattle.bench.specs.declared.Record.{Record}

@@ -25,12 +25,12 @@ use Rattle.rules.specs.declared.Verdict.{Verdict}
 use Rattle.rules.specs.declared.Verdict.TheVariants as verdict
 use Rattle.rules.specs.Decoded.{decoded}
 use Rattle.rules.specs.Verdict.{verdict as verdictOf}
-use Rattle.log.specs.Rows.{is_initial, logged, is_step_row}
-use Rattle.log.specs.Lines.{lines}
-use Rattle.log.specs.Faults.{no_fault, outside_fault, undefined_fault, log_fault, fault_of, first_fault, untrue, not_allowed, step_fault}
-use Rattle.log.specs.Replay.{Values, Found, found, bad, no_values, read_values, moved, judged, replay_from, replay_log, replay_by, replay}
-use Rattle.log.specs.declared.Replay.{Replay}
-use Rattle.log.specs.declared.Replay.TheVariants.{Refused}
+use Rattle.recording.specs.Rows.{is_initial, logged, is_step_row}
+use Rattle.recording.specs.Lines.{lines}
+use Rattle.recording.specs.Faults.{no_fault, outside_fault, undefined_fault, log_fault, fault_of, first_fault, untrue, not_allowed, step_fault}
+use Rattle.recording.specs.Replay.{Values, Found, found, bad, no_values, read_values, moved, judged, replay_from, replay_log, replay_by, replay}
+use Rattle.recording.specs.declared.Replay.{Replay}
+use Rattle.recording.specs.declared.Replay.TheVariants.{Refused}
 use Rattle.bench.specs.State.{values_in, types_in, is_state, updated}
 use Rattle.bench.specs.Choice.{Choice, chosen, none, choice}
 use Rattle.bench.specs.Press.{Outcome, made, refused, answered, after_by, complete, completed, press_fault, press_choice, at_hand, press_on, outcome_by, outcome}

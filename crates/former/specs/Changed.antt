@@ -10,9 +10,9 @@ use Rattle.rules.specs.Decoded.{decoded}
 use Rattle.rules.specs.Verdict.{verdict as verdictOf}
 use Rattle.run.specs.Run.{blank}
 use Rattle.machine.specs.Described.{machine_of}
-use Rattle.log.specs.Faults.{outside_fault, undefined_fault}
-use Rattle.log.specs.Refusal.{Refusal}
-use Rattle.log.specs.declared.Replay.{Replay}
+use Rattle.recording.specs.Faults.{outside_fault, undefined_fault}
+use Rattle.recording.specs.Refusal.{Refusal}
+use Rattle.recording.specs.declared.Replay.{Replay}
 use Rattle.bench.specs.State.{values_in, types_in}
 use Rattle.bench.specs.Refusal.{PressRefusal}
 use Rattle.bench.specs.Press.{Pressed, Previewed}

@@ -15,12 +15,12 @@ use Rattle.machine.specs.Machine.{Action, unassigned, becomes_equal, becomes_suc
 use Rattle.machine.specs.Described.{machine_of}
 use Rattle.rules.specs.Decoded.{decoded}
 use Rattle.rules.specs.Verdict.{verdict as verdictOf}
-use Rattle.log.specs.Rows.{is_initial, logged, is_step_row}
-use Rattle.log.specs.Lines.{lines}
-use Rattle.log.specs.Faults.{no_fault, log_fault, differs, fault_of, first_fault}
-use Rattle.log.specs.Replay.{Values, Found, found, bad, no_values, read_values, moved, replay_by}
-use Rattle.log.specs.declared.Replay.{Replay}
-use Rattle.log.specs.declared.Replay.TheVariants.{Steps, Refused}
+use Rattle.recording.specs.Rows.{is_initial, logged, is_step_row}
+use Rattle.recording.specs.Lines.{lines}
+use Rattle.recording.specs.Faults.{no_fault, log_fault, differs, fault_of, first_fault}
+use Rattle.recording.specs.Replay.{Values, Found, found, bad, no_values, read_values, moved, replay_by}
+use Rattle.recording.specs.declared.Replay.{Replay}
+use Rattle.recording.specs.declared.Replay.TheVariants.{Steps, Refused}
 use Rattle.bench.specs.State.{values_in, types_in, is_state, updated, with_values_of}
 use Rattle.bench.specs.Choice.{Choice, chosen, none, choice}
 use Rattle.bench.specs.Press.{Outcome, made, refused, answered, at_hand, outcome_by, reply_of, kept_or, Pressed, Previewed}

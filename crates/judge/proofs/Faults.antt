@@ -9,7 +9,7 @@ use borrow.Author.Tests.{eq-eqb, ne_eqb}
 use lib.Dec.{eqb}
 use Rattle.lists.specs.Choice.{pick}
 use Rattle.lists.specs.Below.{numbers, keep}
-use Rattle.log.specs.Faults.{no_fault, first_fault}
+use Rattle.recording.specs.Faults.{no_fault, first_fault}
 use Rattle.judge.specs.Judge.{fault_or}
 
 pub first_join : (xs ys : List ℕ) → first_fault (xs ++ ys) ≡ fault_or (first_fault xs) (first_fault ys)

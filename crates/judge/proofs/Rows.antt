@@ -13,7 +13,7 @@ use Rattle.table.specs.Rows.{Rows, tagged, is_action, count}
 use Rattle.scan.specs.declared.Span.{Span}
 use Rattle.scan.specs.Spans.{of_tag, tag_span}
 use Rattle.scan.proofs.Spans.{tag_spans}
-use Rattle.log.specs.Faults.{no_fault}
+use Rattle.recording.specs.Faults.{no_fault}
 use Rattle.judge.specs.Judge.{judged_root, root_fault, row_fault, first_untrue, variable_fault, first_not_allowed}
 use Rattle.judge.proofs.Faults.{NoneFrom, first_none, first_found}
 

@@ -19,8 +19,8 @@ use Rattle.table.specs.Rows.{Rows, tagged, section, type_of}
 use Rattle.machine.specs.Machine.{Action, Machine}
 use Rattle.machine.specs.Described.{type_numbered, tree_of, sets, belonging, variables_of, machine_of}
 use Rattle.machine.proofs.Described.{action_by_row}
-use Rattle.log.specs.Rows.{is_initial}
-use Rattle.log.specs.Faults.{no_fault, first_fault, untrue, not_allowed, step_fault, fault_of, differs}
+use Rattle.recording.specs.Rows.{is_initial}
+use Rattle.recording.specs.Faults.{no_fault, first_fault, untrue, not_allowed, step_fault, fault_of, differs}
 use Rattle.bench.specs.Press.{press_fault}
 use Rattle.judge.specs.Judge.{fault_or, root_fault, row_fault, first_untrue, action_fault, first_not_allowed}
 use Rattle.judge.proofs.Faults.{first_join, first_keep}

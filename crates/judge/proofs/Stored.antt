@@ -16,7 +16,7 @@ use Rattle.signed.proofs.Answers.{answer_found}
 use Rattle.signed.proofs.Numbers.{inside, seen, seen_is}
 use Rattle.signed.specs.declared.Found.TheVariants.{Number, Truth, Outside, Undefined}
 use Rattle.operands.specs.Operands.{is_value, value_of}
-use Rattle.log.specs.Faults.{differs, fault_of}
+use Rattle.recording.specs.Faults.{differs, fault_of}
 
 stored_within : (s : ℕ) (z : ℤ) → mag z < 2 ^ 63 → within (wrap (type_numbered s) (stored_value (type_numbered s) z)) ≡ value (wrap (type_numbered s) (stored_value (type_numbered s) z))
 unfolding type_numbered within

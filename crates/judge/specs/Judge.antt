@@ -6,8 +6,8 @@ use Rattle.answer.specs.Stored.{stored_env}
 use Rattle.table.specs.Names.{axiom_tag, identifier_tag}
 use Rattle.table.specs.Rows.{Rows, tagged, count}
 use Rattle.machine.specs.Described.{action_of, machine_of}
-use Rattle.log.specs.Rows.{is_state_variable}
-use Rattle.log.specs.Faults.{no_fault, first_fault, untrue, not_allowed}
+use Rattle.recording.specs.Rows.{is_state_variable}
+use Rattle.recording.specs.Faults.{no_fault, first_fault, untrue, not_allowed}
 
 -- a fault, or the next one
 abbrev pub fault_or : ℕ → ℕ → ℕ

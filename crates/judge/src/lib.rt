@@ -7,14 +7,14 @@ ghost use Rattle.table.specs.Counts.{counts_of};
 ghost use Rattle.scan.specs.Spans.{Spanned};
 ghost use Rattle.signed.specs.Found.{answer_of};
 ghost use Rattle.operands.specs.Operands.{value_of};
-ghost use Rattle.log.specs.Rows.{is_initial};
-ghost use Rattle.log.specs.Faults.{differs, fault_of, step_fault};
+ghost use Rattle.recording.specs.Rows.{is_initial};
+ghost use Rattle.recording.specs.Faults.{differs, fault_of, step_fault};
 ghost use Rattle.bench.specs.Press.{press_fault};
 ghost use Rattle.judge.specs.Judge.{is_judged, judged_root, root_fault, row_fault, first_untrue, action_fault, variable_fault, first_not_allowed};
 
 use evaluate::{evaluate_expression, evaluate_predicate, stored_value, value_at};
 use events::is_initial;
-use log::Replay;
+use recording::Replay;
 use operands::equal_values;
 use scan::{action_row, span_at};
 use signed::Found;

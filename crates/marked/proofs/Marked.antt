@@ -29,10 +29,10 @@ use Rattle.reply.specs.Printed.{identifiers_in, sequent_rows, rows_bytes}
 use Rattle.reply.specs.Replies.{write_rows, write_sequent, spell_entry, output}
 use Rattle.answer.specs.Answer.{within, operands, binary_answer, division_answer, connective_answer, unary_answer, answer}
 use Rattle.answer.specs.Stored.{stored}
-use Rattle.log.specs.Rows.{logged}
-use Rattle.log.specs.Lines.{lines_to, lines}
-use Rattle.log.specs.Faults.{first_fault, untrue, not_allowed, step_fault}
-use Rattle.log.specs.Replay.{move, read_values, replay_from, replay_log, replay}
+use Rattle.recording.specs.Rows.{logged}
+use Rattle.recording.specs.Lines.{lines_to, lines}
+use Rattle.recording.specs.Faults.{first_fault, untrue, not_allowed, step_fault}
+use Rattle.recording.specs.Replay.{move, read_values, replay_from, replay_log, replay}
 use Rattle.bench.specs.State.{values_in, types_in, laid, placed, is_state, updated, with_values_of}
 use Rattle.bench.specs.Choice.{asked, choice}
 use Rattle.bench.specs.Press.{after_by, complete, press_fault, press_on, outcome, records_outcome, press, preview}

@@ -18,9 +18,9 @@ use Rattle.reply.specs.declared.Reply.TheVariants as reply
 use Rattle.reply.specs.Row.{row}
 use Rattle.reply.specs.Printed.{rows_bytes}
 use Rattle.reply.specs.Replies.{Outcome, write_sequent, spell_entry, output}
-use Rattle.log.specs.declared.Replay.{Replay}
-use Rattle.log.specs.declared.Replay.TheVariants as replayed
-use Rattle.log.specs.Replay.{replay}
+use Rattle.recording.specs.declared.Replay.{Replay}
+use Rattle.recording.specs.declared.Replay.TheVariants as replayed
+use Rattle.recording.specs.Replay.{replay}
 use Rattle.bench.specs.declared.Record.{Record}
 use Rattle.bench.specs.declared.Press.{Press}
 use Rattle.bench.specs.declared.Press.TheVariants as pressed

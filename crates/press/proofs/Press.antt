@@ -15,9 +15,9 @@ use Rattle.rules.specs.Verdict.{judge, verdict as verdictOf}
 use Rattle.rules.proofs.Cases.{judge_passes}
 use Rattle.rules.proofs.Obeys.{passes_obeys}
 use Rattle.rules.proofs.Full.{few_identifiers}
-use Rattle.log.specs.Faults.{no_fault, log_fault}
-use Rattle.log.specs.Lines.{lines}
-use Rattle.log.specs.Replay.{Values}
+use Rattle.recording.specs.Faults.{no_fault, log_fault}
+use Rattle.recording.specs.Lines.{lines}
+use Rattle.recording.specs.Replay.{Values}
 use Rattle.values.specs.Values.{values_of}
 use Rattle.bench.specs.declared.Press.{Press}
 use Rattle.bench.specs.declared.Press.TheVariants.{Performed, Refused}

@@ -18,10 +18,10 @@ use Rattle.row.specs.declared.Line.TheVariants as line
 use Rattle.row.specs.declared.Read.{Read}
 use Rattle.row.specs.declared.Read.TheVariants as read
 use Rattle.table.specs.Rows.{Rows}
-use Rattle.log.specs.Lines.{lines}
-use Rattle.log.specs.Rows.{is_step_row}
-use Rattle.log.specs.Replay.{Values, Found, found, read_values}
-use Rattle.log.proofs.Lines.{lines_none, lines_nothing}
+use Rattle.recording.specs.Lines.{lines}
+use Rattle.recording.specs.Rows.{is_step_row}
+use Rattle.recording.specs.Replay.{Values, Found, found, read_values}
+use Rattle.recording.proofs.Lines.{lines_none, lines_nothing}
 use Rattle.values.specs.declared.Reached.{Reached}
 use Rattle.values.specs.declared.Reached.TheVariants.{Next, Bad}
 use Rattle.values.specs.Values.{wanted, lines_at, row_at, read_on, ReadsValues}

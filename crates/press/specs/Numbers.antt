@@ -1,7 +1,7 @@
 -- How the code presses on the values and the types of a state, two lists of numbers.
 use Rattle.std.specs.Prelude.{Bool, true, false, List, ℕ, eqb, ℤ, length}
 use Rattle.lists.specs.Choice.{pick}
-use Rattle.log.specs.Replay.{Values}
+use Rattle.recording.specs.Replay.{Values}
 use Rattle.bench.specs.Choice.{Choice, chosen, none}
 use Rattle.bench.specs.declared.Press.{Press}
 use Rattle.bench.specs.declared.Press.TheVariants.{Performed, Refused}

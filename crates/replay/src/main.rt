@@ -9,7 +9,7 @@ ghost use Rattle.nodes.specs.Notes.{Noted};
 ghost use Rattle.replay.specs.Reply.{reply_row};
 
 use libc::{STDERR_FILENO, STDOUT_FILENO};
-use log::Replay;
+use recording::Replay;
 use nodes::fill_notes;
 use reply::tags;
 use row::Row;

@@ -5,8 +5,8 @@ use Rattle.rules.specs.declared.Verdict.{Verdict}
 use Rattle.rules.specs.declared.Verdict.TheVariants as verdict
 use Rattle.reply.specs.declared.Reply.{Reply}
 use Rattle.reply.specs.declared.Reply.TheVariants as reply
-use Rattle.log.specs.declared.Replay.{Replay}
-use Rattle.log.specs.declared.Replay.TheVariants as replay
+use Rattle.recording.specs.declared.Replay.{Replay}
+use Rattle.recording.specs.declared.Replay.TheVariants as replay
 use Rattle.bench.specs.declared.Press.{Press}
 use Rattle.bench.specs.declared.Press.TheVariants as press
 

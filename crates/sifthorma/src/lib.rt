@@ -2,12 +2,12 @@
 ghost use Rattle.std.specs.Prelude.{◌≡◌};
 ghost use Rattle.rules.specs.Verdict.{verdict as verdictOf};
 ghost use Rattle.reply.specs.Replies.{write_sequent, spell_entry};
-ghost use Rattle.log.specs.Replay.{replay as replayOf};
+ghost use Rattle.recording.specs.Replay.{replay as replayOf};
 ghost use Rattle.bench.specs.Press.{press as pressOf, preview as previewOf};
 ghost use Rattle.sifthorma.specs.Codes.{verdict_number, verdict_value, reply_number, reply_value, replay_number, replay_value, press_number, press_value};
 
 use bench::{Press, Record};
-use log::Replay;
+use recording::Replay;
 use records::{press, preview};
 use reply::Reply;
 use rules::Verdict;

@@ -15,11 +15,11 @@ use Rattle.table.specs.Rows.{Rows, count}
 use Rattle.table.specs.Counts.{counts_of}
 use Rattle.table.specs.declared.Table.{Table}
 use Rattle.table.proofs.Counts.{counts_identifiers}
-use Rattle.log.specs.declared.Replay.{Replay}
-use Rattle.log.specs.declared.Replay.TheVariants as reply
-use Rattle.log.specs.Lines.{lines}
-use Rattle.log.specs.Replay.{Values, no_values, replay_from, replay_log}
-use Rattle.log.proofs.Enough.{lines_few, replay_enough}
+use Rattle.recording.specs.declared.Replay.{Replay}
+use Rattle.recording.specs.declared.Replay.TheVariants as reply
+use Rattle.recording.specs.Lines.{lines}
+use Rattle.recording.specs.Replay.{Values, no_values, replay_from, replay_log}
+use Rattle.recording.proofs.Enough.{lines_few, replay_enough}
 use Rattle.values.specs.Values.{lines_at, row_at, AtHand}
 use Rattle.steps.specs.declared.Progress.{Progress}
 use Rattle.steps.specs.declared.Progress.TheVariants as step

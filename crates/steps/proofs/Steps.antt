@@ -19,11 +19,11 @@ use Rattle.row.specs.declared.Read.TheVariants as read
 use Rattle.table.specs.Rows.{Rows, count}
 use Rattle.rules.specs.Decoded.{decoded}
 use Rattle.rules.specs.Verdict.{verdict}
-use Rattle.log.specs.declared.Replay.{Replay}
-use Rattle.log.specs.declared.Replay.TheVariants as reply
-use Rattle.log.specs.Rows.{logged, is_step_row}
-use Rattle.log.specs.Faults.{no_fault, log_fault, step_fault}
-use Rattle.log.specs.Replay.{Values, Found, read_values, moved, judged, replay_from, replay_log, replay_by, replay}
+use Rattle.recording.specs.declared.Replay.{Replay}
+use Rattle.recording.specs.declared.Replay.TheVariants as reply
+use Rattle.recording.specs.Rows.{logged, is_step_row}
+use Rattle.recording.specs.Faults.{no_fault, log_fault, step_fault}
+use Rattle.recording.specs.Replay.{Values, Found, read_values, moved, judged, replay_from, replay_log, replay_by, replay}
 use Rattle.values.specs.declared.Reached.{Reached}
 use Rattle.values.specs.declared.Reached.TheVariants.{Next, Bad}
 use Rattle.values.specs.Values.{wanted, lines_at, row_at, AtHand, read_on, ReadsValues, Reaches}

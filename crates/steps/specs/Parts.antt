@@ -5,10 +5,10 @@ use Rattle.row.specs.Row.{width, row_length}
 use Rattle.row.specs.declared.Line.{Line}
 use Rattle.row.specs.declared.Place.{Place}
 use Rattle.table.specs.Rows.{Rows}
-use Rattle.log.specs.declared.Replay.{Replay}
-use Rattle.log.specs.declared.Replay.TheVariants as reply
-use Rattle.log.specs.Lines.{lines}
-use Rattle.log.specs.Replay.{Values, replay_from}
+use Rattle.recording.specs.declared.Replay.{Replay}
+use Rattle.recording.specs.declared.Replay.TheVariants as reply
+use Rattle.recording.specs.Lines.{lines}
+use Rattle.recording.specs.Replay.{Values, replay_from}
 use Rattle.values.specs.Values.{lines_at, row_at}
 use Rattle.steps.specs.declared.Part.{Part}
 use Rattle.steps.specs.declared.Part.TheVariants.{More, Ended, Refused}

@@ -4,11 +4,11 @@ use Rattle.lists.specs.Choice.{pick}
 use Rattle.row.specs.declared.Place.{Place}
 use Rattle.table.specs.Names.{identifier_tag}
 use Rattle.table.specs.Rows.{Rows, count}
-use Rattle.log.specs.declared.Replay.{Replay}
-use Rattle.log.specs.declared.Replay.TheVariants as reply
-use Rattle.log.specs.Rows.{logged}
-use Rattle.log.specs.Faults.{no_fault, log_fault, step_fault}
-use Rattle.log.specs.Replay.{Values, read_values, moved, judged, replay_from}
+use Rattle.recording.specs.declared.Replay.{Replay}
+use Rattle.recording.specs.declared.Replay.TheVariants as reply
+use Rattle.recording.specs.Rows.{logged}
+use Rattle.recording.specs.Faults.{no_fault, log_fault, step_fault}
+use Rattle.recording.specs.Replay.{Values, read_values, moved, judged, replay_from}
 use Rattle.values.specs.Values.{lines_at, row_at, AtHand}
 use Rattle.steps.specs.declared.Progress.{Progress}
 use Rattle.steps.specs.declared.Progress.TheVariants.{Going, Ended, Refused}

@@ -8,14 +8,14 @@ ghost use Rattle.table.specs.Lookups.{most_words};
 ghost use Rattle.scan.specs.Spans.{Spanned};
 ghost use Rattle.nodes.specs.Notes.{Noted};
 ghost use Rattle.rules.specs.Verdict.{judge as judgeOf};
-ghost use Rattle.log.specs.Lines.{lines};
-ghost use Rattle.log.specs.Replay.{replay_log, replay_by, replay as replayOf};
+ghost use Rattle.recording.specs.Lines.{lines};
+ghost use Rattle.recording.specs.Replay.{replay_log, replay_by, replay as replayOf};
 ghost use Rattle.values.specs.Values.{values_of};
 ghost use Rattle.steps.specs.Steps.{ended_after, step_progress, step_values, TakesStep, ReplaysStep, BeginsWithin};
 ghost use Rattle.steps.specs.Parts.{later_row, replay_rest, ReplaysPart, Stops};
 
 use judge::step_fault;
-use log::Replay;
+use recording::Replay;
 use nodes::fill_notes;
 use reader::next_row;
 use row::{Place, Read, Row};

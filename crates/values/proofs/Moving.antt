@@ -8,8 +8,8 @@ use lib.ListN.{get_or, set}
 use Rattle.lists.specs.Choice.{pick}
 use Rattle.table.specs.Rows.{Rows, count}
 use Rattle.machine.specs.Described.{variables_of, machine_of}
-use Rattle.log.specs.Rows.{is_state_variable}
-use Rattle.log.specs.Replay.{Values, move, moved}
+use Rattle.recording.specs.Rows.{is_state_variable}
+use Rattle.recording.specs.Replay.{Values, move, moved}
 use Rattle.values.specs.Values.{values_of}
 use Rattle.values.proofs.Behind.{behind, behind_all, behind_next, behind_none}
 

@@ -25,10 +25,10 @@ use Rattle.table.specs.Rows.{Rows, count, kind_of, owner_of}
 use Rattle.machine.specs.Machine.{unassigned, becomes_equal, becomes_such_that}
 use Rattle.machine.specs.Described.{sets, action_of}
 use Rattle.machine.proofs.Described.{action_by_row}
-use Rattle.log.specs.Rows.{is_initial, is_given, is_value_row, logged}
-use Rattle.log.specs.Replay.{Values, Found, bad, store_by, read_values}
-use Rattle.log.specs.Lines.{lines}
-use Rattle.log.proofs.Lines.{lines_none, lines_torn, lines_whole}
+use Rattle.recording.specs.Rows.{is_initial, is_given, is_value_row, logged}
+use Rattle.recording.specs.Replay.{Values, Found, bad, store_by, read_values}
+use Rattle.recording.specs.Lines.{lines}
+use Rattle.recording.proofs.Lines.{lines_none, lines_torn, lines_whole}
 use Rattle.bench.specs.Choice.{is_such_that, asked}
 use Rattle.values.specs.declared.Reached.{Reached}
 use Rattle.values.specs.declared.Reached.TheVariants.{Next, Bad}

@@ -7,9 +7,9 @@ use Rattle.row.specs.declared.Line.{Line}
 use Rattle.table.specs.Names.{identifier_tag}
 use Rattle.table.specs.Rows.{Rows, count}
 use Rattle.machine.specs.Described.{action_of}
-use Rattle.log.specs.Lines.{lines}
-use Rattle.log.specs.Rows.{is_state_variable, is_given}
-use Rattle.log.specs.Replay.{Values, Found, bad, read_values}
+use Rattle.recording.specs.Lines.{lines}
+use Rattle.recording.specs.Rows.{is_state_variable, is_given}
+use Rattle.recording.specs.Replay.{Values, Found, bad, read_values}
 use Rattle.bench.specs.Choice.{is_such_that}
 use Rattle.values.specs.declared.Reached.{Reached}
 use Rattle.values.specs.declared.Reached.TheVariants.{Next, Bad}

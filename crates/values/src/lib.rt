@@ -8,15 +8,15 @@ ghost use Rattle.table.specs.Rows.{rows_of, kind_of};
 ghost use Rattle.table.specs.Counts.{counts_of};
 ghost use Rattle.scan.specs.Spans.{Spanned};
 ghost use Rattle.machine.specs.Described.{action_of};
-ghost use Rattle.log.specs.Rows.{is_state_variable, is_initial, is_given, is_logged, is_step_row, is_value_row};
-ghost use Rattle.log.specs.Replay.{store_by, moved};
+ghost use Rattle.recording.specs.Rows.{is_state_variable, is_initial, is_given, is_logged, is_step_row, is_value_row};
+ghost use Rattle.recording.specs.Replay.{store_by, moved};
 ghost use Rattle.formula.specs.Values.{whole_number};
 ghost use Rattle.bench.specs.Choice.{is_such_that};
 ghost use Rattle.values.specs.Values.{values_of, row_at, is_told, is_wanted, wanted, ReadsValue, ReadsIdentifier, ReadsValues, Reaches};
 
 use evaluate::value_at;
 use events::is_initial;
-use log::tags;
+use recording::tags;
 use reader::next_row;
 use row::{Place, Read, Row};
 use scan::action_row;

@@ -11,7 +11,7 @@ use Rattle.table.proofs.Counts.{starts_nodes, starts_identifiers}
 use Rattle.machine.specs.Described.{tree_of, machine_of}
 use Rattle.signed.specs.Found.{answer_of}
 use Rattle.signed.proofs.Answers.{answer_found}
-use Rattle.log.specs.Faults.{fault_of}
+use Rattle.recording.specs.Faults.{fault_of}
 use Rattle.judge.proofs.Stored.{stored_value_is, stored_answer_is}
 use Rattle.judge.proofs.Steps.{unassigned_fault, equal_fault, such_fault}
 use Rattle.judge.proofs.action_fault.Statement.{statement}

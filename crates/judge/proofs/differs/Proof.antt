@@ -2,7 +2,7 @@
 use mathlib.Core.Path.{sym, ap, ◌∙◌}
 use borrow.Author.Rules.{rules}
 use Rattle.lists.specs.Choice.{pick}
-use Rattle.log.specs.Faults.{no_fault, log_fault}
+use Rattle.recording.specs.Faults.{no_fault, log_fault}
 use Rattle.judge.proofs.differs.Statement.{statement}
 use Rattle.judge.proofs.differs.Tie as tie
 

@@ -3,7 +3,7 @@ use mathlib.Core.Path.{sym, ◌∙◌}
 use native.Mathlib.Omega.{arith}
 use borrow.Author.Rules.{rules}
 use Rattle.table.specs.Rows.{rows_of}
-use Rattle.log.specs.Faults.{step_fault}
+use Rattle.recording.specs.Faults.{step_fault}
 use Rattle.judge.proofs.Steps.{press_faults, former, latter}
 use Rattle.judge.proofs.press_fault.Statement.{statement}
 use Rattle.judge.proofs.press_fault.Tie as tie

@@ -3,7 +3,7 @@ use mathlib.Core.Path.{sym, ap, ◌∙◌}
 use borrow.Author.Rules.{rules}
 use Rattle.lists.specs.Choice.{pick}
 use Rattle.table.specs.Rows.{rows_of}
-use Rattle.log.specs.Faults.{no_fault}
+use Rattle.recording.specs.Faults.{no_fault}
 use Rattle.judge.specs.Judge.{judged_root, root_fault}
 use Rattle.judge.proofs.row_fault.Statement.{statement}
 use Rattle.judge.proofs.row_fault.Tie as tie

@@ -4,7 +4,7 @@ use borrow.Author.Rules.{rules}
 use Rattle.lists.specs.Choice.{pick}
 use Rattle.table.specs.Names.{is_variable_of}
 use Rattle.table.specs.Rows.{rows_of}
-use Rattle.log.specs.Faults.{no_fault}
+use Rattle.recording.specs.Faults.{no_fault}
 use Rattle.judge.specs.Judge.{action_fault}
 use Rattle.judge.proofs.variable_fault.Statement.{statement}
 use Rattle.judge.proofs.variable_fault.Tie as tie

@@ -6,7 +6,7 @@ use lib.IntN.{pos}
 use lib.ListN.{length, replicate}
 use borrow.Author.Rules.{rules}
 use Rattle.table.specs.Rows.{rows_of}
-use Rattle.log.specs.Lines.{lines}
+use Rattle.recording.specs.Lines.{lines}
 use Rattle.values.specs.Values.{values_of}
 use Rattle.bench.specs.Choice.{choice}
 use Rattle.bench.specs.Press.{press_choice}

@@ -4,7 +4,7 @@ use mathlib.Core.Path.{sym, ap}
 use borrow.Author.Rules.{rules}
 use borrow.Author.Tests.{eq-eqb, ne_eqb}
 use Rattle.lists.specs.Choice.{pick}
-use Rattle.log.specs.Faults.{log_fault}
+use Rattle.recording.specs.Faults.{log_fault}
 use Rattle.steps.specs.declared.Progress.TheVariants.{Ended, Refused}
 use Rattle.steps.proofs.ended.Statement.{statement}
 use Rattle.steps.proofs.ended.Tie as tie

@@ -6,7 +6,7 @@ use Rattle.rules.specs.Decoded.{decoded}
 use Rattle.rules.specs.Verdict.{judge}
 use Rattle.verdict.specs.Loaded.{judged}
 use Rattle.verdict.proofs.Filled.{verdict_judged, filled}
-use Rattle.log.specs.Replay.{replay_by, replay_log}
+use Rattle.recording.specs.Replay.{replay_by, replay_log}
 use Rattle.steps.proofs.Steps.{replay_is}
 use Rattle.steps.proofs.replay.Statement.{statement}
 use Rattle.steps.proofs.replay.Tie as tie

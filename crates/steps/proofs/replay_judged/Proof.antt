@@ -2,7 +2,7 @@
 use mathlib.Core.Path.{ap, sym, ◌∙◌}
 use borrow.Author.Rules.{rules}
 use Rattle.table.specs.Rows.{rows_of}
-use Rattle.log.specs.Replay.{replay_by, replay_log}
+use Rattle.recording.specs.Replay.{replay_by, replay_log}
 use Rattle.steps.proofs.replay_judged.Statement.{statement}
 use Rattle.steps.proofs.replay_judged.Tie as tie
 

@@ -3,7 +3,7 @@ use mathlib.Core.Path.{ap, ◌∙◌}
 use mathlib.Core.Bool.{◌&&◌}
 use lib.Dec.{eqb}
 use borrow.Author.Rules.{rules}
-use Rattle.log.specs.Rows.{is_logged}
+use Rattle.recording.specs.Rows.{is_logged}
 use Rattle.values.proofs.is_value_row.Statement.{statement}
 use Rattle.values.proofs.is_value_row.Tie as tie
 

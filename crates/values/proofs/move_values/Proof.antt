@@ -6,7 +6,7 @@ use lib.ListN.{length}
 use borrow.Author.Rules.{rules}
 use Rattle.table.specs.Rows.{rows_of}
 use Rattle.table.proofs.Counts.{counts_identifiers}
-use Rattle.log.specs.Replay.{move, moved}
+use Rattle.recording.specs.Replay.{move, moved}
 use Rattle.values.specs.Values.{values_of}
 use Rattle.values.proofs.Moving.{variables_from, move_start, move_next, move_end}
 use Rattle.values.proofs.move_values.Statement.{statement}

@@ -3,7 +3,7 @@ use mathlib.Core.Path.{sym, ap, ◌∙◌}
 use borrow.Author.Rules.{rules}
 use Rattle.formula.specs.Values.{whole_number}
 use Rattle.signed.proofs.Numbers.{seen_is}
-use Rattle.log.specs.Replay.{store_by}
+use Rattle.recording.specs.Replay.{store_by}
 use Rattle.values.specs.Values.{values_of}
 use Rattle.values.proofs.Reading.{row_stored, row_left}
 use Rattle.values.proofs.read_row.Statement.{statement}

@@ -3,7 +3,7 @@ use mathlib.Core.Path.{refl, sym, ap, ◌∙◌}
 use lib.ListN.{set}
 use borrow.Author.Rules.{rules}
 use Rattle.signed.proofs.Numbers.{seen_is}
-use Rattle.log.specs.Replay.{store_by}
+use Rattle.recording.specs.Replay.{store_by}
 use Rattle.values.specs.Values.{values_of}
 use Rattle.values.proofs.store.Statement.{statement}
 use Rattle.values.proofs.store.Tie as tie

@@ -20,18 +20,18 @@ use Rattle.machine.specs.Machine.{Action, unassigned, becomes_equal, becomes_suc
 use Rattle.machine.specs.Described.{machine_of}
 use Rattle.rules.proofs.Obeys.{Obeys}
 use Rattle.run.specs.Run.{State}
-use Rattle.log.specs.declared.Replay.{Replay}
-use Rattle.log.specs.declared.Replay.TheVariants.{Steps, Refused}
-use Rattle.log.specs.Rows.{logged}
-use Rattle.log.specs.Lines.{lines}
-use Rattle.log.specs.Faults.{outside_fault, undefined_fault, log_fault}
-use Rattle.log.specs.Replay.{replay_log}
-use Rattle.log.specs.Refusal.{FormulaFault, outside_term, undefined_term, other_value, ActionFault}
-use Rattle.log.specs.Refusal.{StepFault, axiom_fault, guard_fault, action_fault_lem, beginning, Begun}
-use Rattle.log.specs.Refusal.{Refusal, empty, bad_step, bad_value, ends_inside, step_fault_lem, after_step}
-use Rattle.log.proofs.Lines.{lines_nothing}
-use Rattle.log.proofs.Runs.{steps_never, RunOf, replay_recorded, recorded_replay}
-use Rattle.log.proofs.Refusals.{refused_number, refused_row, begun_length, RefusalOf, refusal_exact}
+use Rattle.recording.specs.declared.Replay.{Replay}
+use Rattle.recording.specs.declared.Replay.TheVariants.{Steps, Refused}
+use Rattle.recording.specs.Rows.{logged}
+use Rattle.recording.specs.Lines.{lines}
+use Rattle.recording.specs.Faults.{outside_fault, undefined_fault, log_fault}
+use Rattle.recording.specs.Replay.{replay_log}
+use Rattle.recording.specs.Refusal.{FormulaFault, outside_term, undefined_term, other_value, ActionFault}
+use Rattle.recording.specs.Refusal.{StepFault, axiom_fault, guard_fault, action_fault_lem, beginning, Begun}
+use Rattle.recording.specs.Refusal.{Refusal, empty, bad_step, bad_value, ends_inside, step_fault_lem, after_step}
+use Rattle.recording.proofs.Lines.{lines_nothing}
+use Rattle.recording.proofs.Runs.{steps_never, RunOf, replay_recorded, recorded_replay}
+use Rattle.recording.proofs.Refusals.{refused_number, refused_row, begun_length, RefusalOf, refusal_exact}
 
 -- "16 .. 17 .. 18"
 abbrev pub LogNumber : ℕ → Type 0

@@ -18,12 +18,12 @@ use Rattle.row.specs.declared.Line.TheVariants.{Whole, Malformed}
 use Rattle.formula.specs.Values.{whole_number}
 use Rattle.formula.proofs.Truth.{test_true, true_test}
 use Rattle.table.specs.Rows.{Rows}
-use Rattle.log.specs.Rows.{is_value_row}
-use Rattle.log.specs.Lines.{lines}
-use Rattle.log.specs.Replay.{Values, Found, found, bad, store, read_values}
-use Rattle.log.specs.Refusal.{Begins}
-use Rattle.log.proofs.Values.{bad_never, read_first}
-use Rattle.log.proofs.Lines.{nothing_more, head_is, whole_never, lines_none, lines_nothing, lines_open, open_lines}
+use Rattle.recording.specs.Rows.{is_value_row}
+use Rattle.recording.specs.Lines.{lines}
+use Rattle.recording.specs.Replay.{Values, Found, found, bad, store, read_values}
+use Rattle.recording.specs.Refusal.{Begins}
+use Rattle.recording.proofs.Values.{bad_never, read_first}
+use Rattle.recording.proofs.Lines.{nothing_more, head_is, whole_never, lines_none, lines_nothing, lines_open, open_lines}
 
 -- ---- a row that is bad
 

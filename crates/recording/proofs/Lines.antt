@@ -17,8 +17,8 @@ use Rattle.row.specs.declared.Row.{Row}
 use Rattle.row.specs.declared.Line.{Line}
 use Rattle.row.specs.declared.Line.TheVariants.{Whole, Malformed}
 use Rattle.row.proofs.Form.{row_length_lem, row_form, written_row_reads}
-use Rattle.log.specs.Lines.{lines_to, lines}
-use Rattle.log.proofs.Values.{LineFormed}
+use Rattle.recording.specs.Lines.{lines_to, lines}
+use Rattle.recording.proofs.Values.{LineFormed}
 
 -- the first row of so many bytes
 abbrev first_line : List ℕ → Line

@@ -13,13 +13,13 @@ use Rattle.row.specs.declared.Line.{Line}
 use Rattle.row.specs.declared.Line.TheVariants.{Whole, Malformed}
 use Rattle.formula.specs.Values.{whole_number}
 use Rattle.table.specs.Rows.{Rows}
-use Rattle.log.specs.declared.Replay.{Replay}
-use Rattle.log.specs.declared.Replay.TheVariants.{Refused}
-use Rattle.log.specs.Rows.{logged, is_step_row}
-use Rattle.log.specs.Lines.{lines_to, lines}
-use Rattle.log.specs.Faults.{no_fault, log_fault, step_fault}
-use Rattle.log.specs.Replay.{Values, Found, found, bad, store, read_values, moved, judged, replay_from}
-use Rattle.log.proofs.Values.{read_first}
+use Rattle.recording.specs.declared.Replay.{Replay}
+use Rattle.recording.specs.declared.Replay.TheVariants.{Refused}
+use Rattle.recording.specs.Rows.{logged, is_step_row}
+use Rattle.recording.specs.Lines.{lines_to, lines}
+use Rattle.recording.specs.Faults.{no_fault, log_fault, step_fault}
+use Rattle.recording.specs.Replay.{Values, Found, found, bad, store, read_values, moved, judged, replay_from}
+use Rattle.recording.proofs.Values.{read_first}
 
 -- at most a row a byte
 to_few : (most : ℕ) (bytes : List ℕ) → length (lines_to most bytes) ≤ most

@@ -17,15 +17,15 @@ use Rattle.rules.specs.Offence.{machine}
 use Rattle.rules.proofs.Obeys.{Obeys}
 use Rattle.rules.proofs.Accepted.{accepted_none, none_obeys}
 use Rattle.run.proofs.SafeRun.{safe_run}
-use Rattle.log.specs.declared.Replay.TheVariants.{Steps, Refused}
-use Rattle.log.specs.Lines.{lines}
-use Rattle.log.specs.Faults.{log_fault}
-use Rattle.log.specs.Replay.{replay_by, replay_log, replay}
-use Rattle.log.specs.Recorded.{Recorded}
-use Rattle.log.specs.Replayed.{SafeLog}
-use Rattle.log.proofs.Runs.{steps_never, RunOf, replay_recorded, recorded_replay}
-use Rattle.log.proofs.Refusals.{refused_number, refused_row, RefusalOf, refusal_exact}
-use Rattle.log.proofs.Marks.{LogNumber, refused_numbers, refused_rows, refused_no_row}
+use Rattle.recording.specs.declared.Replay.TheVariants.{Steps, Refused}
+use Rattle.recording.specs.Lines.{lines}
+use Rattle.recording.specs.Faults.{log_fault}
+use Rattle.recording.specs.Replay.{replay_by, replay_log, replay}
+use Rattle.recording.specs.Recorded.{Recorded}
+use Rattle.recording.specs.Replayed.{SafeLog}
+use Rattle.recording.proofs.Runs.{steps_never, RunOf, replay_recorded, recorded_replay}
+use Rattle.recording.proofs.Refusals.{refused_number, refused_row, RefusalOf, refusal_exact}
+use Rattle.recording.proofs.Marks.{LogNumber, refused_numbers, refused_rows, refused_no_row}
 
 accepted_obeys : (table : List ℕ) (count : ℕ) → verdictOf table ≡ verdict.Accepted count → Obeys (decoded table)
 accepted_obeys table count a = none_obeys table (accepted_none table count a).0

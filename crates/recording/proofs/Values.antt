@@ -23,10 +23,10 @@ use Rattle.answer.specs.Stored.{stored_value}
 use Rattle.table.specs.Rows.{Rows, type_of}
 use Rattle.machine.specs.Machine.{Machine}
 use Rattle.machine.specs.Described.{machine_of}
-use Rattle.log.specs.Rows.{is_given, is_logged, is_value_row}
-use Rattle.log.specs.Replay.{Values, Found, found, bad, store_by, store, read_values, move}
-use Rattle.log.specs.Recorded.{logged_word, value_row}
-use Rattle.log.proofs.Words.{stored_word, word_stored, word_logged}
+use Rattle.recording.specs.Rows.{is_given, is_logged, is_value_row}
+use Rattle.recording.specs.Replay.{Values, Found, found, bad, store_by, store, read_values, move}
+use Rattle.recording.specs.Recorded.{logged_word, value_row}
+use Rattle.recording.proofs.Words.{stored_word, word_stored, word_logged}
 
 -- a row that stands in the log is in the row form
 abbrev pub LineFormed : Line → Type 0

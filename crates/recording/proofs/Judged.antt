@@ -22,10 +22,10 @@ use Rattle.table.specs.Rows.{Rows}
 use Rattle.machine.specs.Machine.{Action, unassigned, becomes_equal, becomes_such_that, Machine}
 use Rattle.machine.specs.Described.{machine_of}
 use Rattle.run.specs.Run.{ReadsTrue, Allows}
-use Rattle.log.specs.Faults.{no_fault, fault_of, untrue, not_allowed}
-use Rattle.log.specs.Recorded.{ActionInside}
-use Rattle.log.proofs.Faults.{differs_none, none_differs, fault_none, none_fault}
-use Rattle.log.proofs.Sight.{never, ActionSeen}
+use Rattle.recording.specs.Faults.{no_fault, fault_of, untrue, not_allowed}
+use Rattle.recording.specs.Recorded.{ActionInside}
+use Rattle.recording.proofs.Faults.{differs_none, none_differs, fault_none, none_fault}
+use Rattle.recording.proofs.Sight.{never, ActionSeen}
 
 -- fewer after values count: none, or that of one variable
 module _ {type : ℕ → ValueType} {P Q : ℕ → Bool} {ρ σ : Env type} (h : Agree P Q ρ σ) where

@@ -23,22 +23,22 @@ use Rattle.machine.specs.Machine.{Machine}
 use Rattle.machine.specs.Described.{machine_of}
 use Rattle.rules.proofs.Obeys.{Obeys}
 use Rattle.run.specs.Run.{State, blank}
-use Rattle.log.specs.declared.Replay.{Replay}
-use Rattle.log.specs.declared.Replay.TheVariants.{Steps, Refused}
-use Rattle.log.specs.Rows.{is_initial, logged, is_step_row, is_value_row}
-use Rattle.log.specs.Lines.{lines}
-use Rattle.log.specs.Faults.{no_fault, log_fault, step_fault}
-use Rattle.log.specs.Replay.{Values, Found, found, bad, read_values, moved, judged, replay_from, no_values, replay_log}
-use Rattle.log.specs.Recorded.{value_row, logged_value}
-use Rattle.log.specs.Refusal.{StepFault, beginning, Begun, SameConstants, state_before}
-use Rattle.log.specs.Refusal.{Refusal, empty, bad_step, bad_value, ends_inside, step_fault_lem, after_step}
-use Rattle.log.proofs.Step.{Held, Allowed, fault_allowed, allowed_fault}
-use Rattle.log.proofs.FirstFault.{number_fault, fault_number}
-use Rattle.log.proofs.Values.{LineFormed, Sized, value_at, read_size, read_rows, Reads, rows_read_lem}
-use Rattle.log.proofs.Lines.{lines_none, lines_nothing, lines_formed, lines_open, open_lines}
-use Rattle.log.proofs.Steps.{Ready, LoggedAre, stored_logged, held_first, held_later, ready_next, logged_distinct, logged_small}
-use Rattle.log.proofs.BadRows.{Bad, BadBytes, bad_malformed, bad_whole, whole_bad, bad_bytes, bytes_bad, Stops, Stopped, read_stops, stops_read}
-use Rattle.log.proofs.Runs.{steps_never, StepRow, step_row, no_values_lem}
+use Rattle.recording.specs.declared.Replay.{Replay}
+use Rattle.recording.specs.declared.Replay.TheVariants.{Steps, Refused}
+use Rattle.recording.specs.Rows.{is_initial, logged, is_step_row, is_value_row}
+use Rattle.recording.specs.Lines.{lines}
+use Rattle.recording.specs.Faults.{no_fault, log_fault, step_fault}
+use Rattle.recording.specs.Replay.{Values, Found, found, bad, read_values, moved, judged, replay_from, no_values, replay_log}
+use Rattle.recording.specs.Recorded.{value_row, logged_value}
+use Rattle.recording.specs.Refusal.{StepFault, beginning, Begun, SameConstants, state_before}
+use Rattle.recording.specs.Refusal.{Refusal, empty, bad_step, bad_value, ends_inside, step_fault_lem, after_step}
+use Rattle.recording.proofs.Step.{Held, Allowed, fault_allowed, allowed_fault}
+use Rattle.recording.proofs.FirstFault.{number_fault, fault_number}
+use Rattle.recording.proofs.Values.{LineFormed, Sized, value_at, read_size, read_rows, Reads, rows_read_lem}
+use Rattle.recording.proofs.Lines.{lines_none, lines_nothing, lines_formed, lines_open, open_lines}
+use Rattle.recording.proofs.Steps.{Ready, LoggedAre, stored_logged, held_first, held_later, ready_next, logged_distinct, logged_small}
+use Rattle.recording.proofs.BadRows.{Bad, BadBytes, bad_malformed, bad_whole, whole_bad, bad_bytes, bytes_bad, Stops, Stopped, read_stops, stops_read}
+use Rattle.recording.proofs.Runs.{steps_never, StepRow, step_row, no_values_lem}
 
 pub refused_number : {m n i j : ℕ} → Refused m i ≡ Refused n j → m ≡ n
 refused_number {m} e = ap (λ (r : Replay). elim r [ Steps n ↦ m | Refused number row ↦ number ]) e

@@ -10,11 +10,11 @@ use Rattle.rules.specs.declared.Verdict.{Verdict}
 use Rattle.rules.specs.declared.Verdict.TheVariants as verdict
 use Rattle.rules.specs.Decoded.{decoded}
 use Rattle.rules.specs.Verdict.{verdict as verdictOf}
-use Rattle.log.specs.Rows.{is_given, logged, is_step_row, is_value_row}
-use Rattle.log.specs.Lines.{lines}
-use Rattle.log.specs.Faults.{no_fault, log_fault, step_fault}
-use Rattle.log.specs.declared.Replay.{Replay}
-use Rattle.log.specs.declared.Replay.TheVariants.{Steps, Refused}
+use Rattle.recording.specs.Rows.{is_given, logged, is_step_row, is_value_row}
+use Rattle.recording.specs.Lines.{lines}
+use Rattle.recording.specs.Faults.{no_fault, log_fault, step_fault}
+use Rattle.recording.specs.declared.Replay.{Replay}
+use Rattle.recording.specs.declared.Replay.TheVariants.{Steps, Refused}
 
 -- The values at hand, by identifier: those that formulas read at present, constants, variables and parameters, and the after values of variables.
 pub record Values : Type 0 where

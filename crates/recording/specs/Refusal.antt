@@ -15,9 +15,9 @@ use Rattle.machine.specs.Machine.{Action, unassigned, becomes_equal, becomes_suc
 use Rattle.machine.specs.Described.{machine_of}
 use Rattle.sequent.specs.Required.{own_variables}
 use Rattle.run.specs.Run.{State, blank, view, ReadsTrue, AllReadTrue, Allows, Step}
-use Rattle.log.specs.Rows.{step_tag, is_initial, logged, is_step_row, is_value_row}
-use Rattle.log.specs.Faults.{outside_fault, undefined_fault, log_fault}
-use Rattle.log.specs.Recorded.{value_row, logged_value, constants_alone, ActionInside, AllInside, StepInside}
+use Rattle.recording.specs.Rows.{step_tag, is_initial, logged, is_step_row, is_value_row}
+use Rattle.recording.specs.Faults.{outside_fault, undefined_fault, log_fault}
+use Rattle.recording.specs.Recorded.{value_row, logged_value, constants_alone, ActionInside, AllInside, StepInside}
 
 module _ (t : Rows) where
   abbrev machine : Machine

@@ -12,7 +12,7 @@ use Rattle.formula.specs.Values.{AnyValue, equal_value}
 use Rattle.formula.proofs.Truth.{test_true, true_test}
 use Rattle.formula.proofs.Values.{equal_value_eq, eq_equal_value}
 use Rattle.answer.specs.Answer.{Answer, value, outside, undefined}
-use Rattle.log.specs.Faults.{no_fault, log_fault, differs, fault_of, first_fault}
+use Rattle.recording.specs.Faults.{no_fault, log_fault, differs, fault_of, first_fault}
 
 -- no number of a list is a fault
 pub first_none : (fs : List ℕ) → first_fault fs ≡ no_fault → All (λ f. f ≡ no_fault) fs

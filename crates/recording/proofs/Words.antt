@@ -12,8 +12,8 @@ use Rattle.formula.specs.Values.{ValueType, integer, boolean, Value, whole_numbe
 use Rattle.formula.proofs.Truth.{test_true}
 use Rattle.answer.specs.Stored.{stored_value}
 use Rattle.machine.specs.Described.{type_numbered}
-use Rattle.log.specs.Rows.{is_logged}
-use Rattle.log.specs.Recorded.{word_of, logged_word}
+use Rattle.recording.specs.Rows.{is_logged}
+use Rattle.recording.specs.Recorded.{word_of, logged_word}
 
 -- a number's word
 number_word : (w : ℕ) → w < 2 ^ 64 → word_of (whole_number w) ≡ w

@@ -28,11 +28,11 @@ use Rattle.rules.proofs.Obeys.{Obeys}
 use Rattle.rules.proofs.Full.{few_identifiers}
 use Rattle.rules.proofs.Identifiers.{parameter_owner}
 use Rattle.run.specs.Run.{by_kind, State, blank}
-use Rattle.log.specs.Rows.{is_state_variable, is_initial, is_given, logged}
-use Rattle.log.specs.Replay.{Values, found, read_values, moved}
-use Rattle.log.specs.Recorded.{logged_value}
-use Rattle.log.proofs.Step.{Held}
-use Rattle.log.proofs.Values.{Sized, value_at, read_present, move_moved}
+use Rattle.recording.specs.Rows.{is_state_variable, is_initial, is_given, logged}
+use Rattle.recording.specs.Replay.{Values, found, read_values, moved}
+use Rattle.recording.specs.Recorded.{logged_value}
+use Rattle.recording.proofs.Step.{Held}
+use Rattle.recording.proofs.Values.{Sized, value_at, read_present, move_moved}
 
 -- ---- kinds: a variable isn't given, a constant is at the initialisation alone, a parameter at its event
 variable_not_given : (k : ℕ) (initial own : Bool) → T (is_variable_of 3 k) → pick initial (eqb k 1) (eqb k 5 && own) ≡ false

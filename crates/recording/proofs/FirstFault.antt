@@ -32,14 +32,14 @@ use Rattle.sequent.specs.Required.{own_variables}
 use Rattle.rules.proofs.Obeys.{Obeys}
 use Rattle.rules.proofs.Events.{event_says}
 use Rattle.run.specs.Run.{State, blank, world, view}
-use Rattle.log.specs.Rows.{is_initial}
-use Rattle.log.specs.Faults.{no_fault, log_fault, differs, fault_of, first_fault, untrue, not_allowed, step_fault}
-use Rattle.log.specs.Recorded.{constants_alone}
-use Rattle.log.specs.Refusal.{FormulaFault, outside_term, undefined_term, other_value, ActionFault, FirstUntrue, AxiomsMet}
-use Rattle.log.specs.Refusal.{StepFault, axiom_fault, guard_fault, action_fault_lem}
-use Rattle.log.proofs.Sight.{never, sees, a_constant, ActionSeen}
-use Rattle.log.proofs.Judged.{agree_less, agree_own, formula_judged, judged_formula, predicates_judged, judged_predicates, action_judged, judged_action}
-use Rattle.log.proofs.Step.{Held, a_variable, variable_in, agree_before, agree_both, agree_constants, seen_action, seen_axioms, seen_guards}
+use Rattle.recording.specs.Rows.{is_initial}
+use Rattle.recording.specs.Faults.{no_fault, log_fault, differs, fault_of, first_fault, untrue, not_allowed, step_fault}
+use Rattle.recording.specs.Recorded.{constants_alone}
+use Rattle.recording.specs.Refusal.{FormulaFault, outside_term, undefined_term, other_value, ActionFault, FirstUntrue, AxiomsMet}
+use Rattle.recording.specs.Refusal.{StepFault, axiom_fault, guard_fault, action_fault_lem}
+use Rattle.recording.proofs.Sight.{never, sees, a_constant, ActionSeen}
+use Rattle.recording.proofs.Judged.{agree_less, agree_own, formula_judged, judged_formula, predicates_judged, judged_predicates, action_judged, judged_action}
+use Rattle.recording.proofs.Step.{Held, a_variable, variable_in, agree_before, agree_both, agree_constants, seen_action, seen_axioms, seen_guards}
 
 -- ---- the first fault of a list of numbers
 abbrev pub None : ℕ → Type 0

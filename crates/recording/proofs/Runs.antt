@@ -26,17 +26,17 @@ use Rattle.machine.proofs.Roles.{RoleSays}
 use Rattle.rules.proofs.Obeys.{Obeys}
 use Rattle.rules.proofs.Events.{event_says}
 use Rattle.run.specs.Run.{State, blank, Step, Taken, of_run, Follows}
-use Rattle.log.specs.declared.Replay.{Replay}
-use Rattle.log.specs.declared.Replay.TheVariants.{Steps, Refused}
-use Rattle.log.specs.Rows.{is_initial, logged, is_step_row}
-use Rattle.log.specs.Lines.{lines}
-use Rattle.log.specs.Faults.{no_fault, log_fault, step_fault}
-use Rattle.log.specs.Replay.{Values, Found, found, bad, read_values, moved, judged, replay_from, no_values, replay_log}
-use Rattle.log.specs.Recorded.{value_row, logged_value, step_rows, steps_rows, run_rows, StepInside, StepsInside, Recorded, Inside}
-use Rattle.log.proofs.Step.{Held, Allowed, fault_allowed, allowed_fault}
-use Rattle.log.proofs.Values.{row_parts, LineFormed, Sized, value_at, read_size, read_rows, Reads, rows_read_lem}
-use Rattle.log.proofs.Lines.{lines_formed, lines_written, written_lines}
-use Rattle.log.proofs.Steps.{Ready, LoggedAre, stored_logged, held_first, held_later, ready_next, logged_distinct, logged_small}
+use Rattle.recording.specs.declared.Replay.{Replay}
+use Rattle.recording.specs.declared.Replay.TheVariants.{Steps, Refused}
+use Rattle.recording.specs.Rows.{is_initial, logged, is_step_row}
+use Rattle.recording.specs.Lines.{lines}
+use Rattle.recording.specs.Faults.{no_fault, log_fault, step_fault}
+use Rattle.recording.specs.Replay.{Values, Found, found, bad, read_values, moved, judged, replay_from, no_values, replay_log}
+use Rattle.recording.specs.Recorded.{value_row, logged_value, step_rows, steps_rows, run_rows, StepInside, StepsInside, Recorded, Inside}
+use Rattle.recording.proofs.Step.{Held, Allowed, fault_allowed, allowed_fault}
+use Rattle.recording.proofs.Values.{row_parts, LineFormed, Sized, value_at, read_size, read_rows, Reads, rows_read_lem}
+use Rattle.recording.proofs.Lines.{lines_formed, lines_written, written_lines}
+use Rattle.recording.proofs.Steps.{Ready, LoggedAre, stored_logged, held_first, held_later, ready_next, logged_distinct, logged_small}
 
 pub steps_never : {number row n : ℕ} → Refused number row ≡ Steps n → ⊥
 steps_never e = true≢false (ap (λ (r : Replay). elim r [ Steps n ↦ false | Refused number row ↦ true ]) e)

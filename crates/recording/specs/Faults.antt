@@ -10,7 +10,7 @@ use Rattle.answer.specs.Stored.{stored_env}
 use Rattle.table.specs.Rows.{Rows}
 use Rattle.machine.specs.Machine.{Action, unassigned, becomes_equal, becomes_such_that, Machine}
 use Rattle.machine.specs.Described.{machine_of}
-use Rattle.log.specs.Rows.{is_initial}
+use Rattle.recording.specs.Rows.{is_initial}
 
 -- the number of a fault: "16 marks an evaluated term outside 64 bits and 17 an undefined one"; 18 "a step that isn't allowed"
 abbrev pub no_fault : ℕ

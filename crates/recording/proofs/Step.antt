@@ -25,12 +25,12 @@ use Rattle.rules.proofs.Obeys.{Obeys}
 use Rattle.rules.proofs.Events.{event_says}
 use Rattle.rules.proofs.Identifiers.{parameter_owner}
 use Rattle.run.specs.Run.{by_kind, State, blank, world, AllReadTrue, Allows, Step}
-use Rattle.log.specs.Rows.{is_initial, is_state_variable}
-use Rattle.log.specs.Faults.{no_fault, untrue, not_allowed, step_fault}
-use Rattle.log.specs.Recorded.{ActionInside, AllInside, StepInside, constants_alone}
-use Rattle.log.proofs.Faults.{first_none, none_first}
-use Rattle.log.proofs.Sight.{never, sees, a_constant, ActionSeen, axioms_seen, guards_seen, action_seen}
-use Rattle.log.proofs.Judged.{predicates_judged, judged_predicates, action_judged, judged_action}
+use Rattle.recording.specs.Rows.{is_initial, is_state_variable}
+use Rattle.recording.specs.Faults.{no_fault, untrue, not_allowed, step_fault}
+use Rattle.recording.specs.Recorded.{ActionInside, AllInside, StepInside, constants_alone}
+use Rattle.recording.proofs.Faults.{first_none, none_first}
+use Rattle.recording.proofs.Sight.{never, sees, a_constant, ActionSeen, axioms_seen, guards_seen, action_seen}
+use Rattle.recording.proofs.Judged.{predicates_judged, judged_predicates, action_judged, judged_action}
 
 module _ (t : Rows) where
   abbrev machine : Machine

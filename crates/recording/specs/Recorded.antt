@@ -14,7 +14,7 @@ use Rattle.machine.specs.Machine.{Action, unassigned, becomes_equal, becomes_suc
 use Rattle.machine.specs.Described.{machine_of}
 use Rattle.sequent.specs.Required.{own_variables}
 use Rattle.run.specs.Run.{by_kind, State, blank, world, view, AllReadTrue, Step, Taken, Follows}
-use Rattle.log.specs.Rows.{step_tag, value_tag, logged}
+use Rattle.recording.specs.Rows.{step_tag, value_tag, logged}
 
 -- the word of a number, a negative one in two's complement; a number outside 64 bits has none, for which 2 ^ 64 stands
 abbrev pub word_of : ℤ → ℕ

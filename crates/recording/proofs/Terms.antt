@@ -15,11 +15,11 @@ use Rattle.machine.specs.Machine.{Action, unassigned, becomes_equal, becomes_suc
 use Rattle.machine.specs.Described.{machine_of}
 use Rattle.sequent.specs.Required.{own_variables}
 use Rattle.run.specs.Run.{State, blank, view}
-use Rattle.log.specs.Rows.{is_initial}
-use Rattle.log.specs.Faults.{outside_fault, undefined_fault, log_fault}
-use Rattle.log.specs.Recorded.{constants_alone}
-use Rattle.log.specs.Refusal.{FormulaFault, outside_term, undefined_term, other_value, ActionFault}
-use Rattle.log.specs.Refusal.{StepFault, axiom_fault, guard_fault, action_fault_lem}
+use Rattle.recording.specs.Rows.{is_initial}
+use Rattle.recording.specs.Faults.{outside_fault, undefined_fault, log_fault}
+use Rattle.recording.specs.Recorded.{constants_alone}
+use Rattle.recording.specs.Refusal.{FormulaFault, outside_term, undefined_term, other_value, ActionFault}
+use Rattle.recording.specs.Refusal.{StepFault, axiom_fault, guard_fault, action_fault_lem}
 
 module _ (t : Rows) where
   abbrev machine : Machine

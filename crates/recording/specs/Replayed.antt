@@ -5,7 +5,7 @@ use Rattle.machine.specs.Machine.{abstract_initialisation, Machine}
 use Rattle.machine.specs.Described.{machine_of}
 use Rattle.run.specs.Run.{State, blank, Step, Match}
 use Rattle.run.specs.SafeRun.{Along, RunsSafe}
-use Rattle.log.specs.Recorded.{Recorded}
+use Rattle.recording.specs.Recorded.{Recorded}
 
 module _ (t : Rows) where
   abbrev machine : Machine
