@@ -78,7 +78,28 @@ def table():
     return turned
 
 
+class Turner(snake.Turner):
+    """A name that a file brings in from a library stays in that file."""
+
+    def brought(self, text):
+        self.kept = set()
+        for path, items in re.findall(r"\buse ([^\s;{]+)\{([^}]*)\}", text):
+            steps = path.strip(".").split(".")
+            if steps[0] != "Rattle" or not os.path.isdir(os.path.join("crates", steps[1])):
+                self.kept.update(snake.WORD.findall(items))
+
+    def antt(self, text, where, in_code=None):
+        if in_code is None:
+            self.brought(text)
+        return super().antt(text, where, in_code)
+
+    def rt(self, text, where):
+        self.brought(text)
+        return super().rt(text, where)
+
+
 def main():
+    snake.Turner = Turner
     turned = table()
     if "--check" in sys.argv:
         for old, new in sorted(turned.items()):

@@ -1,4 +1,6 @@
 // 02, request 6: the after values of a step that is pressed, and the values of the state that it leaves.
+#![tactic(auto)]
+
 ghost use Rattle.std.specs.Prelude.{◌≡◌, ◌+◌, ◌≤◌, ◌<◌, pos, length, set, []};
 ghost use Rattle.lists.specs.Choice.{pick};
 ghost use Rattle.lists.specs.Below.{one_if};

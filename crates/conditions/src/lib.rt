@@ -1,4 +1,6 @@
 // 01, Well-definedness: the conditions of the operators, one by one.
+#![tactic(auto)]
+
 ghost use Rattle.std.specs.Prelude.{◌≡◌};
 ghost use Rattle.machine.specs.Operator.{operator_numbered};
 ghost use Rattle.conditions.specs.Condition.{condition_of};

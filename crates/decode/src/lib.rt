@@ -1,4 +1,6 @@
 // 01, Rows: the rows of a table's bytes, read in order, as words.
+#![tactic(auto)]
+
 ghost use Rattle.std.specs.Prelude.{◌≡◌, ◌*◌, ◌≤◌, length};
 ghost use Rattle.lists.specs.Over.{over};
 ghost use Rattle.row.specs.Row.{width, row_length};

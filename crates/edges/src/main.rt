@@ -1,6 +1,8 @@
 // Runs the edges of the number form and of the row form. Its input is lines of 24 bytes: a letter for the width and the range (n: 11
 // columns, 32 bits; w: 20 columns, 64 bits), a bar, then the columns. Each is printed with what it reads as, and that written again at both
 // widths. Then rows are read at several places.
+#![tactic(auto)]
+
 ghost use Rattle.std.specs.Prelude.{◌<◌, ◌^◌, ◌+◌, ◌≤◌, length};
 
 use libc::{STDIN_FILENO, STDOUT_FILENO};

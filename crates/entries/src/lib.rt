@@ -1,5 +1,7 @@
 // 01, Sequents: the entries of a slot's sequent, the hypotheses by a walk of segments and the goal: counted, found, written. What is left to pass over in the slot is
 // which of its sequents is meant: of a witness its WD or its WFIS.
+#![tactic(auto)]
+
 ghost use Rattle.std.specs.Prelude.{◌≡◌, ◌+◌, ◌*◌, ◌≤◌, ◌<◌, length};
 ghost use Rattle.lists.specs.Over.{over};
 ghost use Rattle.row.specs.Row.{width, row_length};

@@ -1,4 +1,6 @@
 // 02, request 5: what evaluating a formula in signed 64 bits gives, at values of the identifiers. Expressions and predicates call each other, with the node number falling.
+#![tactic(auto)]
+
 ghost use Rattle.std.specs.Prelude.{◌≡◌, ◌+◌, ◌*◌, ◌<◌, pos, get_or};
 ghost use Rattle.table.specs.Names.{identifier_tag, node_tag};
 ghost use Rattle.table.specs.Rows.{rows_of, start, row_of, type_of};

@@ -1,4 +1,6 @@
 // 01, Refusals: "Checks run by number, each over the whole table". One dispatch for the checks 3 to 11, and one first-offender loop for those that judge each row by itself.
+#![tactic(auto)]
+
 ghost use Rattle.std.specs.Prelude.{◌≡◌, ◌≤◌, ◌<◌, length};
 ghost use Rattle.table.specs.Rows.{rows_of};
 ghost use Rattle.table.specs.Counts.{counts_of};

@@ -1,1 +1,2 @@
 // The meaning of formulas: definitions and laws; nothing runs here.
+#![tactic(auto)]

@@ -1,4 +1,6 @@
 // 01, "Order: WD of axioms, invariants, variant; then event by event ..": the groups of sequents, in this order.
+#![tactic(auto)]
+
 ghost use Rattle.std.specs.Prelude.{◌≡◌};
 ghost use Rattle.table.specs.Names.{guard_tag, variant_tag};
 ghost use Rattle.table.specs.Rows.{rows_of, refined_by};

@@ -1,5 +1,7 @@
 // 02, request 5: what is wrong with a step whose values are stored: "axioms at the initialisation, then guards, then each variable (assigned or not) in order,
 // stopping at the first fault". A fault is 16, 17 or 18; 0 is none.
+#![tactic(auto)]
+
 ghost use Rattle.std.specs.Prelude.{◌≡◌, ◌≤◌};
 ghost use Rattle.lists.specs.Choice.{pick};
 ghost use Rattle.table.specs.Rows.{rows_of};
@@ -14,8 +16,8 @@ ghost use Rattle.judge.specs.Judge.{is_judged, judged_root, root_fault, row_faul
 
 use evaluate::{evaluate_expression, evaluate_predicate, stored_value, value_at};
 use events::is_initial;
-use recording::Replay;
 use operands::equal_values;
+use recording::Replay;
 use scan::{action_row, span_at};
 use signed::Found;
 use table::{

@@ -1,5 +1,7 @@
 // Runs check at the limits. Its input is rows that lay out tables: 1 n says that the next row stands n times, 2 a b c what is added to its
 // numbers each time, 3 n ends the table number n, which is then checked. All others are rows of the table.
+#![tactic(auto)]
+
 ghost use Rattle.std.specs.Prelude.{◌≡◌, ◌≤◌, ◌<◌, ◌^◌, ◌*◌, ◌+◌, length};
 ghost use Rattle.row.specs.Row.{row_length, width};
 

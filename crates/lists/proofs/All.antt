@@ -28,6 +28,7 @@ module _ {A : Type 0} {P : A → Type 0} where
   pub all_at : {xs : List A} {a : A} → All P xs → In a xs → P a
   all_at (all_cons h hs) (here e) = subst P (sym e) h
   all_at (all_cons h hs) (there i) = all_at hs i
+  all_at {a = a} all_nil x3 = elim x3 [ ]
 
   -- a property shown of each member from its membership
   pub all_in : (xs : List A) → ((a : A) → In a xs → P a) → All P xs
@@ -182,6 +183,7 @@ module _ {A N : Type 0} {Fine : A → Type 0} {Fault : A → N → Type 0} (apar
   pub first_not_fine : {xs : List A} {n : N} → All Fine xs → First Fine Fault xs n → ⊥
   first_not_fine (all_cons h hs) (fault_here {x = x} {n = n} f) = apart x n h f
   first_not_fine (all_cons h hs) (fault_later k f) = first_not_fine hs f
+  first_not_fine {n = n} all_nil x3 = elim x3 [ ]
 
   pub first_one : ((x : A) (m n : N) → Fault x m → Fault x n → m ≡ n) → {xs : List A} {m n : N} → First Fine Fault xs m → First Fine Fault xs n → m ≡ n
   first_one one (fault_here {x = x} {n = m} f) (fault_here {n = n} g) = one x m n f g

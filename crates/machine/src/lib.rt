@@ -1,1 +1,2 @@
 // The machines that a table describes. No functions yet.
+#![tactic(auto)]

@@ -1,4 +1,6 @@
 // 02, request 4: "a row 84 for the goal spelled out": the identifiers of a spelled entry, as a set.
+#![tactic(auto)]
+
 ghost use Rattle.std.specs.Prelude.{◌≡◌, List, ℕ};
 ghost use Rattle.lists.specs.All.{All};
 ghost use Rattle.sets.specs.Set.{set_of, Identifier};

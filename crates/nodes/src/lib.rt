@@ -1,5 +1,7 @@
 // What is noted once for a table, behind the spans of its tags: of each node the sets of the identifiers that its formula and its well-definedness mention
 // and whether it divides, and of each event the set of those that it assigns.
+#![tactic(auto)]
+
 ghost use Rattle.std.specs.Prelude.{◌≡◌, ◌&&◌, ◌+◌, ◌≤◌, ◌<◌, leb, ltb, length};
 ghost use Rattle.lists.specs.Choice.{pick};
 ghost use Rattle.table.specs.Rows.{rows_of, is_action};

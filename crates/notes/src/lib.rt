@@ -1,4 +1,6 @@
 // The note of a formula's node, made from those of its operands: the identifiers that the formula and its well-definedness mention, and whether it divides.
+#![tactic(auto)]
+
 ghost use Rattle.std.specs.Prelude.{◌≡◌};
 ghost use Rattle.operators.specs.Operator.{meant_shape};
 ghost use Rattle.notes.specs.Notes.{empty_note, identifier_note, plain_pair, division_pair, guarded_pair, pair_note, note_by};

@@ -1,5 +1,7 @@
 // 01, Rows: a decimal number in columns, read and written. A number is a word of 64 bits, a negative one in two's complement.
 // Numbers run from -greatest - 1 to greatest.
+#![tactic(auto)]
+
 ghost use Rattle.std.specs.Prelude.{◌≡◌, length, get_or, take, drop, ◌≤◌, ◌<◌, ◌+◌, ◌-◌, ◌^◌};
 ghost use Rattle.lists.specs.Over.{over};
 ghost use Rattle.lists.specs.Choice.{pick};

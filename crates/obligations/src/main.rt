@@ -1,4 +1,6 @@
 // 01, Sequents: "A program reads a table from standard input and prints all sequents, or one row 89 (refusal, row, 0)."
+#![tactic(auto)]
+
 mod output;
 
 ghost use Rattle.std.specs.Prelude.{◌≡◌, ◌+◌, ◌≤◌, ◌<◌, length};

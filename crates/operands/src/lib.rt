@@ -1,4 +1,6 @@
 // 02, request 5: how the answers of operands are combined: which fault wins, and where the right side is read.
+#![tactic(auto)]
+
 ghost use Rattle.std.specs.Prelude.{◌≡◌};
 ghost use Rattle.formula.specs.Values.{as_number, as_truth, equal_value};
 ghost use Rattle.formula.specs.Tree.{bool, negation, logicalNot, plus, minus, times, equal, less, at_most, iff, quotient, remainder, and, or, implies};

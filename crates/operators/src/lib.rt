@@ -1,4 +1,6 @@
 // 01, Rows: the operators, one by one: how they use their columns, and their sorts.
+#![tactic(auto)]
+
 ghost use Rattle.std.specs.Prelude.{◌≡◌};
 ghost use Rattle.rules.specs.Sorts.{operand_count, names_identifier};
 ghost use Rattle.operators.specs.Operator.{operator_at, usage_of, meant, meant_shape};

@@ -1,4 +1,6 @@
 // 02, request 6: "Press an event, or only look", on the values and the types of a state: two slices of numbers.
+#![tactic(auto)]
+
 ghost use Rattle.std.specs.Prelude.{◌≡◌, ◌≤◌, ltb, eqb, length};
 ghost use Rattle.lists.specs.Choice.{pick};
 ghost use Rattle.row.specs.Row.{width, row_length};
@@ -20,9 +22,9 @@ ghost use Rattle.press.specs.Numbers.{choice_of, room_for, is_performed};
 use after::{complete_values, update_values};
 use bench::Press;
 use judge::press_fault;
-use recording::Replay;
 use nodes::fill_notes;
 use reader::next_row;
+use recording::Replay;
 use row::{Place, Read};
 use rules::Verdict;
 use scan::{Span, lesser};

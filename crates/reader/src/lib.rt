@@ -1,4 +1,6 @@
 // 02, request 5: a run is "read from the lent run in order, one row at a time, by a reader that holds the bytes".
+#![tactic(auto)]
+
 ghost use Rattle.std.specs.Prelude.{◌≡◌};
 ghost use Rattle.row.specs.Row.{greatest, width};
 ghost use Rattle.row.specs.Reading.{read_at};

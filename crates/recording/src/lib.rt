@@ -1,4 +1,5 @@
 // 02, request 5: the log of a run, and what replaying it answers.
+#![tactic(auto)]
 
 // How many steps follow the initialisation, or a refusal's number and row.
 #[derive(Drop)]

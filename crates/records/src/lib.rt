@@ -1,4 +1,6 @@
 // 02, request 6: "The state is a lent list of records". Only `load` and `store` touch a record; what is evaluated are numbers, loaded from the list and stored into it.
+#![tactic(auto)]
+
 ghost use Rattle.std.specs.Prelude.{◌≡◌, ◌<◌, length, get_or, set};
 ghost use Rattle.bench.specs.Press.{press as pressOf, preview as previewOf};
 ghost use Rattle.records.specs.Numbers.{few_of, no_record, no_numbers, with_record, loaded, record_at, stored, pressed_of, previewed_of};

@@ -1,5 +1,7 @@
 // 02, request 5: `replay TABLE LOG` replays the log of a table's run, each in a file, and prints the reply as one row: 92 (steps, 0, 0), or 89 (refusal, row, 0).
 // The log is read part by part, so memory doesn't grow with it.
+#![tactic(auto)]
+
 ghost use Rattle.std.specs.Prelude.{◌≡◌, ◌++◌, ◌-◌, ◌≤◌, length, take, drop};
 ghost use Rattle.table.specs.Rows.{rows_of};
 ghost use Rattle.table.specs.Counts.{counts_of};
@@ -9,8 +11,8 @@ ghost use Rattle.nodes.specs.Notes.{Noted};
 ghost use Rattle.replay.specs.Reply.{reply_row};
 
 use libc::{STDERR_FILENO, STDOUT_FILENO};
-use recording::Replay;
 use nodes::fill_notes;
+use recording::Replay;
 use reply::tags;
 use row::Row;
 use rules::Verdict;

@@ -1,4 +1,6 @@
 // 01, Rows: rows of 38 bytes, a tag in 4 columns, numbers a, b, c in 11 columns each, then byte 10. Reading at a place, writing.
+#![tactic(auto)]
+
 ghost use Rattle.std.specs.Prelude.{◌≡◌, ◌≤◌, length};
 ghost use Rattle.lists.specs.Over.{over};
 ghost use Rattle.row.specs.Row.{row_bytes, width, greatest, row_length};

@@ -1,4 +1,6 @@
 // 01, Refusal 12 missing: whether a table lacks an initialisation, an initial action, a witness, a variant, or an event for its variant.
+#![tactic(auto)]
+
 ghost use Rattle.std.specs.Prelude.{◌≡◌, not, ◌&&◌, ◌<◌, ◌^◌};
 ghost use Rattle.lists.specs.Below.{some_below};
 ghost use Rattle.table.specs.Rows.{rows_of};

@@ -1,4 +1,6 @@
 // 01, Refusals 5 event and 6 identifier: whether a row offends.
+#![tactic(auto)]
+
 ghost use Rattle.std.specs.Prelude.{◌≡◌, ◌≤◌};
 ghost use Rattle.table.specs.Rows.{rows_of};
 ghost use Rattle.scan.specs.Spans.{Spanned};

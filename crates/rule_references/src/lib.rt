@@ -1,4 +1,6 @@
 // 01, refusal 7, reference: "unknown operator, nonzero unused node column, or a number that names nothing fitting". Rows are words, four a row.
+#![tactic(auto)]
+
 ghost use Rattle.std.specs.Prelude.{◌≡◌};
 ghost use Rattle.table.specs.Rows.{rows_of};
 ghost use Rattle.table.specs.Counts.{counts_of};

@@ -1,4 +1,6 @@
 // 01, refusal 10, sight: "a formula mentions what it may not". It runs after check 9, where each node has one use, so that a walk meets no node twice.
+#![tactic(auto)]
+
 ghost use Rattle.std.specs.Prelude.{◌≡◌};
 ghost use Rattle.table.specs.Rows.{rows_of};
 ghost use Rattle.table.specs.Counts.{counts_of};

@@ -1,5 +1,7 @@
 // 01, refusals 8, sort: "operand or root of the wrong sort", and 9, use: "a node without its one use". Sorts are 1 integer, 2 boolean, 3 predicate.
 // A node's sort comes from its operator alone, so that no walk follows shared operands.
+#![tactic(auto)]
+
 ghost use Rattle.std.specs.Prelude.{◌≡◌, ℕ, ◌+◌, ◌^◌, ◌≤◌, ◌<◌, length, get_or, ◌||◌, eqb};
 ghost use Rattle.table.specs.Names.{node_tag};
 ghost use Rattle.table.specs.Rows.{rows_of, tagged};

@@ -1,4 +1,6 @@
 // 01, Refusals 3 tag, 4 full and 11 twice: whether a row offends.
+#![tactic(auto)]
+
 ghost use Rattle.std.specs.Prelude.{◌≡◌, ◌&&◌, ◌-◌, ◌≤◌, ◌<◌, ltb};
 ghost use Rattle.table.specs.Names.{variant_tag};
 ghost use Rattle.table.specs.Rows.{rows_of, Rising};

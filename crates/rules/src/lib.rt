@@ -1,4 +1,5 @@
 // 01, Refusals: the rules that a table must meet, and the verdict of bytes.
+#![tactic(auto)]
 
 // What check answers: the count of a table's sequents, or a refusal's number and row.
 #[derive(Drop)]

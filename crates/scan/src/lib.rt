@@ -1,4 +1,6 @@
 // Rows that pass a test: whether there is one before a row, the first, and between which rows they stand.
+#![tactic(auto)]
+
 ghost use Rattle.std.specs.Prelude.{◌≡◌, ℕ, ◌+◌, ◌-◌, ◌^◌, ◌≤◌, ◌<◌, length, get_or, ◌&&◌, eqb, ltb, leb};
 ghost use Rattle.table.specs.Names.{variant_tag};
 ghost use Rattle.lists.specs.Below.{NoneBelow, some_below, first};

@@ -1,4 +1,6 @@
 // 01, Sequents, columns "hypotheses" and "goal": which hypotheses a slot's sequents have, as a table of segments, and which goal, by kind.
+#![tactic(auto)]
+
 ghost use Rattle.std.specs.Prelude.{◌≡◌, ◌<◌, not};
 ghost use Rattle.table.specs.Rows.{rows_of};
 ghost use Rattle.table.specs.Counts.{counts_of};

@@ -1,4 +1,6 @@
 // The rows that a group of sequents, or a part of the hypotheses, is made from: which rows they are, and a walk from one to the next.
+#![tactic(auto)]
+
 ghost use Rattle.std.specs.Prelude.{◌≡◌, ◌+◌, ◌≤◌, ◌<◌, ◌&&◌, ltb};
 ghost use Rattle.lists.specs.Choice.{pick};
 ghost use Rattle.table.specs.Rows.{rows_of, count};

@@ -1,4 +1,6 @@
 // 01, Sequents: the list of a table's sequents.
+#![tactic(auto)]
+
 pub mod form;
 pub mod kind;
 

@@ -1,4 +1,6 @@
 // 01, Sequents: "write sequent k, spell entry j of sequent k (goal last)". check is the crate verdict's.
+#![tactic(auto)]
+
 ghost use Rattle.std.specs.Prelude.{◌≡◌, ◌+◌, ◌*◌, ◌<◌, ◌≤◌, length};
 ghost use Rattle.lists.specs.Over.{over};
 ghost use Rattle.row.specs.Row.{width, row_length};

@@ -2,7 +2,7 @@
 -- other's test, and a set's count, lowest and highest digit are those of any list of identifiers that it is the set of, by recursion on that list.
 use Prim.Native.Nat.{ℕ, zero, suc, ◌+◌, ◌-◌, ◌*◌, ◌%◌, ◌^◌, ◌≤◌, ◌<◌, min, max}
 use mathlib.Core.Path.{◌≡◌, refl, sym, ap, ◌∙◌}
-use mathlib.Core.Bool.{Bool, true, false, not, ◌&&◌, ◌||◌, or_false, true≢false}
+use mathlib.Core.Bool.{Bool, true, false, not, ◌&&◌, ◌||◌, or-false, true≢false}
 use mathlib.Core.List.{List, [], ◌∷◌, ◌++◌}
 use native.Mathlib.Omega.{arith}
 use native.Mathlib.Nat.{one-mul}
@@ -54,7 +54,7 @@ set_put k xs = digits_same _ _ (λ i. ap (λ b. b || has xs (suc i)) (eqb-suc-su
 -- the set of one number: its digit, and none where it can't name an identifier
 one_where : (k : ℕ) → set_of (suc k ∷ []) ≡ digits_of (λ i. eqb i k) identifier_limit
 unfolding some_of
-one_where k = set_put k [] ∙ digits_same _ _ (λ i. or_false (eqb i k)) identifier_limit
+one_where k = set_put k [] ∙ digits_same _ _ (λ i. or-false (eqb i k)) identifier_limit
 
 pub single_zero : (x : ℕ) → x ≡ 0 → set_of (x ∷ []) ≡ 0
 unfolding set_of some_of

@@ -1,4 +1,6 @@
 // A set of identifiers as a word: identifier x is the digit x - 1, counted from the lowest. The union of two sets is a | b.
+#![tactic(auto)]
+
 ghost use Rattle.std.specs.Prelude.{ℕ, ◌≡◌, not, List, [], ◌∷◌, eqb};
 ghost use Rattle.std.specs.Int.Bits.{bit_and};
 ghost use Rattle.lists.specs.All.{All};

@@ -1,4 +1,6 @@
 // The services for C and Rust (include/sifthorma.h): each answers 0 or a refusal's number, and puts the count or the row into `value`.
+#![tactic(auto)]
+
 ghost use Rattle.std.specs.Prelude.{◌≡◌};
 ghost use Rattle.rules.specs.Verdict.{verdict as verdictOf};
 ghost use Rattle.reply.specs.Replies.{write_sequent, spell_entry};

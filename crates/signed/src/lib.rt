@@ -1,4 +1,6 @@
 // 02, request 5: numbers in signed 64 bits, worked on by sign and magnitude so that nothing wraps.
+#![tactic(auto)]
+
 ghost use Rattle.std.specs.Prelude.{◌≡◌, ◌*◌, ◌/◌, ◌%◌, ◌^◌, ◌<◌, leb, nat_abs, negsuc, neg_ℤ, ◌+ℤ◌, ◌-ℤ◌, ◌*ℤ◌};
 ghost use Rattle.formula.specs.Values.{number, whole_number, lessℤ, at_mostℤ, equalℤ, quotientℤ, remainderℤ};
 ghost use Rattle.answer.specs.Answer.{within};

@@ -1,4 +1,6 @@
 // 02, request 6: the state of the bench as the code holds it, the values and the types of its records: whether it is one, and copies of them.
+#![tactic(auto)]
+
 ghost use Rattle.std.specs.Prelude.{◌≡◌, not, ◌+◌, ◌^◌, ◌<◌, get_or, set};
 ghost use Rattle.lists.specs.Below.{numbers};
 ghost use Rattle.lists.specs.Different.{some_of};

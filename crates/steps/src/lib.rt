@@ -1,5 +1,7 @@
 // 02, request 5: replay of a recorded run: "The reply is the number of steps after the initialisation, given if and only if the log is a run by document 01's
 // definition and no term met leaves signed 64 bits."
+#![tactic(auto)]
+
 ghost use Rattle.std.specs.Prelude.{◌≡◌, ◌+◌, ◌^◌, ◌≤◌, ◌<◌, length};
 ghost use Rattle.row.specs.Row.{width, row_length};
 ghost use Rattle.table.specs.Rows.{rows_of};
@@ -15,9 +17,9 @@ ghost use Rattle.steps.specs.Steps.{ended_after, step_progress, step_values, Tak
 ghost use Rattle.steps.specs.Parts.{later_row, replay_rest, ReplaysPart, Stops};
 
 use judge::step_fault;
-use recording::Replay;
 use nodes::fill_notes;
 use reader::next_row;
+use recording::Replay;
 use row::{Place, Read, Row};
 use rules::Verdict;
 use scan::Span;

@@ -1,4 +1,6 @@
 // 01, Rows: a table's rows as words, four a row (tag, a, b, c), and where its identifiers, nodes and events stand.
+#![tactic(auto)]
+
 pub mod event;
 pub mod identifier;
 pub mod operator;

@@ -1,5 +1,7 @@
 // 02, request 5: the rows of a step: row 90, and its values, "rows 91 (identifier, value; booleans 0 or 1) .. in identifier order", read from a run and stored by
 // identifier.
+#![tactic(auto)]
+
 ghost use Rattle.std.specs.Prelude.{◌≡◌, ◌+◌, ◌*◌, ◌≤◌, pos, length, get_or, set};
 ghost use Rattle.lists.specs.Below.{one_if};
 ghost use Rattle.lists.specs.Choice.{pick};
@@ -16,8 +18,8 @@ ghost use Rattle.values.specs.Values.{values_of, row_at, is_told, is_wanted, wan
 
 use evaluate::value_at;
 use events::is_initial;
-use recording::tags;
 use reader::next_row;
+use recording::tags;
 use row::{Place, Read, Row};
 use scan::action_row;
 use signed::of_word;

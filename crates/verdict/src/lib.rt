@@ -1,4 +1,6 @@
 // 01, Refusals: check, from the bytes of a table to its verdict.
+#![tactic(auto)]
+
 ghost use Rattle.std.specs.Prelude.{◌≡◌, ◌^◌, ◌≤◌, ◌<◌, length};
 ghost use Rattle.table.specs.Lookups.{most_words};
 ghost use Rattle.table.specs.Rows.{rows_of};

@@ -1,4 +1,6 @@
 // The list of sequents as a walk of slots, which counts and finds sequents without making them. A slot is an event (0 for none), a group and a row.
+#![tactic(auto)]
+
 ghost use Rattle.std.specs.Prelude.{◌≡◌, ◌+◌, ◌≤◌, ◌<◌, ◌^◌, length};
 ghost use Rattle.table.specs.Lookups.{most_words};
 ghost use Rattle.table.specs.Rows.{rows_of};

@@ -3,7 +3,7 @@ use Prim.Native.Nat.{◌+◌}
 use mathlib.Core.Path.{sym, ap, ap₂, ◌∙◌, subst}
 use mathlib.Core.List.{[], ◌∷◌}
 use native.Mathlib.Omega.{arith}
-use borrow.Author.Tests.{not_true, not_false}
+use borrow.Author.Tests.{not-true, not-false}
 use lib.Bits.{bit_or}
 use lib.ListN.{get_or, set}
 use Rattle.table.specs.Rows.{rows_of, is_action}
@@ -21,13 +21,13 @@ note_action_spec = tie.close (tie.spec
     (λ c. let asked = c.before in
     let s = asked.before.before.before in
     action_passed (rows_of s.args.words.now) s.args.spans.now 1 s.args.i
-    (sym asked.is-noted.ensures ∙ not_true asked.is-noted.result c.if1.true) s.requires)
+    (sym asked.is-noted.ensures ∙ not-true asked.is-noted.result c.if1.true) s.requires)
     (λ c κs. search rules)
     (λ c κs. let asked = c.before.before in
     let s = asked.before.before.before in
     let t = rows_of s.args.words.now in
     let l = noted_limit (is_action t s.args.i) (t.a s.args.i)
-    (sym asked.is-noted.ensures ∙ not_false asked.is-noted.result c.before.if1.false) in
+    (sym asked.is-noted.ensures ∙ not-false asked.is-noted.result c.before.if1.false) in
     omega (arith, l.1, c.a_at.ensures))
     (λ c κs. search rules)
     (λ c κs. search rules)
@@ -47,7 +47,7 @@ note_action_spec = tie.close (tie.spec
     let t = rows_of s.args.words.now in
     let xs = s.args.spans.now in
     let l = noted_limit (is_action t s.args.i) (t.a s.args.i)
-    (sym asked.is-noted.ensures ∙ not_false asked.is-noted.result read.before.if1.false) in
+    (sym asked.is-noted.ensures ∙ not-false asked.is-noted.result read.before.if1.false) in
     let target = c.before.single.ensures ∙ ap (λ x. set_of (x ∷ [])) c.before.before.b_at.ensures in
     let place = at.event-at.ensures.0 ∙ ap (λ e. events_at + e) read.a_at.ensures in
     let same = ap₂ (λ k v. set xs k (bit_or (get_or xs k 0) v)) place target in

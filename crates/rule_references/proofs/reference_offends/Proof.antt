@@ -3,7 +3,7 @@ use Prim.Native.Nat.{ℕ}
 use mathlib.Core.Path.{ap, ap₂, sym, ◌∙◌}
 use mathlib.Core.Bool.{Bool, not, ◌&&◌}
 use borrow.Author.Rules.{rules}
-use borrow.Author.Tests.{not_true, not_false}
+use borrow.Author.Tests.{not-true, not-false}
 use Rattle.table.specs.Rows.{Rows, rows_of, named}
 use Rattle.rules.specs.Sorts.{shape_of}
 use Rattle.rules.specs.Rules.{good_columns, good_target, root_at, reference_offends}
@@ -36,7 +36,7 @@ returns-2 c =
     let test = c.before.before in
     let a = test.before.before.before.args in
     let t = rows_of a.words.now in
-    sym (no_part t a.i (columns t a.i) (fitting t a.i) (λ e. test.if1.false (test.before.tag_at.ensures ∙ e)) (sym c.before.names_root_lem.ensures ∙ not_true _ c.if2.true))
+    sym (no_part t a.i (columns t a.i) (fitting t a.i) (λ e. test.if1.false (test.before.tag_at.ensures ∙ e)) (sym c.before.names_root_lem.ensures ∙ not-true _ c.if2.true))
 
 returns-3 : tie.Need-returns-3
 unfolding reference_offends
@@ -47,7 +47,7 @@ returns-3 c =
     let a = test.before.before.before.args in
     let t = rows_of a.words.now in
     ap₂ (λ x y. not (x && y)) target.good-target.ensures (c.named-node.ensures ∙ ap (named t 20) c.before.root_at_lem.ensures)
-    ∙ sym (root_part t a.i (columns t a.i) (fitting t a.i) (λ e. test.if1.false (test.before.tag_at.ensures ∙ e)) (sym names.before.names_root_lem.ensures ∙ not_false _ names.if2.false))
+    ∙ sym (root_part t a.i (columns t a.i) (fitting t a.i) (λ e. test.if1.false (test.before.tag_at.ensures ∙ e)) (sym names.before.names_root_lem.ensures ∙ not-false _ names.if2.false))
 
 pub reference_offends_spec : {M : Type 1} → statement M
 reference_offends_spec = tie.close (tie.spec

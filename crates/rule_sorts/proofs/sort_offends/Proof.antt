@@ -1,7 +1,7 @@
 -- A node by its operands, a row that names a root by its root, and no other row (Sorts).
 use mathlib.Core.Path.{ap, ap₂, sym, ◌∙◌}
 use mathlib.Core.Bool.{not}
-use borrow.Author.Tests.{not_true, not_false}
+use borrow.Author.Tests.{not-true, not-false}
 use lib.Dec.{eqb}
 use Rattle.table.specs.Rows.{rows_of}
 use Rattle.rules.specs.Sorts.{sort_of}
@@ -20,7 +20,7 @@ sort_offends_spec = tie.close (tie.spec
     (λ c κs. search rules)
     (λ c. let test = c.before.before in
     let a = test.before.before.before.args in
-    sym (sort_none (rows_of a.words.now) a.i (λ e. test.if1.false (test.before.tag_at.ensures ∙ e)) (sym c.before.names_root_lem.ensures ∙ not_true _ c.if2.true)))
+    sym (sort_none (rows_of a.words.now) a.i (λ e. test.if1.false (test.before.tag_at.ensures ∙ e)) (sym c.before.names_root_lem.ensures ∙ not-true _ c.if2.true)))
     (λ c κs. search rules)
     (λ c κs. search rules)
     (λ c κs. search rules)
@@ -30,4 +30,4 @@ sort_offends_spec = tie.close (tie.spec
     let a = test.before.before.before.args in
     let t = rows_of a.words.now in
     ap₂ (λ x y. not (eqb x y)) (c.before.sort-of.ensures ∙ ap (sort_of t) root.root_at_lem.ensures) c.root_sort_lem.ensures
-    ∙ sym (sort_root t a.i (λ e. test.if1.false (test.before.tag_at.ensures ∙ e)) (sym named.before.names_root_lem.ensures ∙ not_false _ named.if2.false))))
+    ∙ sym (sort_root t a.i (λ e. test.if1.false (test.before.tag_at.ensures ∙ e)) (sym named.before.names_root_lem.ensures ∙ not-false _ named.if2.false))))

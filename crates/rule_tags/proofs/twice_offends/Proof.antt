@@ -2,7 +2,7 @@
 use mathlib.Core.Path.{ap, sym, ◌∙◌}
 use mathlib.Core.Bool.{not, ◌||◌}
 use native.Mathlib.Omega.{arith}
-use borrow.Author.Tests.{not_false}
+use borrow.Author.Tests.{not-false}
 use lib.Dec.{eqb}
 use Rattle.table.specs.Rows.{rows_of}
 use Rattle.rules.specs.Rules.{twice_offends}
@@ -21,6 +21,6 @@ twice_offends_spec = tie.close (tie.spec
     (λ c κs. search rules)
     (λ c κs. let test = c.before.before in
     let s = test.before.before.before.before in
-    (s.requires.0, omega (arith, s.requires.1), target_known test.before.tag_at.result (not_false _ test.if1.false)))
+    (s.requires.0, omega (arith, s.requires.1), target_known test.before.tag_at.result (not-false _ test.if1.false)))
     (λ c. let d = c.before in
     simp (c.some-row.ensures, d.b_at.ensures, d.before.a_at.ensures, d.before.before.before.tag_at.ensures)))
