@@ -3,14 +3,14 @@
 
 // One identifier of a state: "a lent list of records, one for each identifier, with value (signed 64 bits) and type". Record i is that of identifier i + 1; sort is its type.
 #[repr(C)]
-#[derive(Drop)]
+#[derive(Clone, Copy)]
 pub struct Record {
     pub value: i64,
     pub sort: u64,
 }
 
 // The step was performed, or a refusal's number and row.
-#[derive(Drop)]
+#[derive(Clone, Copy)]
 pub enum Press {
     Performed,
     Refused(u64, u64),

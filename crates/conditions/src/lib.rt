@@ -9,7 +9,7 @@ use table::operator;
 
 // What an operator adds to the well-definedness of its operands: nothing; "¬(b = 0)"; "0 ≤ a ∧ 0 < b"; that the right side's is asked only where the left is
 // true, or only where it is false.
-#[derive(Drop)]
+#[derive(Clone, Copy)]
 pub enum Condition {
     Nothing,
     Divisor,

@@ -9,7 +9,7 @@ ghost use Rattle.decode.specs.Decode.{four, first_bad, words_to, decoded_of};
 use row::{Place, Read, Row};
 
 // How many rows were decoded, or the first row that is not in the row form, counted from 0.
-#[derive(Drop)]
+#[derive(Clone, Copy)]
 pub enum Decoded {
     Complete(usize),
     Malformed(usize),

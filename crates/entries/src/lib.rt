@@ -34,7 +34,7 @@ pub fn goal_at(words: &[u64], table: Table, spans: &[usize], slot: Slot) -> Entr
 }
 
 // A place in the walk of a slot's hypotheses: a row of a segment, and how many hypotheses are left to pass. Past the last segment is the end.
-#[derive(Drop)]
+#[derive(Clone, Copy)]
 pub struct Cursor {
     pub segment: u64,
     pub row: usize,

@@ -49,7 +49,7 @@ fn of_event(event: u64, rows: Selection) -> Selection
 }
 
 // A line of 01's "Order": the kind of its sequents, the rows that they are made for, their items, and how many of a row are listed.
-#[derive(Drop)]
+#[derive(Clone, Copy)]
 pub struct Group {
     pub kind: u64,
     pub rows: Selection,

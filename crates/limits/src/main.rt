@@ -11,7 +11,7 @@ use rules::Verdict;
 use table::Table;
 
 // What is laid out: how many bytes, how often the next row stands, and what is added each time.
-#[derive(Drop)]
+#[derive(Clone, Copy)]
 struct Layout {
     at: usize,
     times: u64,

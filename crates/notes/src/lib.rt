@@ -10,7 +10,7 @@ use operators::Shape;
 use sets::single;
 
 // Of a formula: the set of its identifiers, the set of those of its well-definedness, and whether it divides.
-#[derive(Drop)]
+#[derive(Clone, Copy)]
 pub struct Note {
     pub mentioned: u64,
     pub defined: u64,

@@ -21,7 +21,7 @@ const NINE: u8 = 57;
 const FIRST_NEGATIVE: u64 = 9223372036854775808;
 
 // What columns hold.
-#[derive(Drop)]
+#[derive(Clone, Copy)]
 pub enum Number {
     Value(u64),
     Malformed,

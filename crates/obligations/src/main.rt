@@ -46,7 +46,7 @@ fn print_refusal(bytes: &[u8], number: u64, row: u64) -> Printer
 }
 
 // What is written and not yet printed: the first bytes of a buffer, which the output goes on with where the printer stands.
-#[derive(Drop)]
+#[derive(Clone, Copy)]
 struct Batch {
     printer: Printer,
     held: usize,

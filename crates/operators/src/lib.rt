@@ -8,7 +8,7 @@ ghost use Rattle.operators.specs.Operator.{operator_at, usage_of, meant, meant_s
 use table::sort;
 
 // How an operator uses its columns b and c: a literal's value, an identifier, a variable, or operands.
-#[derive(Drop)]
+#[derive(Clone, Copy)]
 pub enum Shape {
     Value,
     Identifier,
@@ -20,7 +20,7 @@ pub enum Shape {
 }
 
 // An operator: its number, how it uses its columns, the sort of its operands and its own.
-#[derive(Drop)]
+#[derive(Clone, Copy)]
 pub struct Operator {
     pub number: u64,
     pub shape: Shape,

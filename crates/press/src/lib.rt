@@ -34,7 +34,7 @@ use values::{Reached, is_step_row, read_values};
 use verdict::{Loaded, judge_with, load};
 
 // What the rows of a step choose: an event, whose values are stored; or they are no choice.
-#[derive(Drop)]
+#[derive(Clone, Copy)]
 pub enum Chosen {
     Event(u64),
     Nothing,

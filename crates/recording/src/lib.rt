@@ -2,7 +2,7 @@
 #![tactic(auto)]
 
 // How many steps follow the initialisation, or a refusal's number and row.
-#[derive(Drop)]
+#[derive(Clone, Copy)]
 pub enum Replay {
     Steps(u64),
     Refused(u64, u64),

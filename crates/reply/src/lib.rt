@@ -4,7 +4,7 @@
 pub mod tags;
 
 // How many rows were written, or a refusal's number and row.
-#[derive(Drop)]
+#[derive(Clone, Copy)]
 pub enum Reply {
     Written(u64),
     Refused(u64, u64),

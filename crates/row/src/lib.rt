@@ -11,7 +11,7 @@ use number::Number;
 // The last byte of a row.
 const NEWLINE: u8 = 10;
 
-#[derive(Drop)]
+#[derive(Clone, Copy)]
 pub struct Row {
     pub tag: u64,
     pub a: u64,
@@ -20,20 +20,20 @@ pub struct Row {
 }
 
 // What the bytes of a row's length hold.
-#[derive(Drop)]
+#[derive(Clone, Copy)]
 pub enum Line {
     Whole(Row),
     Malformed,
 }
 
 // Where reading goes on, in bytes.
-#[derive(Drop)]
+#[derive(Clone, Copy)]
 pub struct Place {
     pub at: usize,
 }
 
 // What a read finds: a row and the place after it, bytes that are no row (a torn one among them), or the end.
-#[derive(Drop)]
+#[derive(Clone, Copy)]
 pub enum Read {
     Next(Row, Place),
     Malformed,

@@ -12,7 +12,7 @@ use scan::{Query, some_row, span_at, span_tag};
 use table::{Table, a_at, b_at, c_at, tag, tag_at};
 
 // How many of the columns a, b, c a tag uses, and how many rows it may have; none of an unknown tag.
-#[derive(Drop)]
+#[derive(Clone, Copy)]
 pub struct Limits {
     pub columns: u64,
     pub most: u64,

@@ -2,7 +2,7 @@
 #![tactic(auto)]
 
 // What check answers: the count of a table's sequents, or a refusal's number and row.
-#[derive(Drop)]
+#[derive(Clone, Copy)]
 pub enum Verdict {
     Accepted(u64),
     Refused(u64, u64),

@@ -15,7 +15,7 @@ ghost use Rattle.scan.specs.Query.{span_tag};
 use table::{Table, a_at, b_at, event, size, tag, tag_at};
 
 // A test of a row, with the numbers that it compares the row's with.
-#[derive(Drop)]
+#[derive(Clone, Copy)]
 pub enum Query {
     // an event of a machine (check 5)
     Event(u64),
@@ -62,7 +62,7 @@ fn passes(query: Query, tag: u64, a: u64, b: u64) -> bool
 }
 
 // Rows among which those that pass a test stand: none is before `from`, and none at `to` or behind it.
-#[derive(Drop)]
+#[derive(Clone, Copy)]
 pub struct Span {
     pub from: usize,
     pub to: usize,

@@ -104,7 +104,7 @@ fn witness_rows(words: &[u64], table: Table, slot: Slot) -> Selection
 }
 
 // A part of the hypotheses: an entry for each row of a selection before a row, of a form and with a number from the row.
-#[derive(Drop)]
+#[derive(Clone, Copy)]
 pub struct Segment {
     pub rows: Selection,
     pub before: usize,

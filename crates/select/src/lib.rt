@@ -18,7 +18,7 @@ use table::{
 };
 
 // Rows of a tag; or the rows 0, 1, .. in their stead that stand for the identifiers 1, 2, ..
-#[derive(Drop)]
+#[derive(Clone, Copy)]
 pub enum Selection {
     // no row
     None,
@@ -191,7 +191,7 @@ fn selected_span(words: &[u64], table: Table, spans: &[usize], selection: Select
 }
 
 // What the item of a row 80, or the number of an entry, is: a column of a row, the root of the action for the identifier that the row stands for, or that identifier.
-#[derive(Drop)]
+#[derive(Clone, Copy)]
 pub enum Item {
     A,
     B,
@@ -215,7 +215,7 @@ pub fn item_at(words: &[u64], spans: &[usize], item: Item, event: u64, i: usize)
 }
 
 // How many sequents, or entries, there are of a row of a selection.
-#[derive(Drop)]
+#[derive(Clone, Copy)]
 pub enum Each {
     // one
     One,
@@ -278,7 +278,7 @@ fn greater(m: usize, n: usize) -> usize
 }
 
 // A row, and how many of the sequents or entries from it on are still to be passed over.
-#[derive(Drop)]
+#[derive(Clone, Copy)]
 pub struct Sought {
     pub row: usize,
     pub left: u64,

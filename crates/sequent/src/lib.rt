@@ -5,7 +5,7 @@ pub mod form;
 pub mod kind;
 
 // "An entry has a form and two numbers."
-#[derive(Drop)]
+#[derive(Clone, Copy)]
 pub struct Entry {
     pub form: u64,
     pub first: u64,

@@ -124,7 +124,7 @@ fn spell_found(
 }
 
 // What is asked of a sequent: its rows, or an entry of it spelled.
-#[derive(Drop)]
+#[derive(Clone, Copy)]
 pub enum Request {
     Write,
     Spell(u64),

@@ -8,7 +8,7 @@ ghost use Rattle.signed.specs.Found.{found_of};
 ghost use Rattle.signed.specs.Signed.{signedℤ};
 
 // What evaluating gives: a value; "16 marks an evaluated term outside 64 bits and 17 an undefined one".
-#[derive(Drop)]
+#[derive(Clone, Copy)]
 pub enum Found {
     Number(i64),
     Truth(bool),

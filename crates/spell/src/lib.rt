@@ -24,7 +24,7 @@ use table::{Table, c_at, is_variable, node_field, operand, operator, size, sort,
 const ROWS_CAP: u64 = 1152921504606846976;
 
 // What a node is spelled by: the operator and b of its row, how many operands follow it, and their nodes.
-#[derive(Drop)]
+#[derive(Clone, Copy)]
 struct Node {
     operator: u64,
     b: u64,

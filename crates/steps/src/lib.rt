@@ -28,7 +28,7 @@ use values::{Reached, is_step_row, move_values, read_values, row_number};
 use verdict::{Loaded, judge_with, load};
 
 // What a step comes to: where the next one begins, the end of the run before it with the number of its steps, or a refusal's number and row.
-#[derive(Drop)]
+#[derive(Clone, Copy)]
 pub enum Progress {
     Going(Place),
     Ended(u64),
@@ -121,7 +121,7 @@ fn replay_step(
 
 // What a part of a run comes to: so many steps taken and the place where the next one begins, of which more is needed; or the end of the run with the number of its
 // steps, or a refusal's number and row.
-#[derive(Drop)]
+#[derive(Clone, Copy)]
 pub enum Part {
     More(u64, Place),
     Ended(u64),

@@ -1,5 +1,5 @@
 -- 01, Rows: a table's rows as numbers, their sections, and how identifiers, nodes and events are named.
-use Rattle.std.specs.Prelude.{ℕ, ◌+◌, ◌-◌, ◌*◌, ◌/◌, ◌≤◌, ◌<◌, Bool, ◌&&◌, ◌||◌, List, [], ltb, leb, eqb, length, get_or}
+use Rattle.std.specs.Prelude.{ℕ, ◌+◌, ◌-◌, ◌*◌, ◌/◌, ◌≤◌, ◌<◌, Bool, ◌&&◌, ◌||◌, List, ltb, leb, eqb, length, get_or}
 use Rattle.lists.specs.Below.{count_below, numbers, keep}
 use Rattle.table.specs.Names.{becomes_equal_tag, becomes_such_tag, event_tag, identifier_tag, node_tag}
 

@@ -17,7 +17,7 @@ ghost use Rattle.table.specs.Counts.{empty_counts, counted_row, counts_of, Small
 use row::Row;
 
 // How many rows stand before the identifiers, the nodes and the events of a table, and how many of these there are.
-#[derive(Drop)]
+#[derive(Clone, Copy)]
 pub struct Table {
     pub identifiers_start: u64,
     pub identifiers: u64,

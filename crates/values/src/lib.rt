@@ -29,7 +29,7 @@ use table::{
 };
 
 // Where reading goes on, or the row that is bad: 0 where the run ends.
-#[derive(Drop)]
+#[derive(Clone, Copy)]
 pub enum Reached {
     Next(Place),
     Bad(u64),

@@ -20,7 +20,7 @@ use table::Table;
 use walk::count;
 
 // How many words the rows of a table have, or refusal 1 or 2 with its row.
-#[derive(Drop)]
+#[derive(Clone, Copy)]
 pub enum Loaded {
     Words(usize),
     Refused(u64, u64),

@@ -20,7 +20,7 @@ use sequent::kind;
 use table::{Table, b_at, c_at, size};
 
 // A slot of the walk, and how many sequents from its first on a search has still to pass over.
-#[derive(Drop)]
+#[derive(Clone, Copy)]
 pub struct Slot {
     pub event: u64,
     pub group: u64,

@@ -1,0 +1,5 @@
+-- Machine and class are the event's.
+use Rattle.events.proofs.is_refining.Goals as goal
+
+pub returns : goal.returns
+returns c = simp (c.event_field.ensures, c.is_abstract.ensures)
