@@ -26,7 +26,16 @@ import snake  # noqa: E402
 NAME = r'[^\s(){}.;,@"«»]+'
 DECLARED = re.compile(r"(?m)^ *(?:(?:pub|abbrev|unfoldable|data|record|ruleset) +)*(" + NAME + r")(?: \{[^{}\n]*\}| \([^()\n]*\))* : *(.*)$")
 KINDS = r"WFIS|FIS|WD|INV|GRD|SIM|NAT|VAR"
-CHOSEN = {"roomOf": "room_for", "byZero": "divided_by_zero"}
+CHOSEN = {
+    "roomOf": "room_for",
+    "byZero": "divided_by_zero",
+    "press-fault": "press_at_fault",
+    "action-fault": "action_at_fault",
+    "step-fault": "step_at_fault",
+    "no-sequent": "no_sequent_there",
+    "sim-new": "sim_of_new",
+    "witness-root": "root_of_witness",
+}
 MADE = re.compile(r"(invariant|decreases|measure|Inv|μ)-loop.*|returns(-.*)?|.*-requires(-.*)?|overflow_.*|bounds-.*|slice_.*|nonzero_.*")
 PROOF = re.compile(r"/proofs/.*/(Proof|Answers|Invariants)\.antt$")
 

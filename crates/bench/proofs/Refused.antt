@@ -45,7 +45,7 @@ use Rattle.bench.specs.State.{values_in, types_in, is_state, IsState, updated}
 use Rattle.bench.specs.Choice.{Choice, chosen, none, choice}
 use Rattle.bench.specs.Press.{Outcome, made, refused, answered, completed, press_fault, press_choice, at_hand, press_on, outcome_by, outcome, reply_of, records_outcome, press, preview}
 use Rattle.bench.specs.Pressed.{state_of, choice_rows}
-use Rattle.bench.specs.Refusal.{Chooses, Completes, Chosen, PressRefusal, wrong_list, no_choice, axiom_fault, press_fault_lem}
+use Rattle.bench.specs.Refusal.{Chooses, Completes, Chosen, PressRefusal, wrong_list, no_choice, axiom_fault, press_at_fault}
 use Rattle.bench.proofs.State.{state_right, right_state}
 use Rattle.bench.proofs.Lengths.{made_never, refused_where}
 use Rattle.bench.proofs.After.{complete_present}
@@ -226,7 +226,7 @@ module _ (t : Rows) where
             go : (e : ℕ) (ws : Values) (at : Situation t zs types c c e ws) (q k : State machine) (known : Held t e ws.present (us t ok at) c c q k) (m : ℕ) → Chosen t step zs types room e q k
                 → Parts at q k known m → PressRefusal t step zs types room m
             go e ws at q k known m why (inl f) = axiom_fault e q k why f
-            go e ws at q k known m why (inr (a, f)) = press_fault_lem e q k why (axioms_met at q k known m a) f
+            go e ws at q k known m why (inr (a, f)) = press_at_fault e q k why (axioms_met at q k known m a) f
 
         by_choice : IsState t zs types → room ≡ count t 10 → (d : Choice) → choice t (lines step) (at_hand t zs) ≡ d → press_choice t zs d ≡ refused n row → (row ≡ 0) × PressRefusal t step zs types room n
         by_choice right roomy none q h = marked h (no_choice right roomy (λ e p k w. none_never (sym q ∙ chooses_choice right e p k w)))
@@ -267,7 +267,7 @@ module _ (t : Rows) where
             let w = chosen_situated t ok step zs types right e ws q in
             absurd (h e (stored machine.type ws.present) (stored machine.type (completed t e ws).after) (record { is_event = w.is_event; is_other = w.is_other; in_form = w.in_form; written = w.written }))
     cause_refused room n (axiom_fault e q k w f) = parts_refused room n e q k w (inl f)
-    cause_refused room n (press_fault_lem e q k w axioms f) =
+    cause_refused room n (press_at_fault e q k w axioms f) =
         let at = chooses_at w.is_state e q k w.chooses in
         let known = chosen_held w.is_state e q k w.chooses w.completes in
         parts_refused room n e q k w (inr (met_axioms at q k known n axioms, f))

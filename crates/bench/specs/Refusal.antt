@@ -50,6 +50,6 @@ module _ (t : Rows) (step : List ℕ) (zs : List ℤ) where
     -- "axioms read first each time"
     axiom_fault : {n : ℕ} (e : ℕ) (q k : State machine) → Chosen types room e q k → FirstUntrue t (constants_alone t (state_of t zs)) machine.axioms n → PressRefusal types room n
     -- "by replay's rules"
-    press_fault_lem : {n : ℕ} (e : ℕ) (q k : State machine) → Chosen types room e q k
+    press_at_fault : {n : ℕ} (e : ℕ) (q k : State machine) → Chosen types room e q k
         → AllReadTrue machine (constants_alone t (state_of t zs)) machine.axioms × AllInside t (constants_alone t (state_of t zs)) machine.axioms
         → StepFault t (machine.role e) e (state_of t zs) (state_of t zs) q k n → PressRefusal types room n

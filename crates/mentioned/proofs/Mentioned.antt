@@ -20,7 +20,7 @@ use Rattle.table.proofs.Sections.{named_bounds}
 use Rattle.machine.specs.Machine.{Action, unassigned, becomes_equal, becomes_such_that, Machine}
 use Rattle.machine.specs.Described.{action_of, machine_of}
 use Rattle.sequent.specs.Entry.{Entry, variable, action_tree, witness_tree, formula}
-use Rattle.sequent.proofs.Entries.{Root, action_root, witness_root_lem, witness_for}
+use Rattle.sequent.proofs.Entries.{Root, action_root, root_of_witness, witness_for}
 use Rattle.sequent.proofs.Entries.{EntryOf, of_written, of_primed, of_defined, of_moves, of_feasible, of_witnessed, of_natural, of_decreases, of_not_increased, of_unchanged}
 use Rattle.rules.proofs.Obeys.{Obeys}
 use Rattle.rules.proofs.Formed.{root_named}
@@ -97,7 +97,7 @@ module _ (t : Rows) (ok : Obeys t) where
       found =
           let f = witness_for (m.witnesses e) i in
           ap (bit_or (set_of (x ∷ [])))
-          (ap (node_set t) f.root ∙ root_set (witness_root_lem e f.listed) ∙ sym (ap (λ r. set_of (identifiers (m.tree r))) f.root))
+          (ap (node_set t) f.root ∙ root_set (root_of_witness e f.listed) ∙ sym (ap (λ r. set_of (identifiers (m.tree r))) f.root))
           ∙ set_before x (identifiers (witness_tree m e x))
 
       go : (b : Bool) → witness_set t e x ≡ set_of (formula_identifiers (pick b (some_after_value x (witness_tree m e x)) (some_value x (witness_tree m e x))))

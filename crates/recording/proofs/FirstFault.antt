@@ -36,7 +36,7 @@ use Rattle.recording.specs.Rows.{is_initial}
 use Rattle.recording.specs.Faults.{no_fault, log_fault, differs, fault_of, first_fault, untrue, not_allowed, step_fault}
 use Rattle.recording.specs.Recorded.{constants_alone}
 use Rattle.recording.specs.Refusal.{FormulaFault, outside_term, undefined_term, other_value, ActionFault, FirstUntrue, AxiomsMet}
-use Rattle.recording.specs.Refusal.{StepFault, axiom_fault, guard_fault, action_fault_lem}
+use Rattle.recording.specs.Refusal.{StepFault, axiom_fault, guard_fault, action_at_fault}
 use Rattle.recording.proofs.Sight.{never, sees, a_constant, ActionSeen}
 use Rattle.recording.proofs.Judged.{agree_less, agree_own, formula_judged, judged_formula, predicates_judged, judged_predicates, action_judged, judged_action}
 use Rattle.recording.proofs.Step.{Held, a_variable, variable_in, agree_before, agree_both, agree_constants, seen_action, seen_axioms, seen_guards}
@@ -223,7 +223,7 @@ module _ (t : Rows) where
           later : AxiomsMet t e c → First None Marks guard_faults m ⊎ (All None guard_faults × First None Marks (map action_fault (own_variables machine ro)) m) → StepFault t ro e c s q k m
           later a (inl f) = guard_fault a (number_untrue before (sight (blank machine)) guards_agree (machine.guards e) guards_seen f)
           later a (inr (g, f)) =
-              action_fault_lem a (predicates_judged t before (sight (blank machine)) guards_agree (machine.guards e) guards_seen g)
+              action_at_fault a (predicates_judged t before (sight (blank machine)) guards_agree (machine.guards e) guards_seen g)
               (first_unmap action_fault (own_variables machine ro)
               (λ x i z. action_judged t both (sight k) actions_agree x (variable_in t x (own_variable x i)) (machine.action e x) (action_seen x i) z)
               (λ x i z. number_action both (sight k) actions_agree x (variable_in t x (own_variable x i)) (machine.action e x) (action_seen x i) z) f)
@@ -239,7 +239,7 @@ module _ (t : Rows) where
           first_left _ (subst (λ b. First None Marks (pick b axiom_faults []) m) (sym (test_true _ j) ∙ i) (untrue_number before (constants_alone t c) constants_agree machine.axioms axioms_seen f))
       parts_number b {m} i (guard_fault a f) =
           first_right (met_axioms b i a) (first_left _ (untrue_number before (sight (blank machine)) guards_agree (machine.guards e) guards_seen f))
-      parts_number b {m} i (action_fault_lem a g f) =
+      parts_number b {m} i (action_at_fault a g f) =
           first_right (met_axioms b i a) (first_right (judged_predicates t before (sight (blank machine)) guards_agree (machine.guards e) guards_seen g.0 g.1)
           (first_map action_fault
           (λ x i z. judged_action t both (sight k) actions_agree x (variable_in t x (own_variable x i)) (machine.action e x) (action_seen x i) z.0 z.1)

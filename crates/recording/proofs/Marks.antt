@@ -27,8 +27,8 @@ use Rattle.recording.specs.Lines.{lines}
 use Rattle.recording.specs.Faults.{outside_fault, undefined_fault, log_fault}
 use Rattle.recording.specs.Replay.{replay_log}
 use Rattle.recording.specs.Refusal.{FormulaFault, outside_term, undefined_term, other_value, ActionFault}
-use Rattle.recording.specs.Refusal.{StepFault, axiom_fault, guard_fault, action_fault_lem, beginning, Begun}
-use Rattle.recording.specs.Refusal.{Refusal, empty, bad_step, bad_value, ends_inside, step_fault_lem, after_step}
+use Rattle.recording.specs.Refusal.{StepFault, axiom_fault, guard_fault, action_at_fault, beginning, Begun}
+use Rattle.recording.specs.Refusal.{Refusal, empty, bad_step, bad_value, ends_inside, step_at_fault, after_step}
 use Rattle.recording.proofs.Lines.{lines_nothing}
 use Rattle.recording.proofs.Runs.{steps_never, RunOf, replay_recorded, recorded_replay}
 use Rattle.recording.proofs.Refusals.{refused_number, refused_row, begun_length, RefusalOf, refusal_exact}
@@ -55,14 +55,14 @@ module _ (t : Rows) where
   step_fault_number : {ro : Role} {e : ℕ} {c s q k : State machine} {n : ℕ} → StepFault t ro e c s q k n → LogNumber n
   step_fault_number (axiom_fault i f) = formula_fault_number (first_in f).2
   step_fault_number (guard_fault a f) = formula_fault_number (first_in f).2
-  step_fault_number {e = e} {n = n} (action_fault_lem a g f) = let (x, i, g) = first_in f in action_fault_number _ x (machine.action e x) n g
+  step_fault_number {e = e} {n = n} (action_at_fault a g f) = let (x, i, g) = first_in f in action_fault_number _ x (machine.action e x) n g
 
   pub refusal_number : {first : Bool} {c s : State machine} {i : ℕ} {bytes : List ℕ} {number row : ℕ} → Refusal t first c s i bytes number row → LogNumber number
   refusal_number empty = inr (inr refl)
   refusal_number (bad_step some b) = inr (inr refl)
   refusal_number (bad_value e xs ys y v more begun are some b) = inr (inr refl)
   refusal_number (ends_inside e xs ys y v begun are) = inr (inr refl)
-  refusal_number (step_fault_lem e d q k more same begun f) = step_fault_number f
+  refusal_number (step_at_fault e d q k more same begun f) = step_fault_number f
   refusal_number (after_step e d q k more same begun axioms step inside r) = refusal_number r
 
   -- ---- the row
@@ -93,7 +93,7 @@ module _ (t : Rows) where
   refusal_row (bad_value {i = i} e xs ys y v more begun are some b) =
       let l = some_line more some in let k = begun_length t begun in inl (omega arith, omega (arith, l, k))
   refusal_row (ends_inside e xs ys y v begun are) = inr (refl, refl, begun_whole begun ([], refl, all_nil))
-  refusal_row (step_fault_lem e d q k more same begun f) = let l = begun_length t begun in inl (omega arith, omega (arith, l))
+  refusal_row (step_at_fault e d q k more same begun f) = let l = begun_length t begun in inl (omega arith, omega (arith, l))
   refusal_row (after_step {i = i} {bytes = bytes} {n = number} {j = row} e d q k more same begun axioms step inside r) = go (refusal_row r)
     where
       go : RowOf (i + 1 + length (logged t e)) more number row → RowOf i bytes number row

@@ -31,7 +31,7 @@ use Rattle.recording.specs.Faults.{no_fault, log_fault, step_fault}
 use Rattle.recording.specs.Replay.{Values, Found, found, bad, read_values, moved, judged, replay_from, no_values, replay_log}
 use Rattle.recording.specs.Recorded.{value_row, logged_value}
 use Rattle.recording.specs.Refusal.{StepFault, beginning, Begun, SameConstants, state_before}
-use Rattle.recording.specs.Refusal.{Refusal, empty, bad_step, bad_value, ends_inside, step_fault_lem, after_step}
+use Rattle.recording.specs.Refusal.{Refusal, empty, bad_step, bad_value, ends_inside, step_at_fault, after_step}
 use Rattle.recording.proofs.Step.{Held, Allowed, fault_allowed, allowed_fault}
 use Rattle.recording.proofs.FirstFault.{number_fault, fault_number}
 use Rattle.recording.proofs.Values.{LineFormed, Sized, value_at, read_size, read_rows, Reads, rows_read_lem}
@@ -224,7 +224,7 @@ module _ (t : Rows) where
 
           fault_marked : (m : ℕ) → step_fault t e ws.present ws.after ≡ m → ¬ (m ≡ no_fault) → Refusal t first c s i bytes m i
           fault_marked m h z =
-              step_fault_lem e d q k step_opened.more (constants_same first ws c) step_opened.begun
+              step_at_fault e d q k step_opened.more (constants_same first ws c) step_opened.begun
               (number_fault t ok e is_step_lem.is_event is_step_lem.concrete ws.present ws.after d (state_before t first s) q k step_held m h z)
 
           later_marked : step_fault t e ws.present ws.after ≡ no_fault → replay_from t most (n + 1) (i + 1 + length (logged t e)) rest (moved t ws) ≡ Refused number row
@@ -354,7 +354,7 @@ module _ (t : Rows) where
         stop_refused most first c s n i bytes vs is-first at e begun y ys (i + 1 + length xs) are (inr (bad_bytes t (is_value_row t y) more (some, b), refl))
     marked_refused (suc most) n vs (ends_inside {first = first} {c = c} {s = s} {i = i} {bytes = bytes} e xs ys y v begun are) is-first enough at =
         stop_refused most first c s n i bytes vs is-first at e begun y ys 0 are (inl (lines_none [] refl, refl))
-    marked_refused (suc most) n vs (step_fault_lem {first = first} {c = c} {s = s} {i = i} {bytes = bytes} {n = m} e d q k more same begun f) is-first enough at =
+    marked_refused (suc most) n vs (step_at_fault {first = first} {c = c} {s = s} {i = i} {bytes = bytes} {n = m} e d q k more same begun f) is-first enough at =
         step_fault_refused most first c s n i bytes vs is-first at e d q k same begun m f
     marked_refused (suc most) n vs (after_step {first = first} {c = c} {s = s} {i = i} {bytes = bytes} e d q k more same begun axioms step inside r) is-first enough at =
         let few : length (lines more) < most = (let l = begun_length begun in omega (arith, l, enough)) in

@@ -19,7 +19,7 @@ use Rattle.recording.specs.Rows.{is_initial}
 use Rattle.recording.specs.Faults.{outside_fault, undefined_fault, log_fault}
 use Rattle.recording.specs.Recorded.{constants_alone}
 use Rattle.recording.specs.Refusal.{FormulaFault, outside_term, undefined_term, other_value, ActionFault}
-use Rattle.recording.specs.Refusal.{StepFault, axiom_fault, guard_fault, action_fault_lem}
+use Rattle.recording.specs.Refusal.{StepFault, axiom_fault, guard_fault, action_at_fault}
 
 module _ (t : Rows) where
   abbrev machine : Machine
@@ -65,7 +65,7 @@ module _ (t : Rows) where
     step_read : (ro : Role) (e : ℕ) (c s q k : State machine) → StepFault t ro e c s q k n → Some P ro e c s q k
     step_read ro e c s q k (axiom_fault i f) = let (r, j, g) = first_in f in (constants_alone t c, r, read_axiom i j, has _ r _ g)
     step_read ro e c s q k (guard_fault a f) = let (r, j, g) = first_in f in (view machine ro c s q (blank machine), r, read_guard j, has _ r _ g)
-    step_read ro e c s q k (action_fault_lem a g f) = let (x, j, h) = first_in f in action_read ro e c s q k x j (machine.action e x) refl h
+    step_read ro e c s q k (action_at_fault a g f) = let (x, j, h) = first_in f in action_read ro e c s q k x j (machine.action e x) refl h
 
   module _ (ro : Role) (e : ℕ) (c s q k : State machine) where
     pub step_outside : StepFault t ro e c s q k outside_fault → Some Leaves ro e c s q k

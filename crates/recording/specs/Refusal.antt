@@ -48,7 +48,7 @@ module _ (t : Rows) where
   pub data StepFault (ro : Role) (e : ℕ) (c s q k : State machine) (n : ℕ) : Type 0 where
     axiom_fault : T (is_initial t e) → FirstUntrue (constants_alone t c) machine.axioms n → StepFault ro e c s q k n
     guard_fault : AxiomsMet e c → FirstUntrue (view machine ro c s q (blank machine)) (machine.guards e) n → StepFault ro e c s q k n
-    action_fault_lem : AxiomsMet e c
+    action_at_fault : AxiomsMet e c
         → AllReadTrue machine (view machine ro c s q (blank machine)) (machine.guards e) × AllInside t (view machine ro c s q (blank machine)) (machine.guards e)
         → First (λ x. Allows machine (view machine ro c s q k) x (machine.action e x) × ActionInside t (view machine ro c s q k) (machine.action e x))
         (λ x n. ActionFault (view machine ro c s q k) x (machine.action e x) n) (own_variables machine ro) n
@@ -96,7 +96,7 @@ module _ (t : Rows) where
     ends_inside : {first : Bool} {c s : State machine} {i : ℕ} {bytes : List ℕ} (e : ℕ) (xs ys : List ℕ) (y : ℕ) (v : State machine)
         → Begun first e xs v [] bytes → logged t e ≡ xs ++ (y ∷ ys) → Refusal first c s i bytes log_fault 0
     -- "16 .. 17 .. each with the step's row 90; 18 .. a step that isn't allowed with its row 90"
-    step_fault_lem : {first : Bool} {c s : State machine} {i : ℕ} {bytes : List ℕ} {n : ℕ} (e : ℕ) (d q k : State machine) (more : List ℕ) → SameConstants first c d
+    step_at_fault : {first : Bool} {c s : State machine} {i : ℕ} {bytes : List ℕ} {n : ℕ} (e : ℕ) (d q k : State machine) (more : List ℕ) → SameConstants first c d
         → Begun first e (logged t e) (logged_value t d q k) more bytes → StepFault (machine.role e) e d (state_before first s) q k n → Refusal first c s i bytes n i
     -- a step that is allowed, and a refusal after it
     after_step : {first : Bool} {c s : State machine} {i : ℕ} {bytes : List ℕ} {n j : ℕ} (e : ℕ) (d q k : State machine) (more : List ℕ) → SameConstants first c d

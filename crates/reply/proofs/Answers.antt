@@ -31,7 +31,7 @@ use Rattle.reply.specs.declared.Reply.TheVariants as reply
 use Rattle.reply.specs.Printed.{rows_bytes}
 use Rattle.reply.specs.Replies.{Outcome, refused, write_rows, among, entries, with_sequent, write_by, spell_at, spell_by, write_sequent, spell_entry}
 use Rattle.reply.specs.Answers.{Call, writing, spelling, asked, OneOf, sequent_asked, EntryThere, rows_asked, outcome_of}
-use Rattle.reply.specs.Answers.{Refusal, of_table, no_sequent_lem, no_entry, no_room, Answer, refusal, success}
+use Rattle.reply.specs.Answers.{Refusal, of_table, no_sequent_there, no_entry, no_room, Answer, refusal, success}
 use Rattle.reply.proofs.Members.{sequent_listed, entry_listed}
 use Rattle.reply.proofs.Printed.{rows_length}
 use Rattle.reply.proofs.ReadBack.{rows_read_lem}
@@ -74,7 +74,7 @@ module _ (bytes : List ℕ) where
     where
       go : (b : Bool) → among (asked q) n ≡ b → Answer bytes q out (pick b (f (sequent_asked bytes q)) (refused 13 0 out))
       go true p = g n e (among_one (asked q) n p)
-      go false p = refusal (no_sequent_lem n e (not_one (asked q) n p))
+      go false p = refusal (no_sequent_there n e (not_one (asked q) n p))
 
   pub answered : (q : Call) (out : List ℕ) → Answer bytes q out (outcome_of bytes q out)
   unfolding write_sequent spell_entry
@@ -98,13 +98,13 @@ module _ (bytes : List ℕ) where
   refused_as : (q : Call) (out : List ℕ) {c r : ℕ} → Refusal bytes q out c r → outcome_of bytes q out ≡ refused c r out
   unfolding write_sequent spell_entry write_rows
   refused_as (writing k) out (of_table e) = ap (λ v. write_by (machine bytes) v k out) e
-  refused_as (writing k) out (no_sequent_lem n e h) =
+  refused_as (writing k) out (no_sequent_there n e h) =
       ap (λ v. write_by (machine bytes) v k out) e ∙ not_chosen (among k n) _ _ (not_among k n h)
   refused_as (writing k) out (no_entry n e h f) = absurd (f tt)
   refused_as (writing k) out (no_room n e h f l) =
       ap (λ v. write_by (machine bytes) v k out) e ∙ chosen (among k n) _ _ (one_among k n h) ∙ chosen (ltb (length out) _) _ _ (lt-ltb (length out) _ l)
   refused_as (spelling k j) out (of_table e) = ap (λ v. spell_by (machine bytes) v k j out) e
-  refused_as (spelling k j) out (no_sequent_lem n e h) =
+  refused_as (spelling k j) out (no_sequent_there n e h) =
       ap (λ v. spell_by (machine bytes) v k j out) e ∙ not_chosen (among k n) _ _ (not_among k n h)
   refused_as (spelling k j) out (no_entry n e h f) =
       ap (λ v. spell_by (machine bytes) v k j out) e ∙ chosen (among k n) _ _ (one_among k n h) ∙ not_chosen (among j _) _ _ (not_among j _ f)
@@ -186,7 +186,7 @@ module _ (bytes : List ℕ) (q : Call) (out : List ℕ) where
   -- "row 0" at numbers 1 and 12 to 15, else a row of the table, counted from 1
   pub refusal_inside : {c r : ℕ} → Refusal bytes q out c r → r ≤ row_count bytes
   refusal_inside (of_table {c} {r} e) = refused_inside bytes c r e
-  refusal_inside (no_sequent_lem n e h) = omega arith
+  refusal_inside (no_sequent_there n e h) = omega arith
   refusal_inside (no_entry n e h f) = omega arith
   refusal_inside (no_room n e h f l) = omega arith
 
@@ -195,19 +195,19 @@ module _ (bytes : List ℕ) (q : Call) (out : List ℕ) where
       let n = refused_number bytes c r e in
       let z = refused_row bytes c r e in
       (λ p. ⊎_elim inl (λ h. inr (omega arith)) (z.0 p), λ h. z.1 (⊎_elim inl (λ l. inr (omega (arith, n.1))) h))
-  refusal_row (no_sequent_lem n e h) = (λ p. inr (omega arith), λ p. refl)
+  refusal_row (no_sequent_there n e h) = (λ p. inr (omega arith), λ p. refl)
   refusal_row (no_entry n e h f) = (λ p. inr (omega arith), λ p. refl)
   refusal_row (no_room n e h f l) = (λ p. inr (omega arith), λ p. refl)
 
 -- the numbers of write are 1 to 13 and 15, those of spell 1 to 15
 pub write_number : (bytes : List ℕ) (k : ℕ) (out : List ℕ) {c r : ℕ} → Refusal bytes (writing k) out c r → ((1 ≤ c) × (c ≤ 13)) ⊎ (c ≡ 15)
 write_number bytes k out (of_table {c} {r} e) = let n = refused_number bytes c r e in inl (n.0, omega (arith, n.1))
-write_number bytes k out (no_sequent_lem n e h) = inl (omega arith, omega arith)
+write_number bytes k out (no_sequent_there n e h) = inl (omega arith, omega arith)
 write_number bytes k out (no_entry n e h f) = absurd (f tt)
 write_number bytes k out (no_room n e h f l) = inr refl
 
 pub spell_number : (bytes : List ℕ) (k j : ℕ) (out : List ℕ) {c r : ℕ} → Refusal bytes (spelling k j) out c r → (1 ≤ c) × (c ≤ 15)
 spell_number bytes k j out (of_table {c} {r} e) = let n = refused_number bytes c r e in (n.0, omega (arith, n.1))
-spell_number bytes k j out (no_sequent_lem n e h) = (omega arith, omega arith)
+spell_number bytes k j out (no_sequent_there n e h) = (omega arith, omega arith)
 spell_number bytes k j out (no_entry n e h f) = (omega arith, omega arith)
 spell_number bytes k j out (no_room n e h f l) = (omega arith, omega arith)

@@ -31,7 +31,7 @@ use Rattle.sequent.specs.Entry.{Entry, variable}
 use Rattle.sequent.specs.Entry.{action_tree, witness_tree, formula}
 use Rattle.sequent.specs.Sequent.{Sequent}
 use Rattle.sequent.specs.Listed.{sequents}
-use Rattle.sequent.proofs.Entries.{Root, action_root, witness_root_lem, witness_for, listed_made}
+use Rattle.sequent.proofs.Entries.{Root, action_root, root_of_witness, witness_for, listed_made}
 use Rattle.sequent.proofs.Entries.{EntryOf, of_written, of_primed, of_defined, of_moves, of_feasible, of_witnessed, of_natural, of_decreases, of_not_increased, of_unchanged}
 use Rattle.rules.proofs.Obeys.{Obeys}
 use Rattle.rules.proofs.Mentioned.{identifier_limit_lem, root_identifiers, variable_identifier, target_identifier}
@@ -132,7 +132,7 @@ module _ (t : Rows) (ok : Obeys t) where
       named_each : Each (w.target ∷ identifiers (witness_tree m e w.target))
       named_each =
           let f = witness_for (m.witnesses e) i in
-          all_cons (target_identifier t ok e i) (subst (λ r. Each (identifiers (m.tree r))) (sym f.root) (root_each (witness_root_lem e f.listed)))
+          all_cons (target_identifier t ok e i) (subst (λ r. Each (identifiers (m.tree r))) (sym f.root) (root_each (root_of_witness e f.listed)))
 
       go : (b : Bool) → Each (formula_identifiers (pick b (some_after_value w.target (witness_tree m e w.target)) (some_value w.target (witness_tree m e w.target))))
       go true = named_each

@@ -49,7 +49,7 @@ pub data Refusal (bytes : List ℕ) (q : Call) (out : List ℕ) : ℕ → ℕ �
   -- 1 to 12: the table is refused
   of_table : {c r : ℕ} → verdictOf bytes ≡ verdict.Refused c r → Refusal bytes q out c r
   -- 13 sequent: "k not in 1 to the count; row 0"
-  no_sequent_lem : (n : ℕ) → verdictOf bytes ≡ verdict.Accepted n → ¬ OneOf n (asked q) → Refusal bytes q out 13 0
+  no_sequent_there : (n : ℕ) → verdictOf bytes ≡ verdict.Accepted n → ¬ OneOf n (asked q) → Refusal bytes q out 13 0
   -- 14 entry: "j not in 1 to the entries; row 0"
   no_entry : (n : ℕ) → verdictOf bytes ≡ verdict.Accepted n → OneOf n (asked q) → ¬ EntryThere bytes q → Refusal bytes q out 14 0
   -- 15 room: "buffer shorter than the rows; row 0"

@@ -1,26 +1,22 @@
 -- Acceptance: a table is accepted iff nothing in it offends, and then with the count of its sequents; it is refused with a number and a row iff that
 -- is the least check with an offender and its first row. The verdict's own search finds one or the other, and they exclude each other.
-use Prim.Native.Nat.{ℕ, zero, suc, ◌+◌, ◌≤◌, ◌<◌}
+use Prim.Native.Nat.{ℕ, suc, ◌≤◌, ◌<◌}
 use mathlib.Core.Path.{◌≡◌, refl, ap, sym, ◌∙◌, subst}
 use mathlib.Core.Bool.{Bool, true, false, true≢false}
 use mathlib.Core.List.{List}
-use mathlib.Core.Logic.{◌⊎◌, inl, inr, ⊎_elim}
+use mathlib.Core.Logic.{◌⊎◌, inl, inr}
 use native.Mathlib.Omega.{arith}
 use native.Mathlib.Numerals.{add-one}
 use borrow.Author.Tests.{ltb-true, ltb-false, lt-ltb}
 use lib.Dec.{ltb}
-use lib.ListN.{length}
 use Rattle.lists.specs.Below.{first}
 use Rattle.lists.proofs.First.{Least, first_least, least_at_most}
 use Rattle.table.specs.Rows.{Rows}
-use Rattle.machine.specs.Described.{machine_of}
-use Rattle.sequent.specs.Listed.{sequents}
-use Rattle.rules.specs.declared.Verdict.{Verdict}
 use Rattle.rules.specs.declared.Verdict.TheVariants.{Accepted, Refused}
 use Rattle.rules.specs.Decoded.{framed, row_count, line_of, not_row, decoded}
 use Rattle.rules.specs.Rules.{offends, missing}
 use Rattle.rules.specs.Verdict.{first_row, first_check, judge, verdict}
-use Rattle.rules.specs.Offence.{machine, Offence, frame, column, row, lack, FirstOffence, NoOffence, sequent_count}
+use Rattle.rules.specs.Offence.{Offence, frame, column, row, lack, FirstOffence, NoOffence, sequent_count}
 use Rattle.rules.proofs.Cases.{judge_row, judge_missing, judge_accepted, verdict_frame, verdict_column, verdict_judge}
 use Rattle.rules.proofs.Obeys.{Obeys, passes_obeys}
 

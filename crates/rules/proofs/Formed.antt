@@ -24,7 +24,7 @@ use Rattle.sequent.specs.Entry.{Entry}
 use Rattle.sequent.specs.Formed.{ActionRoot, HasFormula, EntryFormed}
 use Rattle.sequent.specs.Sequent.{Sequent}
 use Rattle.sequent.specs.Listed.{sequents}
-use Rattle.sequent.proofs.Entries.{Root, axiom_root, abstract_invariant_root, concrete_invariant_root, variant_root, guard_root, action_root, witness_root_lem}
+use Rattle.sequent.proofs.Entries.{Root, axiom_root, abstract_invariant_root, concrete_invariant_root, variant_root, guard_root, action_root, root_of_witness}
 use Rattle.sequent.proofs.Entries.{EntryOf, of_written, of_primed, of_defined, of_moves, of_feasible, of_witnessed, of_natural, of_decreases, of_not_increased, of_unchanged}
 use Rattle.sequent.proofs.Entries.{action_root_has, witness_for, listed_made}
 use Rattle.rules.specs.declared.Verdict.TheVariants.{Accepted}
@@ -105,7 +105,7 @@ module _ (t : Rows) (ok : Obeys t) where
       action_root_has (λ r. T (named t 20 r)) (action_of t e x)
       (action_row_lem t e x (ActionRoot (λ r. T (named t 20 r))) (λ i by. row_root 51 i by.inside by.tag_is tt _ refl)
       (λ i by. row_root 52 i by.inside by.tag_is tt _ refl) (λ none. tt)) a
-  root_named (witness_root_lem e {w} j) =
+  root_named (root_of_witness e {w} j) =
       let (i, l, p) = in_unmap (λ i. record { target = t.b i; root = t.c i }) (belonging t 60 e) j in
       let q = belonging_row t 60 e i l in
       row_root 60 i q.0 q.1 tt w.root (ap (λ u. u.root) (sym p))
@@ -131,7 +131,7 @@ module _ (t : Rows) (ok : Obeys t) where
   entry_formed h (of_feasible {e} {x} q v) = action_formed e x
   entry_formed h (of_witnessed {e} q i) =
       let f = witness_for ((machine_of t).witnesses e) i in
-      (f, subst (HasFormula t (machine_of t)) (sym f.root) (root_has_formula (witness_root_lem e f.listed)))
+      (f, subst (HasFormula t (machine_of t)) (sym f.root) (root_has_formula (root_of_witness e f.listed)))
   entry_formed h (of_natural q) = root_has_formula q
   entry_formed h (of_decreases q) = root_has_formula q
   entry_formed h (of_not_increased q) = root_has_formula q

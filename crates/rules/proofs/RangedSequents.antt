@@ -21,7 +21,7 @@ use Rattle.sequent.specs.Formed.{ActionRoot}
 use Rattle.sequent.specs.Sequent.{Sequent}
 use Rattle.sequent.specs.Listed.{sequents}
 use Rattle.sequent.specs.Required.{MatchedBy, by_initialisation, by_refined}
-use Rattle.sequent.proofs.Entries.{Root, axiom_root, abstract_invariant_root, concrete_invariant_root, variant_root, guard_root, action_root, witness_root_lem}
+use Rattle.sequent.proofs.Entries.{Root, axiom_root, abstract_invariant_root, concrete_invariant_root, variant_root, guard_root, action_root, root_of_witness}
 use Rattle.sequent.proofs.Entries.{VariableOf, EventOf, EntryOf, of_written, of_primed, of_defined, of_moves, of_feasible, of_witnessed, of_natural, of_decreases}
 use Rattle.sequent.proofs.Entries.{of_not_increased, of_unchanged}
 use Rattle.sequent.proofs.Entries.{ItemOf, root_item, variable_item, target_item, action_root_has, listed_made}
@@ -99,7 +99,7 @@ module _ (m : Machine) (r : RangedMachine m) where
   root_ranged (variant_root i) = all_at r.variants i
   root_ranged (guard_root e i) = all_at (r.guards e) i
   root_ranged (action_root e x a) = action_root_has Ranged (m.action e x) (r.action e x) a
-  root_ranged (witness_root_lem e i) = (all_at (r.witnesses e) i).1
+  root_ranged (root_of_witness e i) = (all_at (r.witnesses e) i).1
 
   variable_ranged : {x : ℕ} → VariableOf m x → Ranged x
   variable_ranged v = ⊎_elim (all_at r.abstract_variables) (all_at r.concrete_variables) v
@@ -107,6 +107,10 @@ module _ (m : Machine) (r : RangedMachine m) where
   matched_ranged : {f : ℕ} (ro : Role) → RoleRanged ro → MatchedBy f ro → Ranged f
   matched_ranged (concrete_initialisation f) h by_initialisation = h
   matched_ranged (refining f) h by_refined = h
+  matched_ranged {f = f} abstract_initialisation h x'' = elim x'' [ ]
+  matched_ranged {f = f} abstract_ordinary h x3 = elim x3 [ ]
+  matched_ranged {f = f} convergent h x4 = elim x4 [ ]
+  matched_ranged {f = f} anticipated h x5 = elim x5 [ ]
 
   event_ranged : {e : ℕ} → EventOf m e → Ranged e
   event_ranged v = ⊎_elim (all_at r.events) (λ p. matched_ranged (m.role p.0) (r.role p.0) p.1) v

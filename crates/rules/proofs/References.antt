@@ -1,5 +1,5 @@
 -- What check 7 gives: a node has the columns of its operator, a row that names a root names a node, and its event and target fit.
-use Prim.Native.Nat.{ℕ, zero, suc, ◌≤◌, ◌<◌}
+use Prim.Native.Nat.{ℕ, zero, suc, ◌<◌}
 use mathlib.Core.Path.{◌≡◌, refl, sym, subst}
 use mathlib.Core.Bool.{Bool, true, false, not, ◌&&◌, ◌||◌}
 use native.Mathlib.Omega.{arith}
@@ -8,7 +8,7 @@ use Rattle.lists.specs.Choice.{pick}
 use Rattle.formula.specs.Tree.{bottom, Tree, constant}
 use Rattle.formula.specs.Mentions.{mentions}
 use Rattle.formula.proofs.Truth.{and_split, and_join, or_left, or_right, or_cases, or_neither, rule_met}
-use Rattle.table.specs.Rows.{Rows, tagged, count, named, row_of, number_in, owner_of, operator_of, left_of, right_of, machine_number, class_of, refined_by}
+use Rattle.table.specs.Rows.{Rows, tagged, named, row_of, number_in, owner_of, operator_of, left_of, right_of, machine_number, class_of, refined_by}
 use Rattle.table.proofs.Sections.{named_bounds, bounds_named, named_row, number_of_row}
 use Rattle.machine.specs.Operator as meaning
 use Rattle.machine.specs.Operator.{Operator, literalOf, identifierOf, after_of, constant_of, unary_of, binary_of, division_of, connective_of, operator_numbered}

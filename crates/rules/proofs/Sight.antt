@@ -1,7 +1,7 @@
 -- What check 10 gives of the formula whose root a row names: it mentions what the row's tag lets it mention and, by check 7, only what is named.
 use Prim.Native.Nat.{ℕ, ◌<◌}
 use mathlib.Core.Path.{◌≡◌, subst}
-use mathlib.Core.Bool.{Bool, true, false, ◌&&◌, ◌||◌}
+use mathlib.Core.Bool.{Bool, false, ◌&&◌, ◌||◌}
 use lib.Dec.{T, eqb}
 use Rattle.lists.specs.Choice.{pick}
 use Rattle.formula.specs.Mentions.{mentions}

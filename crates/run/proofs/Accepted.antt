@@ -36,10 +36,10 @@ use Rattle.run.proofs.WellFormed.{only_constants, abstract_state_kinds, concrete
 use Rattle.run.proofs.AcceptedSight.{role_in, kind_seen, variable_seen, formulas_see, formulas_list, guards_see_lem, variable_kind_lem, action_sees, witness_target_lem, witness_hidden, witness_sees}
 
 -- the root of a witness whose target no other witness has
-witness_root_lem : (ws : List Witness) (w : Witness) → In w ws → ((v : Witness) → In v ws → v.target ≡ w.target → v.root ≡ w.root)
+root_of_witness : (ws : List Witness) (w : Witness) → In w ws → ((v : Witness) → In v ws → v.target ≡ w.target → v.root ≡ w.root)
     → witness_root ws w.target ≡ w.root
-witness_root_lem [] w i once = absurd (in_nil i)
-witness_root_lem (v ∷ vs) w i once = go (eqb v.target w.target) refl (in_cons i) (λ j. witness_root_lem vs w j (λ u k. once u (there k)))
+root_of_witness [] w i once = absurd (in_nil i)
+root_of_witness (v ∷ vs) w i once = go (eqb v.target w.target) refl (in_cons i) (λ j. root_of_witness vs w j (λ u k. once u (there k)))
   where
     go : (b : Bool) → eqb v.target w.target ≡ b → (w ≡ v) ⊎ In w vs → (In w vs → witness_root vs w.target ≡ w.root)
         → ◌≡◌ {A = ℕ} (pick b v.root (witness_root vs w.target)) w.root
@@ -107,7 +107,7 @@ module _ (t : Rows) (ok : Obeys t) where
   abstract_witnesses e m = ap (map (witness_at t)) (in_none (belonging t 60 e) (λ i j. let p = (witness_target_lem t ok e i j).1 in omega arith))
 
   witness_found : (e i : ℕ) → In i (belonging t 60 e) → witness_root (witnesses_of t e) (t.b i) ≡ t.c i
-  witness_found e i j = witness_root_lem (witnesses_of t e) (witness_at t i) (in_map (witness_at t) j) once
+  witness_found e i j = root_of_witness (witnesses_of t e) (witness_at t i) (in_map (witness_at t) j) once
     where
       once : (v : Witness) → In v (witnesses_of t e) → v.target ≡ t.b i → v.root ≡ t.c i
       once v k e' =

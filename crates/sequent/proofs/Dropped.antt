@@ -25,7 +25,7 @@ use Rattle.machine.specs.Machine.{Role, abstract_initialisation, abstract_ordina
 use Rattle.sequent.specs.Entry.{Entry, written, moves, variable, action_tree}
 use Rattle.sequent.specs.Sequent.{Sequent, Meets, Valid}
 use Rattle.sequent.specs.Required.{is_new, as_written, base_of, own_variables, own_invariants, keeps_invariants, Dropped}
-use Rattle.sequent.specs.Required.{Obligation, wd_formula, wd_variant, wd_guard, wd_action, fis, wd_witness, wfis, grd, sim, sim_new_lem, inv, inv_new, nat, var}
+use Rattle.sequent.specs.Required.{Obligation, wd_formula, wd_variant, wd_guard, wd_action, fis, wd_witness, wfis, grd, sim, sim_of_new, inv, inv_new, nat, var}
 use Rattle.sequent.specs.Required.{var_anticipated}
 use Rattle.sequent.specs.Listed.{needed, obligations, sequents}
 use Rattle.sequent.proofs.Exact.{listed_obligation}
@@ -120,7 +120,7 @@ module _ (m : Machine) (has : InvariantsListed m) where
   unneeded_valid (wfis at i) n ρ hs = absurd (true≢false n)
   unneeded_valid (grd at c i) n ρ hs = absurd (true≢false n)
   unneeded_valid (sim at c i) n ρ hs = absurd (true≢false n)
-  unneeded_valid (sim_new_lem at c i) n ρ hs = absurd (true≢false n)
+  unneeded_valid (sim_of_new at c i) n ρ hs = absurd (true≢false n)
   unneeded_valid (inv {e} {r} at c i) n ρ hs =
       let p = invariant_dropped m e r n in inv_valid m has e r p.1 (m.guards e) (m.role e) p.0 c i ρ _ hs
   unneeded_valid (inv_new {e} {r} at c i) n ρ hs =

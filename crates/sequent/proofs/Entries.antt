@@ -21,7 +21,7 @@ use Rattle.sequent.specs.Sequent.{Sequent, sequent}
 use Rattle.sequent.specs.Listed.{sequents}
 use Rattle.sequent.specs.Required.{is_initialisation, is_concrete, MatchedBy, as_written, axioms_invariants, base_of, own_variables, own_invariants}
 use Rattle.sequent.specs.Required.{base_guards, moves_of, witnesses_of, Obligation, wd_formula, wd_variant, wd_guard, wd_action, fis, wd_witness, wfis}
-use Rattle.sequent.specs.Required.{grd, sim, sim_new_lem, inv, inv_new, nat, var, var_anticipated}
+use Rattle.sequent.specs.Required.{grd, sim, sim_of_new, inv, inv_new, nat, var, var_anticipated}
 use Rattle.sequent.proofs.Required.{listed_required}
 
 -- a node that the machine names as a root
@@ -32,7 +32,7 @@ pub data Root (m : Machine) : ℕ → Type 0 where
   variant_root : {r : ℕ} → In r m.variants → Root m r
   guard_root : (e : ℕ) {r : ℕ} → In r (m.guards e) → Root m r
   action_root : (e x : ℕ) {r : ℕ} → (m.action e x ≡ becomes_equal r) ⊎ (m.action e x ≡ becomes_such_that r) → Root m r
-  witness_root_lem : (e : ℕ) {w : Witness} → In w (m.witnesses e) → Root m w.root
+  root_of_witness : (e : ℕ) {w : Witness} → In w (m.witnesses e) → Root m w.root
 
 module _ (m : Machine) where
   -- a variable of either machine; an event, or what one is matched by
@@ -123,7 +123,7 @@ module _ (m : Machine) where
   moved_of {e} at = moves_of_lem at (own_variables m (m.role e)) (λ x. own_variable (m.role e))
 
   witnesses_of_lem : (e : ℕ) → All (λ w. EntryOf m (written w.root)) (m.witnesses e)
-  witnesses_of_lem e = all_in (m.witnesses e) (λ w i. of_written (witness_root_lem e i))
+  witnesses_of_lem e = all_in (m.witnesses e) (λ w i. of_written (root_of_witness e i))
 
   roots_of : (e : ℕ) → All (EntryOf m) (witnesses_of m e)
   roots_of e = all_map (λ w. written w.root) (witnesses_of_lem e)
@@ -155,14 +155,14 @@ module _ (m : Machine) where
   obligation_made (fis {e} at i a) =
       let x = own_variable (m.role e) i in made (omega arith) (inr at) (variable_item x) (guards_of_lem e) (of_feasible at x)
   obligation_made (wd_witness {e} {w} at i) =
-      made (omega arith) (inr at) (root_item (witness_root_lem e i)) (witness_hypotheses_lem w at) (of_defined (witness_root_lem e i))
+      made (omega arith) (inr at) (root_item (root_of_witness e i)) (witness_hypotheses_lem w at) (of_defined (root_of_witness e i))
   obligation_made (wfis {e} {w} at i) = made (omega arith) (inr at) (target_item e i) (witness_hypotheses_lem w at) (of_witnessed at i)
   obligation_made (grd {e} {f} at c i) =
       made (omega arith) (inr at) (root_item (guard_root f i))
       (all_join (guards_of_lem e) (all_map (λ w. written w.root) (all_keep _ (witnesses_of_lem e)))) (of_written (guard_root f i))
   obligation_made (sim {e} at c i) =
       made (omega arith) (inr at) (variable_item (inl i)) (all_join (all_join (guards_of_lem e) (moved_of at)) (roots_of e)) (of_moves (inr (e, c)) (inl i))
-  obligation_made (sim_new_lem {e} at c i) =
+  obligation_made (sim_of_new {e} at c i) =
       let x = inl (in_kept _ m.abstract_variables i) in
       made (omega arith) (inr at) (variable_item x) (all_join (guards_of_lem e) (moved_of at)) (of_unchanged x)
   obligation_made (inv {e} at c i) =

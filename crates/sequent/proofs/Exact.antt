@@ -21,7 +21,7 @@ use Rattle.sequent.proofs.Parts.{guard_wds, action_wds, action_fiss, of_witnesse
 use Rattle.sequent.proofs.Parts.{from_invs, from_sims, from_grds, from_witnesses, from_fiss, from_actions, event_sequents_parts}
 use Rattle.sequent.specs.Required.{is_new, MatchedBy, by_initialisation, by_refined}
 use Rattle.sequent.specs.Required.{as_written, base_of, own_variables, own_invariants, base_guards, moves_of, witnesses_of}
-use Rattle.sequent.specs.Required.{Obligation, wd_formula, wd_variant, wd_guard, wd_action, fis, wd_witness, wfis, grd, sim, sim_new_lem, inv, inv_new, nat, var}
+use Rattle.sequent.specs.Required.{Obligation, wd_formula, wd_variant, wd_guard, wd_action, fis, wd_witness, wfis, grd, sim, sim_of_new, inv, inv_new, nat, var}
 use Rattle.sequent.specs.Required.{var_anticipated}
 
 -- a property of sequents depends on their hypotheses only as a list
@@ -211,7 +211,7 @@ module _ (m : Machine) where
     sim_obligation i =
         ⊎_elim
         (λ k. let (f, x, c, j, p) = k in obligation_as p (ap (λ hs. hs ++ witnesses_of m e) (moved_same e)) (sim at c j))
-        (λ k. let (x, c, j, p) = k in obligation_as p (moved_same e) (sim_new_lem at c j))
+        (λ k. let (x, c, j, p) = k in obligation_as p (moved_same e) (sim_of_new at c j))
         (sim_role (m.role e) i)
 
     inv_obligation : In s (invOf m (m.role e) e) → Obligation m s
@@ -315,7 +315,7 @@ module _ (m : Machine) where
   obligation_listed (sim {e} at c i) =
       listed_as (ap (λ hs. hs ++ witnesses_of m e) (moved_same e))
       (sims_listed at (in_left _ (sim_at c i)))
-  obligation_listed (sim_new_lem {e} at c i) =
+  obligation_listed (sim_of_new {e} at c i) =
       listed_as (moved_same e) (sims_listed at (in_left _ (sim_new_at (m.role e) c i)))
   obligation_listed (inv {e} {r} at c i) =
       listed_as

@@ -13,7 +13,7 @@ use Rattle.formula.specs.Identifiers.{identifiers}
 use Rattle.formula.proofs.Truth.{true_test, or_neither}
 use Rattle.machine.specs.Machine.{Action, unassigned, becomes_equal, becomes_such_that, Machine}
 use Rattle.sequent.specs.Sequent.{Sequent}
-use Rattle.sequent.specs.Required.{Obligation, wd_formula, wd_variant, wd_guard, wd_action, fis, wd_witness, wfis, grd, sim, sim_new_lem, inv, inv_new, nat, var}
+use Rattle.sequent.specs.Required.{Obligation, wd_formula, wd_variant, wd_guard, wd_action, fis, wd_witness, wfis, grd, sim, sim_of_new, inv, inv_new, nat, var}
 use Rattle.sequent.specs.Required.{var_anticipated, keeps_invariants, Dropped, no_division, untouched, Required}
 use Rattle.sequent.specs.Listed.{is_assigned, touched, needed, obligations, sequents}
 use Rattle.sequent.proofs.Exact.{listed_obligation, obligation_listed}
@@ -53,7 +53,7 @@ module _ (m : Machine) where
   obligation_dropped (wfis at i) n = absurd (true≢false n)
   obligation_dropped (grd at c i) n = absurd (true≢false n)
   obligation_dropped (sim at c i) n = absurd (true≢false n)
-  obligation_dropped (sim_new_lem at c i) n = absurd (true≢false n)
+  obligation_dropped (sim_of_new at c i) n = absurd (true≢false n)
   obligation_dropped (inv {e} {r} at c i) n = let p = invariant_dropped e r n in untouched p.0 p.1
   obligation_dropped (inv_new {e} {r} at c i) n = let p = invariant_dropped e r n in untouched p.0 p.1
   obligation_dropped (nat at c i) n = absurd (true≢false n)

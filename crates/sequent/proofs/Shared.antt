@@ -21,7 +21,7 @@ use Rattle.machine.proofs.Variables.{abstract_distinct, variables_apart}
 use Rattle.sequent.specs.Entry.{Entry, written, primed, defined, moves, feasible, witnessed, natural, decreases, not_increased, unchanged, variable}
 use Rattle.sequent.specs.Sequent.{Sequent, Meets}
 use Rattle.sequent.specs.Required.{is_new, is_concrete, is_initialisation, as_written, axioms_invariants, base_of, own_variables, base_guards, moves_of, witnesses_of, parameter_witnesses_of}
-use Rattle.sequent.specs.Required.{Obligation, Required, wd_formula, wd_variant, wd_guard, wd_action, fis, wd_witness, wfis, grd, sim, sim_new_lem, inv, inv_new, nat, var, var_anticipated}
+use Rattle.sequent.specs.Required.{Obligation, Required, wd_formula, wd_variant, wd_guard, wd_action, fis, wd_witness, wfis, grd, sim, sim_of_new, inv, inv_new, nat, var, var_anticipated}
 use Rattle.sequent.proofs.Ordered.{own_either}
 
 module _ (m : Machine) (ρ : Env m.type) (x : ℕ) where
@@ -136,7 +136,7 @@ module _ (m : Machine) where
     moves_once (wfis {w = w} at i) = of_witness_lem (variable m w.target) refl
     moves_once (grd {e} at c i) = none (none_then (base_guards m e) _ (guards_none e) ∙ parameters_none e)
     moves_once (sim {e} at c i) = moved (then_none (base_guards m e ++ moves_of m e) _ (witnesses_none e) ∙ moved_own e)
-    moves_once (sim_new_lem {e} at c i) = moved (moved_own e)
+    moves_once (sim_of_new {e} at c i) = moved (moved_own e)
     moves_once (inv {e} at c i) = moved (then_none (base_guards m e ++ moves_of m e) _ (witnesses_none e) ∙ moved_own e)
     moves_once (inv_new {e} at c i) =
         let own = new_own (m.role e) c in

@@ -1,5 +1,5 @@
 -- 01, Sequents: "An entry has a form and two numbers", and the formula that it spells.
-use Rattle.std.specs.Prelude.{Bool, true, false, List, [], ◌∷◌, ℕ, eqb}
+use Rattle.std.specs.Prelude.{Bool, List, [], ◌∷◌, ℕ, eqb}
 use Rattle.lists.specs.Choice.{pick}
 use Rattle.formula.specs.Tree.{literal, equal, less, at_most, Tree, constant, identifier, after, binary}
 use Rattle.formula.specs.WellDefined.{well_defined}

@@ -106,7 +106,7 @@ pub data Obligation (m : Machine) : Sequent → Type 0 where
   sim : {e f x : ℕ} → In e m.events → MatchedBy f (m.role e) → In x m.abstract_variables
       → Obligation m (sequent SIM e x ((base_guards m e ++ moves_of m e) ++ witnesses_of m e) (moves f x))
   -- 02, request 2: "SIM is made for it also at convergent and anticipated events, before INV, with base, guards and moves; its goal there is form 10"
-  sim_new_lem : {e x : ℕ} → In e m.events → is_new (m.role e) ≡ true → In x (shared_variables m)
+  sim_of_new : {e x : ℕ} → In e m.events → is_new (m.role e) ≡ true → In x (shared_variables m)
       → Obligation m (sequent SIM e x (base_guards m e ++ moves_of m e) (unchanged x))
   -- "2 INV, own machine's invariants | base, guards, moves, witnesses | 2 | root"
   inv : {e r : ℕ} → In e m.events → is_new (m.role e) ≡ false → In r (own_invariants m (m.role e))
