@@ -1,6 +1,6 @@
 -- 01, Sequents: "The services are: check (accepts a table by giving the count of sequents), write sequent k, spell entry j of sequent k (goal last). A
 -- program reads a table from standard input and prints all sequents, or one row 89 (refusal, row, 0)." check is `verdict`.
-use Rattle.std.specs.Prelude.{ℕ, ◌-◌, Bool, true, false, ◌&&◌, leb, ltb, length, get_or}
+use Rattle.std.specs.Prelude.{ℕ, ◌-◌, Bool, ◌&&◌, leb, ltb, length, get_or}
 use mathlib.Core.List.{List, [], ◌∷◌, ◌++◌, flat_map}
 use Rattle.lists.specs.Choice.{pick}
 use Rattle.lists.specs.Over.{over}

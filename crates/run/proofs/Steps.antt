@@ -15,6 +15,7 @@ use Rattle.sequent.specs.Required.{own_variables}
 use Rattle.run.specs.Run.{State, blank, world, view, ActionDefined, Enabled, Step}
 use Rattle.run.specs.SafeRun.{own_state, not_initial}
 use Rattle.run.proofs.Reading.{AllTrue, all_read_true, in_order_read, action_defined, true_allows, allows_true}
+use Rattle.run.proofs.WellFormed.{own_kinds}
 use Rattle.run.proofs.Agreement.{all_true_agree, all_read_agree, action_true_agree, action_defined_agree}
 use Rattle.run.proofs.Views.{Shares, guard_agree, action_agree}
 use Rattle.run.proofs.Events.{EventSees, EventValid}
@@ -40,7 +41,7 @@ module _ (m : Machine) (ro : Role) (e : ℕ) (see : EventSees m ro e) (c a k q p
   pub step_moved : All (Meets m W) (base m ro) → Step m ro e c (own_state m ro a k) r (own_state m ro a' k') → All (Meets m W) (moved m ro e)
   step_moved b s =
       all_join (enabled_guarded b s.enabled) (all_map (moves e) (all_in (own_variables m ro) (λ x i.
-      action_true_agree m _ x seen W (agree_sym (action_agree m ro c a k q p a' k' r h z z' x (all_at see.kind i))) (m.action e x) (all_at see.actions i)
+      action_true_agree m (own_kinds ro) x seen W (agree_sym (action_agree m ro c a k q p a' k' r h z z' x (all_at see.kind i))) (m.action e x) (all_at see.actions i)
       (allows_true m seen x (m.action e x) (all_at s.allowed i)))))
 
   module _ (valid : EventValid m ro e) (b : All (Meets m W) (base m ro)) (g : AllTrue m W (m.guards e)) where
@@ -51,7 +52,7 @@ module _ (m : Machine) (ro : Role) (e : ℕ) (see : EventSees m ro e) (c a k q p
 
     pub actions_defined_lem : (x : ℕ) → In x (own_variables m ro) → ActionDefined m seen (m.action e x)
     actions_defined_lem x i =
-        action_defined_agree m _ x W seen (action_agree m ro c a k q p a' k' r h z z' x (all_at see.kind i)) (m.action e x) (all_at see.actions i)
+        action_defined_agree m (own_kinds ro) x W seen (action_agree m ro c a k q p a' k' r h z z' x (all_at see.kind i)) (m.action e x) (all_at see.actions i)
         (action_defined m W e (guarded m ro e) (m.action e x) (all_at valid.actions i) (all_join b (all_map written g)))
 
     -- guards and moves that are true make a step
@@ -60,6 +61,6 @@ module _ (m : Machine) (ro : Role) (e : ℕ) (see : EventSees m ro e) (c a k q p
       enabled = true_enabled;
       allowed = all_in (own_variables m ro) (λ x i.
           true_allows m seen x (m.action e x) (actions_defined_lem x i)
-          (action_true_agree m _ x W seen (action_agree m ro c a k q p a' k' r h z z' x (all_at see.kind i)) (m.action e x) (all_at see.actions i)
+          (action_true_agree m (own_kinds ro) x W seen (action_agree m ro c a k q p a' k' r h z z' x (all_at see.kind i)) (m.action e x) (all_at see.actions i)
           (all_at ts i)));
     }

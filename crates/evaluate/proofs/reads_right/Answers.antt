@@ -1,0 +1,73 @@
+-- By the row of each operator.
+use mathlib.Core.Path.{refl, ap, ap₂}
+use mathlib.Core.Bool.{not, ◌&&◌}
+use Rattle.evaluate.specs.Evaluate.{reads_right_of}
+use Rattle.evaluate.proofs.Numbered.{numbered_at, reads_behind}
+use Rattle.evaluate.proofs.reads_right.Goals as goal
+
+pub returns-in-6 : goal.returns-in-6
+returns-in-6 c =
+    numbered_at (λ o. reads_right_of o c.args.left) 6 c.in-6.is refl
+
+pub returns-in-10 : goal.returns-in-10
+returns-in-10 c =
+    numbered_at (λ o. reads_right_of o c.args.left) 10 c.in-10.is refl
+
+pub returns-in-11 : goal.returns-in-11
+returns-in-11 c =
+    numbered_at (λ o. reads_right_of o c.args.left) 11 c.in-11.is refl
+
+pub returns-in-12 : goal.returns-in-12
+returns-in-12 c =
+    numbered_at (λ o. reads_right_of o c.args.left) 12 c.in-12.is refl
+
+pub returns-in-13 : goal.returns-in-13
+returns-in-13 c =
+    numbered_at (λ o. reads_right_of o c.args.left) 13 c.in-13.is refl
+
+pub returns-in-14 : goal.returns-in-14
+returns-in-14 c =
+    numbered_at (λ o. reads_right_of o c.args.left) 14 c.in-14.is refl
+
+pub returns-in-15 : goal.returns-in-15
+returns-in-15 c =
+    numbered_at (λ o. reads_right_of o c.args.left) 15 c.in-15.is refl
+
+pub returns-in-20 : goal.returns-in-20
+returns-in-20 c =
+    numbered_at (λ o. reads_right_of o c.args.left) 20 c.in-20.is refl
+
+pub returns-in-21 : goal.returns-in-21
+returns-in-21 c =
+    numbered_at (λ o. reads_right_of o c.args.left) 21 c.in-21.is refl
+
+pub returns-in-22 : goal.returns-in-22
+returns-in-22 c =
+    numbered_at (λ o. reads_right_of o c.args.left) 22 c.in-22.is refl
+
+pub returns-in-32 : goal.returns-in-32
+returns-in-32 c =
+    numbered_at (λ o. reads_right_of o c.args.left) 32 c.in-32.is refl
+
+pub returns-in-33 : goal.returns-in-33
+returns-in-33 c =
+    let a = c.args in
+    numbered_at (λ o. reads_right_of o a.left) 33 c.in-33.is (ap₂ (λ p q. p && q) c.is_value.ensures c.as_truth.ensures)
+
+pub returns-in-34 : goal.returns-in-34
+returns-in-34 c =
+    let a = c.args in
+    numbered_at (λ o. reads_right_of o a.left) 34 c.in-34.is (ap₂ (λ p q. p && q) c.is_value-in-34.ensures (ap not c.as_truth-in-34.ensures))
+
+pub returns-in-35 : goal.returns-in-35
+returns-in-35 c =
+    let a = c.args in
+    numbered_at (λ o. reads_right_of o a.left) 35 c.in-35.is (ap₂ (λ p q. p && q) c.is_value-in-35.ensures c.as_truth-in-35.ensures)
+
+pub returns-in-36 : goal.returns-in-36
+returns-in-36 c =
+    numbered_at (λ o. reads_right_of o c.args.left) 36 c.in-36.is c.is_value-in-36.ensures
+
+pub returns-in_default : goal.returns-in_default
+returns-in_default c =
+    reads_behind c.args.operator c.args.left c.in_default.in_default-own.rest

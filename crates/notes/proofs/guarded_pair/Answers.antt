@@ -1,0 +1,6 @@
+-- Computed.
+use mathlib.Core.Path.{refl}
+use Rattle.notes.proofs.guarded_pair.Goals as goal
+
+pub returns : goal.returns
+returns c = refl
