@@ -90,7 +90,7 @@ module _ (m : Machine) (ro : Role) (e : ℕ) (see : EventSees m ro e) (valid : E
       subst (λ s. Step m ro e c own p s) (own_same m ro result)
           (moved_step m ro e see c a k p p result result p parameters z alike valid (b result) (enabled_true m ro e see c a k p p result result p parameters z alike en)
           (all_in (own_variables m ro) (λ x i.
-          action_true_agree m _ x _ (at result) (result_agree x (all_at see.kind i)) (m.action e x) (all_at see.actions i) (results.1 x i)))),
+          action_true_agree m (own_kinds ro) x _ (at result) (result_agree x (all_at see.kind i)) (m.action e x) (all_at see.actions i) (results.1 x i)))),
     )
 
     all_defined : (s' : State m) → All (λ x. ActionDefined m (view m ro c own p s') (m.action e x)) (own_variables m ro)
