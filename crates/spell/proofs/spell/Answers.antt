@@ -1,7 +1,8 @@
 -- By the form.
+use native.Mathlib.Omega.{arith}
 use Rattle.table.specs.Rows.{rows_of}
 use Rattle.spell.proofs.Entries.{written_rows, primed_rows, defined_rows_lem, moves_rows_lem, feasible_rows, witnessed_rows, natural_rows_lem, decreases_rows}
-use Rattle.spell.proofs.Entries.{not_increased_rows, unchanged_rows_lem, past}
+use Rattle.spell.proofs.Entries.{not_increased_rows, unchanged_rows_lem}
 use Rattle.spell.proofs.Written.{spelled_as}
 use Rattle.spell.proofs.spell.Goals as goal
 
@@ -53,6 +54,4 @@ returns-in-10 c =
 pub returns-in_default : goal.returns-in_default
 returns-in_default c =
     let a = c.args in
-    let n = a.entry.form in
-    let q = c.in_default.in_default-own.rest in
-    spelled_as (written_rows (rows_of a.words.now) a.entry (λ g. past 10 n (past 9 n (past 8 n (past 7 n (past 6 n (past 5 n (past 4 n (past 3 n (past 2 n g q.0.0.0.0.0.0.0.0.1) q.0.0.0.0.0.0.0.1) q.0.0.0.0.0.0.1) q.0.0.0.0.0.1) q.0.0.0.0.1) q.0.0.0.1) q.0.0.1) q.0.1) q.1)) c.spell_expression-in_default.ensures
+    spelled_as (written_rows (rows_of a.words.now) a.entry (λ g. omega arith)) c.spell_expression-in_default.ensures
