@@ -1,5 +1,6 @@
 -- By the form (Forms).
 use mathlib.Core.Path.{ap, ap₂, ◌∙◌}
+use native.Mathlib.Omega.{arith}
 use lib.Bits.{bit_or}
 use Rattle.table.specs.Rows.{rows_of}
 use Rattle.mentioned.proofs.Forms.{set_numbered, set_rooted}
@@ -33,6 +34,5 @@ returns-in-10 c =
 pub returns-in_default : goal.returns-in_default
 returns-in_default c =
     let a = c.args in
-    let q = c.in_default.in_default-own.rest in
     ap (λ n. n.mentioned) c.note_at-in_default.ensures
-    ∙ set_rooted (rows_of a.words.now) a.entry q.0.0.0.0.1 q.0.0.0.1 q.0.0.1 q.0.1 q.1
+    ∙ set_rooted (rows_of a.words.now) a.entry (λ e. omega arith) (λ e. omega arith) (λ e. omega arith) (λ e. omega arith) (λ e. omega arith)
