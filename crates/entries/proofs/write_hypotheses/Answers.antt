@@ -1,15 +1,11 @@
-use Prim.Native.Nat.{◌-◌}
 use mathlib.Core.Path.{ap, ◌∙◌}
 use native.Mathlib.Omega.{arith}
 use lib.ListN.{length-take, length-drop}
 use Rattle.table.specs.Rows.{rows_of}
 use Rattle.segments.proofs.Tables.{end_within}
-use Rattle.entries.specs.Sequent.{hypothesis_count}
-use Rattle.entries.specs.Seek.{hypotheses_before}
 use Rattle.entries.specs.Written.{numbers_row}
 use Rattle.entries.proofs.Seek.{start_stands, passing_stands}
-use Rattle.entries.proofs.Written.{Progress, progress_start, progress_end, progress_length, room, fewer, progress_next}
-use borrow.Author.Rules.{rules}
+use Rattle.entries.proofs.Written.{progress_start, progress_end, progress_length, room, fewer, progress_next}
 use Rattle.entries.proofs.write_hypotheses.Goals as goal
 
 pub seek_entry-cursor-requires : goal.seek_entry-cursor-requires
@@ -53,7 +49,7 @@ seek_entry-cursor-requires-in-loop-cursor c =
 
 pub overflow_add-at : goal.overflow_add-at
 overflow_add-at c =
-    omega (arith, room c.loop-cursor.invariant c.loop-cursor-test.true c.requires.slot_in_bounds, c.loop-cursor.invariant.size, c.well-formed.1.1.1.1.0.0)
+    omega (arith, room c.loop-cursor.invariant c.loop-cursor-test.true c.requires.slot_in_bounds, c.loop-cursor.invariant.size, c.well_formed.1.1.1.1.0.0)
 
 pub loop-cursor-smaller : goal.loop-cursor-smaller
 loop-cursor-smaller c =

@@ -1,16 +1,9 @@
 -- The loop's invariant: the rows of the hypotheses before the place are written, and the place is that of one or the end (Written).
 use Prim.Native.Nat.{◌-◌}
-use mathlib.Core.Path.{ap, ◌∙◌}
-use native.Mathlib.Omega.{arith}
-use lib.ListN.{length-take, length-drop}
 use Rattle.table.specs.Rows.{rows_of}
-use Rattle.segments.proofs.Tables.{end_within}
 use Rattle.entries.specs.Sequent.{hypothesis_count}
 use Rattle.entries.specs.Seek.{hypotheses_before}
-use Rattle.entries.specs.Written.{numbers_row}
-use Rattle.entries.proofs.Seek.{start_stands, passing_stands}
-use Rattle.entries.proofs.Written.{Progress, progress_start, progress_end, progress_length, room, fewer, progress_next}
-use borrow.Author.Rules.{rules}
+use Rattle.entries.proofs.Written.{Progress}
 use Rattle.entries.proofs.write_hypotheses.Given as goal
 
 abbrev pub invariant-loop-cursor : goal.invariant-loop-cursor
