@@ -4,7 +4,6 @@ use native.Mathlib.Omega.{arith}
 use lib.IntN.{pos}
 use lib.ListN.{length, replicate, take}
 use lib.Seq.{length-take-le}
-use borrow.Author.Rules.{rules}
 use Rattle.bench.proofs.State.{laid_size}
 use Rattle.press.specs.Numbers.{room_for}
 use Rattle.press.proofs.Preview.{copy_few, copy_outcome, as_writes}
@@ -29,5 +28,5 @@ returns c =
     let a = c.args in
     let n = c.lesser-n in
     let copy = copy_outcome a.values.now n.ensures a.table.now a.step.now a.sorts.now (room_for a.second.now a.types.now) (ap (take n.result) c.copy_values.ensures) in
-    let both = as_writes a.sorts.now a.second.now a.types.now (sym copy) (c.preview_copy.ensures.value, c.preview_copy.ensures.second_after, c.preview_copy.ensures.types_after) in
+    let both = as_writes a.sorts.now a.second.now a.types.now (sym copy) (c.preview_copy.ensures.value, (c.preview_copy.ensures.second_after, c.preview_copy.ensures.types_after)) in
     record { value = both.0; second_after = both.1.0; types_after = both.1.1 }

@@ -11,8 +11,7 @@ use Rattle.records.specs.declared.Done.{Done}
 use Rattle.records.specs.declared.Numbers.{Numbers}
 use Rattle.records.specs.Numbers.{few_of, pressed_of}
 use Rattle.records.proofs.FewOf.{few_in, few_taken}
-use Rattle.records.proofs.pressed.Statement.{statement}
-use Rattle.records.proofs.pressed.Tie as tie
+use Rattle.records.proofs.pressed.Goals as goal
 
 module _ (table step : List ℕ) (all : Numbers) (r : ℕ) where
   abbrev o : Outcome
@@ -26,18 +25,28 @@ module _ (table step : List ℕ) (all : Numbers) (r : ℕ) where
       ∙ ap (λ (reply : Press). record { numbers = record { values = kept_or (λ zs. zs) (take r all.values) o ++ drop r all.values; sorts = all.sorts }; reply = reply }) e'
       ∙ ap (pressed_of table step all) e
 
-pub pressed_spec : {M : Type 1} → statement M
-pressed_spec =
-    tie.close
-    (tie.spec
-    (λ c κs. search rules)
-    (λ c. let b = c.before.before in let a = b.before.before.before.args in few_in a.n _ a.all.values b.few.ensures (search rules))
-    (λ c. let b = c.before.before.before in let a = b.before.before.before.args in few_taken a.n _ a.all.values b.few.ensures (search rules))
-    (λ c. let b = c.before.before.before in let a = b.before.before.before.args in few_in a.n _ a.all.sorts b.few.ensures (search rules))
-    (λ c. let b = c.before.before.before.before in let a = b.before.before.before.args in few_taken a.n _ a.all.sorts b.few.ensures (search rules))
-    (λ c κs. search rules)
-    (λ c.
-    let pressed = c.before.press-numbers in
-    let b = c.before.before.before.before.before.before in
-    let a = b.before.before.before.args in
-    done a.table.now a.step.now a.all _ a.n _ _ b.few.ensures pressed.ensures.0 pressed.ensures.1))
+pub slice_bounds-values-end : goal.slice_bounds-values-end
+slice_bounds-values-end c =
+    let a = c.args in
+    few_in a.n _ a.all.values c.few-end.ensures (search rules)
+
+pub slice_bounds-press_numbers-end : goal.slice_bounds-press_numbers-end
+slice_bounds-press_numbers-end c =
+    let a = c.args in
+    few_taken a.n _ a.all.values c.few-end.ensures (search rules)
+
+pub slice_bounds-sorts-end : goal.slice_bounds-sorts-end
+slice_bounds-sorts-end c =
+    let a = c.args in
+    few_in a.n _ a.all.sorts c.few-end.ensures (search rules)
+
+pub slice_bounds-press_numbers-end-2 : goal.slice_bounds-press_numbers-end-2
+slice_bounds-press_numbers-end-2 c =
+    let a = c.args in
+    few_taken a.n _ a.all.sorts c.few-end.ensures (search rules)
+
+pub returns : goal.returns
+returns c =
+    let pressed = c.press_numbers-reply in
+    let a = c.args in
+    done a.table.now a.step.now a.all _ a.n _ _ c.few-end.ensures pressed.ensures.0 pressed.ensures.1
