@@ -1,6 +1,5 @@
 -- By the root that the row names.
 use Rattle.rules.specs.Rules.{sight_offends}
-use borrow.Author.Rules.{rules}
 use Rattle.rule_sight.proofs.sight_offends.Goals as goal
 
 pub returns : goal.returns

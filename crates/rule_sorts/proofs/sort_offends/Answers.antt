@@ -1,12 +1,10 @@
 -- A node by its operands, a row that names a root by its root, and no other row (Sorts).
 use mathlib.Core.Path.{ap, ap₂, sym, ◌∙◌}
 use mathlib.Core.Bool.{not}
-use borrow.Author.Tests.{not-true, not-false}
 use lib.Dec.{eqb}
 use Rattle.table.specs.Rows.{rows_of}
 use Rattle.rules.specs.Sorts.{sort_of}
 use Rattle.rule_sorts.proofs.Sorts.{sort_node, sort_root, sort_none}
-use borrow.Author.Rules.{rules}
 use Rattle.rule_sorts.proofs.sort_offends.Goals as goal
 
 pub returns-then-tag_at-eq-NODE : goal.returns-then-tag_at-eq-NODE
