@@ -3,7 +3,7 @@ use mathlib.Core.Path.{◌≡◌, refl, sym, ap, ap₂, ◌∙◌}
 use mathlib.Core.Bool.{Bool, true, false}
 use mathlib.Core.List.{List, [], ◌∷◌, ◌++◌, append-nil}
 use mathlib.Core.Logic.{inr}
-use Prim.Native.Nat.{ℕ, ◌+◌, ◌≤◌}
+use Prim.Native.Nat.{ℕ, ◌≤◌}
 use native.Mathlib.Omega.{arith}
 use borrow.Author.Tests.{ltb-true, ltb-false}
 use lib.Dec.{ltb}
@@ -14,7 +14,6 @@ use Rattle.row.specs.Reading.{read_at}
 use Rattle.row.specs.declared.Row.{Row}
 use Rattle.row.specs.declared.Place.{Place}
 use Rattle.row.specs.declared.Line.{Line}
-use Rattle.row.specs.declared.Line.TheVariants as line
 use Rattle.row.specs.declared.Read.{Read}
 use Rattle.row.specs.declared.Read.TheVariants as read
 use Rattle.table.specs.Rows.{Rows}

@@ -29,7 +29,7 @@ pub fn store(state: &mut [Record], i: usize, r: Record)
 pub const PLACES: usize = Table::IDENTIFIERS as usize + 1;
 
 // The first records of a state as numbers, by position.
-#[derive(Drop)]
+#[derive(Clone, Copy)]
 pub struct Numbers {
     pub values: [i64; PLACES],
     pub sorts: [u64; PLACES],
@@ -114,7 +114,7 @@ pub fn store_state(state: &mut [Record], all: Numbers)
 }
 
 // What a state's numbers become, and the reply.
-#[derive(Drop)]
+#[derive(Clone, Copy)]
 pub struct Done {
     pub numbers: Numbers,
     pub reply: Press,

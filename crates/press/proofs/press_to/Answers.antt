@@ -1,0 +1,42 @@
+-- By checks 1 and 2; then by what the filled part of the words holds, the numbers of all rows (verdict's Filled).
+use mathlib.Core.Path.{ap, sym, ◌∙◌}
+use Rattle.table.specs.Rows.{rows_of}
+use Rattle.rules.specs.Decoded.{decoded}
+use Rattle.rules.specs.Verdict.{judge}
+use Rattle.verdict.specs.Loaded.{judged}
+use Rattle.verdict.proofs.Filled.{verdict_judged, filled}
+use Rattle.bench.specs.Press.{outcome_by, press_on}
+use Rattle.press.proofs.Press.{outcome_is, refused_answers, as_answers}
+use Rattle.press.proofs.press_to.Goals as goal
+
+pub slice_bounds-words-end : goal.slice_bounds-words-end
+slice_bounds-words-end c =
+    (filled c.args.table.now _ c.load.new.words c.in-Words.n c.words-2-1.given c.load.ensures.words_after (sym c.load.ensures.value ∙ c.in-Words.is)).within
+
+pub slice_bounds-press_rows-end : goal.slice_bounds-press_rows-end
+slice_bounds-press_rows-end c =
+    (filled c.args.table.now _ c.load.new.words c.in-Words.n c.words-2-1.given c.load.ensures.words_after (sym c.load.ensures.value ∙ c.in-Words.is)).size
+
+pub press_rows-requires : goal.press_rows-requires
+press_rows-requires c =
+    (filled c.args.table.now _ c.load.new.words c.in-Words.n c.words-2-1.given c.load.ensures.words_after (sym c.load.ensures.value ∙ c.in-Words.is)).small
+
+pub returns-in-Refused : goal.returns-in-Refused
+returns-in-Refused c =
+    let a = c.args in
+    let bytes = a.table.now in
+    let on = press_on (decoded bytes) a.step.now a.values.now a.sorts.now a.room in
+    let both = refused_answers a.values.now (outcome_is bytes a.step.now a.values.now a.sorts.now a.room
+    ∙ ap (λ v. outcome_by v on) (verdict_judged bytes ∙ ap (judged bytes) (sym c.load.ensures.value ∙ c.in-Refused.is))) in
+    record { value = both.0; values_after = both.1 }
+
+pub returns-in-Words : goal.returns-in-Words
+returns-in-Words c =
+    let a = c.args in
+    let bytes = a.table.now in
+    let on = press_on (decoded bytes) a.step.now a.values.now a.sorts.now a.room in
+    let words = sym c.load.ensures.value ∙ c.in-Words.is in
+    let both = as_answers a.values.now (outcome_is bytes a.step.now a.values.now a.sorts.now a.room ∙ ap (λ v. outcome_by v on) (verdict_judged bytes ∙ ap (judged bytes) words)
+    ∙ sym (ap (λ ws. outcome_by (judge (rows_of ws)) (press_on (rows_of ws) a.step.now a.values.now a.sorts.now a.room))
+    (filled bytes _ c.load.new.words c.in-Words.n c.words-2-1.given c.load.ensures.words_after words).holds)) (c.press_rows.ensures.value, c.press_rows.ensures.values_after) in
+    record { value = both.0; values_after = both.1 }

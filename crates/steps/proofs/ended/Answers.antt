@@ -1,0 +1,18 @@
+-- By whether there were steps.
+use Prim.Native.Nat.{◌-◌}
+use mathlib.Core.Path.{sym, ap}
+use borrow.Author.Tests.{eq-eqb, ne_eqb}
+use Rattle.lists.specs.Choice.{pick}
+use Rattle.recording.specs.Faults.{log_fault}
+use Rattle.steps.specs.declared.Progress.TheVariants.{Ended, Refused}
+use Rattle.steps.proofs.ended.Goals as goal
+
+pub returns-then-n-eq0 : goal.returns-then-n-eq0
+returns-then-n-eq0 c =
+    let n = c.args.n in
+    sym (ap (λ b. pick b (Refused log_fault 0) (Ended (n - 1))) (eq-eqb n 0 c.if-n-eq0.true))
+
+pub returns : goal.returns
+returns c =
+    let n = c.args.n in
+    sym (ap (λ b. pick b (Refused log_fault 0) (Ended (n - 1))) (ne_eqb n 0 c.if-n-eq0.false))

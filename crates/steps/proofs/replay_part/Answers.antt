@@ -1,0 +1,106 @@
+use mathlib.Core.Path.{◌≡◌, refl, ◌∙◌}
+use native.Mathlib.Omega.{arith}
+use lib.ListN.{length}
+use borrow.Author.Rules.{rules}
+use Rattle.table.specs.Rows.{rows_of}
+use Rattle.values.specs.Values.{values_of}
+use Rattle.steps.proofs.Parts.{taken_none, enough_is, taken_next, taken_further, part_more, part_ended, refused_within, part_refused, not_last}
+use Rattle.steps.proofs.replay_part.Goals as goal
+
+pub loop-place-init : goal.loop-place-init
+loop-place-init c =
+    (refl, refl, taken_none (rows_of c.args.words.now) c.args.before c.args.part.now c.args.last c.args.n (values_of c.args.present.now c.args.after.now) c.start-place.ensures)
+
+pub overflow_sub-part : goal.overflow_sub-part
+overflow_sub-part c = c.loop-place.invariant.2.within
+
+pub replay_step-requires : goal.replay_step-requires
+replay_step-requires c = (c.requires.0, c.requires.1)
+
+pub shape_of-present-in-Ended : goal.shape_of-present-in-Ended
+shape_of-present-in-Ended c =
+    let present : length c.replay_step.new.present ≡ length c.loop-place.present = search rules in
+    present ∙ c.loop-place.invariant.0
+
+pub shape_of-after-in-Ended : goal.shape_of-after-in-Ended
+shape_of-after-in-Ended c =
+    let after : length c.replay_step.new.after ≡ length c.loop-place.after = search rules in
+    after ∙ c.loop-place.invariant.1
+
+pub returns-in-Ended : goal.returns-in-Ended
+returns-in-Ended c =
+    let t = rows_of c.args.words.now in
+    record {
+      replays_part = part_ended t c.args.before c.args.part.now c.args.last c.args.n (values_of c.args.present.now c.args.after.now) c.loop-place.invariant.2
+          (enough_is t c.args.table c.requires.0 c.args.last _ c.loop-place-test.true) c.replay_step.result (values_of c.replay_step.new.present c.replay_step.new.after) c.replay_step.ensures.replays_step c.replay_step.ensures.begins_within c.in-Ended.steps c.in-Ended.is;
+      stops = tt;
+    }
+
+pub later_row-requires : goal.later_row-requires
+later_row-requires c =
+    let t = rows_of c.args.words.now in
+    let within = refused_within t c.args.before c.args.part.now c.args.last c.args.n (values_of c.args.present.now c.args.after.now) c.loop-place.invariant.2
+    (enough_is t c.args.table c.requires.0 c.args.last _ c.loop-place-test.true) c.replay_step.result (values_of c.replay_step.new.present c.replay_step.new.after) c.replay_step.ensures.replays_step c.replay_step.ensures.begins_within c.in-Refused.number c.in-Refused.row c.in-Refused.is in
+    let small = c.requires.3 in
+    omega (arith, within, small)
+
+pub shape_of-present-in-Refused : goal.shape_of-present-in-Refused
+shape_of-present-in-Refused c =
+    let present : length c.replay_step.new.present ≡ length c.loop-place.present = search rules in
+    present ∙ c.loop-place.invariant.0
+
+pub shape_of-after-in-Refused : goal.shape_of-after-in-Refused
+shape_of-after-in-Refused c =
+    let after : length c.replay_step.new.after ≡ length c.loop-place.after = search rules in
+    after ∙ c.loop-place.invariant.1
+
+pub returns-in-Refused : goal.returns-in-Refused
+returns-in-Refused c =
+    let t = rows_of c.args.words.now in
+    record {
+      replays_part = part_refused t c.args.before c.args.part.now c.args.last c.args.n (values_of c.args.present.now c.args.after.now) c.loop-place.invariant.2
+          (enough_is t c.args.table c.requires.0 c.args.last _ c.loop-place-test.true) c.replay_step.result (values_of c.replay_step.new.present c.replay_step.new.after) c.replay_step.ensures.replays_step c.replay_step.ensures.begins_within c.in-Refused.number c.in-Refused.row c.in-Refused.is c.later_row.ensures;
+      stops = tt;
+    }
+
+pub overflow_add-n : goal.overflow_add-n
+overflow_add-n c =
+    let t = rows_of c.args.words.now in
+    let next = taken_next t c.args.before c.args.part.now c.args.last c.args.n (values_of c.args.present.now c.args.after.now) c.loop-place.invariant.2
+    (enough_is t c.args.table c.requires.0 c.args.last _ c.loop-place-test.true) c.replay_step.result (values_of c.replay_step.new.present c.replay_step.new.after) c.replay_step.ensures.replays_step c.replay_step.ensures.begins_within c.in-Going.next c.in-Going.is in
+    let small = c.requires.2 in
+    let few = next.few in
+    let within = next.within in
+    omega (arith, small, few, within)
+
+pub loop-place-smaller : goal.loop-place-smaller
+loop-place-smaller c =
+    let t = rows_of c.args.words.now in
+    let further = taken_further t c.args.before c.args.part.now c.args.last c.args.n (values_of c.args.present.now c.args.after.now) c.loop-place.invariant.2
+    (enough_is t c.args.table c.requires.0 c.args.last _ c.loop-place-test.true) c.replay_step.result (values_of c.replay_step.new.present c.replay_step.new.after) c.replay_step.ensures.replays_step c.replay_step.ensures.begins_within c.in-Going.next c.in-Going.is in
+    let next = taken_next t c.args.before c.args.part.now c.args.last c.args.n (values_of c.args.present.now c.args.after.now) c.loop-place.invariant.2
+    (enough_is t c.args.table c.requires.0 c.args.last _ c.loop-place-test.true) c.replay_step.result (values_of c.replay_step.new.present c.replay_step.new.after) c.replay_step.ensures.replays_step c.replay_step.ensures.begins_within c.in-Going.next c.in-Going.is in
+    let within = next.within in
+    omega (arith, further, within)
+
+pub loop-place-preserved : goal.loop-place-preserved
+loop-place-preserved c =
+    let t = rows_of c.args.words.now in
+    let present : length c.replay_step.new.present ≡ length c.loop-place.present = search rules in
+    let after : length c.replay_step.new.after ≡ length c.loop-place.after = search rules in (
+      present ∙ c.loop-place.invariant.0,
+      after ∙ c.loop-place.invariant.1,
+      taken_next t c.args.before c.args.part.now c.args.last c.args.n (values_of c.args.present.now c.args.after.now) c.loop-place.invariant.2
+          (enough_is t c.args.table c.requires.0 c.args.last _ c.loop-place-test.true) c.replay_step.result (values_of c.replay_step.new.present c.replay_step.new.after) c.replay_step.ensures.replays_step c.replay_step.ensures.begins_within c.in-Going.next c.in-Going.is,
+    )
+
+pub shape_of-present : goal.shape_of-present
+shape_of-present c = c.loop-place.invariant.0
+
+pub shape_of-after : goal.shape_of-after
+shape_of-after c = c.loop-place.invariant.1
+
+pub returns : goal.returns
+returns c =
+    let both = part_more (rows_of c.args.words.now) c.args.before c.args.part.now c.args.last c.args.n (values_of c.args.present.now c.args.after.now) c.loop-place.invariant.2 c.loop-place.place refl (not_last c.args.last _ c.loop-place-test.false) in
+    record { replays_part = both.0; stops = both.1 }
