@@ -5,9 +5,10 @@
 
 ghost use Rattle.std.specs.Prelude.{◌<◌, ◌^◌, ◌+◌, ◌≤◌, length};
 
-use libc::{STDIN_FILENO, STDOUT_FILENO};
+use input::read_full;
 use number::Number;
 use row::{Place, Read, Row};
+use std::io;
 
 const GREATEST_32: u64 = 2147483647;
 
@@ -15,92 +16,82 @@ const GREATEST_64: u64 = 9223372036854775807;
 
 const LINE: usize = 24;
 
-fn text(s: &[u8]) {
-    io::write_all(STDOUT_FILENO, s);
-}
-
 // The number in 11 and in 20 columns.
-fn written(word: u64) {
+fn written(rt: &impl Print, word: u64) -> io::Result<()> {
     let mut narrow = [63u8; 11];
     number::write_number(&mut narrow, 11, word);
-    text(&narrow);
-    text(b"|");
+    rt.write_all(&narrow)?;
+    rt.print("|")?;
     let mut wide = [63u8; 20];
     number::write_number(&mut wide, 20, word);
-    text(&wide);
-    text(b"|\n");
+    rt.write_all(&wide)?;
+    rt.println("|")
 }
 
 // The columns, what they read as, and that written again.
-fn column(greatest: u64, columns: &[u8])
+fn column(rt: &impl Print, greatest: u64, columns: &[u8]) -> io::Result<()>
     requires { greatest < 2 ^ 63 }
 {
-    text(b"|");
-    text(columns);
-    text(b"| ");
+    rt.print("|")?;
+    rt.write_all(columns)?;
+    rt.print("| ")?;
     match number::read_number(greatest, columns) {
         Number::Value(word) => {
-            io::print_decimal(STDOUT_FILENO, word);
-            text(b" |");
-            written(word);
+            print!(rt; "{word} |")?;
+            written(rt, word)
         }
-        Number::Malformed => text(b"malformed\n"),
+        Number::Malformed => rt.println("malformed"),
     }
 }
 
 // One line of the input.
-fn case(line: &[u8])
+fn case(rt: &impl Print, line: &[u8]) -> io::Result<()>
     requires { 24 ≤ length line.now }
 {
     if line[0] == b'n' {
-        column(GREATEST_32, &line[2..13]);
+        column(rt, GREATEST_32, &line[2..13])?;
     }
     if line[0] == b'w' {
-        column(GREATEST_64, &line[2..22]);
+        column(rt, GREATEST_64, &line[2..22])?;
     }
+    Ok(())
 }
 
-fn cases(lines: &[u8]) {
-    let count = lines.len() / LINE;
-    let mut i = 0;
-    while i < count {
-        let at = i * LINE;
-        case(&lines[at..]);
-        i += 1;
+fn cases(rt: &impl Print, lines: &[u8]) -> io::Result<()> {
+    for line in lines.chunks_exact(LINE) {
+        case(rt, line)?;
     }
+    Ok(())
 }
 
 // What is read at a place, and where reading goes on.
-fn line(bytes: &[u8], at: usize) {
+fn line(rt: &impl Print, bytes: &[u8], at: usize) -> io::Result<()> {
     let place = Place { at };
     match place.read(bytes) {
         Read::Next(row, next) => {
             let mut out = [63u8; Row::LENGTH];
             row.write(&mut out);
-            text(&out);
-            io::print_decimal(STDOUT_FILENO, next.at as u64);
-            text(b"\n");
+            rt.write_all(&out)?;
+            println!(rt; "{}", next.at)
         }
-        Read::Malformed => text(b"malformed\n"),
-        Read::End => text(b"end\n"),
+        Read::Malformed => rt.println("malformed"),
+        Read::End => rt.println("end"),
     }
 }
 
 // A row, a row of extremes, and a torn one.
-fn rows() {
+fn rows(rt: &impl Print) -> io::Result<()> {
     let bytes =
         b"  10          2          1          0\n-999-2147483648 2147483647         -1\n  60          2          1          5";
-    line(bytes, 0);
-    line(bytes, 1);
-    line(bytes, 38);
-    line(bytes, 76);
-    line(bytes, 113);
-    line(bytes, 1000);
+    for at in [0, 1, 38, 76, 113, 1000] {
+        line(rt, bytes, at)?;
+    }
+    Ok(())
 }
 
-fn main() {
+fn main(rt: HostRuntime) -> io::Result<()> {
     let mut input = [0u8; 4096];
-    let got = io::read_full(STDIN_FILENO, &mut input);
-    cases(&input[..got]);
-    rows();
+    let got = read_full(&mut rt.reader(), &mut input)?;
+    cases(&rt, &input[..got])?;
+    rows(&rt)
 }

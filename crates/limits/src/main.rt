@@ -5,9 +5,10 @@
 ghost use Rattle.std.specs.Prelude.{◌≡◌, ◌≤◌, ◌<◌, ◌^◌, ◌*◌, ◌+◌, length};
 ghost use Rattle.row.specs.Row.{row_length, width};
 
-use libc::{STDIN_FILENO, STDOUT_FILENO};
+use input::read_full;
 use row::{Place, Read, Row};
 use rules::Verdict;
+use std::io;
 use table::Table;
 
 // What is laid out: how many bytes, how often the next row stands, and what is added each time.
@@ -20,37 +21,15 @@ struct Layout {
     c: u64,
 }
 
-fn text(s: &[u8]) {
-    io::write_all(STDOUT_FILENO, s);
-}
-
-fn number(n: u64) {
-    io::print_decimal(STDOUT_FILENO, n);
-}
-
-fn verdict(v: Verdict) {
-    match v {
-        Verdict::Accepted(count) => {
-            text(b" accepted ");
-            number(count);
-        }
+// One table's number, its bytes and its verdict.
+fn report(rt: &impl Print, n: u64, table: &[u8]) -> io::Result<()> {
+    let size = table.len();
+    match verdict::check(table) {
+        Verdict::Accepted(count) => println!(rt; "{n}: {size} bytes accepted {count}"),
         Verdict::Refused(refusal, row) => {
-            text(b" refused ");
-            number(refusal);
-            text(b" row ");
-            number(row);
+            println!(rt; "{n}: {size} bytes refused {refusal} row {row}")
         }
     }
-}
-
-// One table's number, its bytes and its verdict.
-fn report(n: u64, table: &[u8]) {
-    number(n);
-    text(b": ");
-    number(table.len() as u64);
-    text(b" bytes");
-    verdict(verdict::check(table));
-    text(b"\n");
 }
 
 // A number and its step, where both are small.
@@ -94,20 +73,18 @@ fn repeat(row: Row, layout: Layout, table: &mut [u8]) -> usize
 {
     let mut next = row;
     let mut at = layout.at;
-    let mut done = 0;
-    while done < layout.times {
+    for _ in 0..layout.times {
         if table.len() - at < Row::LENGTH {
             return at;
         }
         next.write(&mut table[at..]);
         next = stepped_row(next, layout);
         at += Row::LENGTH;
-        done += 1;
     }
     at
 }
 
-// What one row of the input does.
+// What one row of the input does to what is laid out. After a row 3 the next table begins.
 fn lay_out(row: Row, layout: Layout, table: &mut [u8]) -> Layout
     requires { layout.at ≤ length table.old }
     ensures { result.at ≤ length table.old }
@@ -128,11 +105,7 @@ fn lay_out(row: Row, layout: Layout, table: &mut [u8]) -> Layout
             b: row.b,
             c: row.c,
         },
-        3 => {
-            let at = layout.at;
-            report(row.a, &table[..at]);
-            Layout::start(0)
-        }
+        3 => Layout::start(0),
         _ => Layout::start(repeat(row, layout, table)),
     }
 }
@@ -154,19 +127,22 @@ fn read_row(lines: &[u8], i: usize) -> Row
     }
 }
 
-fn tables(lines: &[u8], table: &mut [u8]) {
+fn tables(rt: &impl Print, lines: &[u8], table: &mut [u8]) -> io::Result<()> {
     let rows = lines.len() / Row::LENGTH;
     let mut layout = Layout::start(0);
-    let mut i = 0;
-    while i < rows {
-        layout = lay_out(read_row(lines, i), layout, table);
-        i += 1;
+    for i in 0..rows {
+        let row = read_row(lines, i);
+        if row.tag == 3 {
+            report(rt, row.a, &table[..layout.at])?;
+        }
+        layout = lay_out(row, layout, table);
     }
+    Ok(())
 }
 
-fn main() {
+fn main(rt: HostRuntime) -> io::Result<()> {
     let mut input = [0u8; Table::BYTES];
-    let got = io::read_full(STDIN_FILENO, &mut input);
+    let got = read_full(&mut rt.reader(), &mut input)?;
     let mut table = [0u8; Row::LENGTH * (Table::ROWS + 1)];
-    tables(&input[..got], &mut table);
+    tables(&rt, &input[..got], &mut table)
 }

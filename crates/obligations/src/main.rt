@@ -3,7 +3,7 @@
 
 mod output;
 
-ghost use Rattle.std.specs.Prelude.{◌≡◌, ◌+◌, ◌≤◌, ◌<◌, length};
+ghost use Rattle.std.specs.Prelude.{◌≡◌, ◌+◌, ◌≤◌, ◌<◌, length, IfOk};
 ghost use Rattle.table.specs.Lookups.{most_rows, most_words};
 ghost use Rattle.table.specs.Rows.{rows_of};
 ghost use Rattle.table.specs.Counts.{counts_of};
@@ -16,7 +16,7 @@ ghost use Rattle.services.specs.Found.{ListedSlot};
 ghost use Rattle.obligations.specs.Output.{StandsAt, slot_bytes};
 ghost use Rattle.obligations.specs.Held.{Waits, written_to, enough, room};
 
-use libc::STDIN_FILENO;
+use input::read_full;
 use nodes::fill_notes;
 use output::Printer;
 use reply::tags;
@@ -25,14 +25,17 @@ use rules::Verdict;
 use scan::Span;
 use segments::Segment;
 use services::write_slot;
+use std::io;
+use std::io::Stdout;
+use std::process::ExitCode;
 use table::Table;
 use verdict::{Loaded, judge_with, load};
 use walk::{Slot, seek};
 
 // "or one row 89 (refusal, row, 0)"
-fn print_refusal(bytes: &[u8], number: u64, row: u64) -> Printer
+fn print_refusal(stdout: Stdout, bytes: &[u8], number: u64, row: u64) -> io::Result<Printer>
     requires { verdictOf bytes.now ≡ Refused number row }
-    ensures { result.at ≡ length (output bytes.now) }
+    ensures { IfOk result (λ printer. printer.at ≡ length (output bytes.now)) }
 {
     let mut out = [0u8; Row::LENGTH];
     let refusal = Row {
@@ -42,11 +45,11 @@ fn print_refusal(bytes: &[u8], number: u64, row: u64) -> Printer
         c: 0,
     };
     refusal.write(&mut out);
-    Printer::start().print(bytes, &out)
+    Printer::start(stdout).print(bytes, &out)
 }
 
 // What is written and not yet printed: the first bytes of a buffer, which the output goes on with where the printer stands.
-#[derive(Clone, Copy)]
+#[derive(Drop)]
 struct Batch {
     printer: Printer,
     held: usize,
@@ -56,36 +59,36 @@ impl Batch {
     // So many bytes are enough to be printed at once.
     const ENOUGH: usize = 65536;
 
-    fn start() -> Self
+    fn start(stdout: Stdout) -> Self
         ensures { (result.printer.at ≡ 0) × (result.held ≡ 0) }
     {
         Self {
-            printer: Printer::start(),
+            printer: Printer::start(stdout),
             held: 0,
         }
     }
 
     // Prints what is held.
-    fn flush(self, bytes: &[u8], out: &[u8]) -> Printer
+    fn flush(self, bytes: &[u8], out: &[u8]) -> io::Result<Printer>
         requires { Waits bytes.now self out.now }
-        ensures { result.at ≡ written_to self }
+        ensures { IfOk result (λ printer. printer.at ≡ written_to self) }
     {
         let held = self.held;
         self.printer.print(bytes, &out[..held])
     }
 
     // Prints what is held once it is enough.
-    fn pass_on(self, bytes: &[u8], out: &[u8]) -> Self
+    fn pass_on(self, bytes: &[u8], out: &[u8]) -> io::Result<Self>
         requires { Waits bytes.now self out.now }
-        ensures { Waits bytes.now result out.now × (result.held < enough) × (written_to result ≡ written_to self) }
+        ensures { IfOk result (λ batch. Waits bytes.now batch out.now × (batch.held < enough) × (written_to batch ≡ written_to self)) }
     {
         if self.held < Batch::ENOUGH {
-            return self;
+            return Ok(self);
         }
-        Self {
-            printer: self.flush(bytes, out),
+        Ok(Self {
+            printer: self.flush(bytes, out)?,
             held: 0,
-        }
+        })
     }
 }
 
@@ -98,11 +101,11 @@ fn print_slot(
     slot: Slot,
     batch: Batch,
     out: &mut [u8],
-) -> Batch
+) -> io::Result<Batch>
     requires table_value { (table ≡ counts_of (rows_of words.now)) × Noted (rows_of words.now) spans.now × (slot.row < (rows_of words.now).size) }
     requires waits { Waits bytes.now batch out.old × (batch.held < enough) × (room (rows_of words.now).size ≤ length out.old) }
     requires stands_at { StandsAt bytes.now (written_to batch) (slot_bytes (rows_of words.now) slot) × ListedSlot (rows_of words.now) slot }
-    ensures { Waits bytes.now result out.new × (result.held < enough) × (written_to result ≡ written_to batch + length (slot_bytes (rows_of words.now) slot)) }
+    ensures { IfOk result (λ after. Waits bytes.now after out.new × (after.held < enough) × (written_to after ≡ written_to batch + length (slot_bytes (rows_of words.now) slot))) }
 {
     let printer = batch.printer;
     let start = batch.held;
@@ -112,22 +115,23 @@ fn print_slot(
 
 // "prints all sequents": those from 1 to the count, by one walk.
 fn print_sequents(
+    stdout: Stdout,
     bytes: &[u8],
     words: &[u64],
     table: Table,
     spans: &[usize],
     count: u64,
     out: &mut [u8],
-) -> Printer
+) -> io::Result<Printer>
     requires table_value { (table ≡ counts_of (rows_of words.now)) × Noted (rows_of words.now) spans.now }
     requires words_value { (words.now ≡ words_of bytes.now) × (verdictOf bytes.now ≡ Accepted count) × (room (rows_of words.now).size ≤ length out.old) }
-    ensures { result.at ≡ length (output bytes.now) }
+    ensures { IfOk result (λ printer. printer.at ≡ length (output bytes.now)) }
 {
-    let mut batch = Batch::start();
+    let mut batch = Batch::start(stdout);
     let mut slot = seek(words, table, spans, Slot::start(0));
     let mut done = 0;
     while done < count {
-        batch = print_slot(bytes, words, table, spans, slot, batch, out);
+        batch = print_slot(bytes, words, table, spans, slot, batch, out)?;
         slot = seek(words, table, spans, slot.after());
         done += 1;
     }
@@ -136,58 +140,66 @@ fn print_sequents(
 
 // Prints the sequents of a table with these words, or its refusal by checks 3 to 12, by the counts of the rows and what is noted of them.
 fn print_judged(
+    stdout: Stdout,
     bytes: &[u8],
     words: &[u64],
     table: Table,
     spans: &[usize],
     out: &mut [u8],
-) -> Printer
+) -> io::Result<Printer>
     requires table_value { (table ≡ counts_of (rows_of words.now)) × Noted (rows_of words.now) spans.now × (length words.now ≤ most_words) }
     requires words_value { (words.now ≡ words_of bytes.now) × (verdictOf bytes.now ≡ judgeOf (rows_of words.now)) × (room most_rows ≤ length out.old) }
-    ensures { result.at ≡ length (output bytes.now) }
+    ensures { IfOk result (λ printer. printer.at ≡ length (output bytes.now)) }
 {
     match judge_with(words, table, spans) {
-        Verdict::Refused(number, row) => print_refusal(bytes, number, row),
-        Verdict::Accepted(count) => print_sequents(bytes, words, table, spans, count, out),
+        Verdict::Refused(number, row) => print_refusal(stdout, bytes, number, row),
+        Verdict::Accepted(count) => print_sequents(stdout, bytes, words, table, spans, count, out),
     }
 }
 
 // The same, of the rows alone: they are counted, and what is asked of them again and again is noted, once.
-fn print_rows(bytes: &[u8], words: &[u64], out: &mut [u8]) -> Printer
+fn print_rows(stdout: Stdout, bytes: &[u8], words: &[u64], out: &mut [u8]) -> io::Result<Printer>
     requires words_value { (words.now ≡ words_of bytes.now) × (verdictOf bytes.now ≡ judgeOf (rows_of words.now)) }
     requires words_len_bound { (length words.now ≤ most_words) × (room most_rows ≤ length out.old) }
-    ensures { result.at ≡ length (output bytes.now) }
+    ensures { IfOk result (λ printer. printer.at ≡ length (output bytes.now)) }
 {
     let mut spans = [0usize; Span::WORDS];
     let table = Table::of(words);
     fill_notes(words, table, &mut spans);
-    print_judged(bytes, words, table, &spans, out)
+    print_judged(stdout, bytes, words, table, &spans, out)
 }
 
 // Prints the whole output for a table.
-fn print_table(bytes: &[u8], out: &mut [u8]) -> Printer
+fn print_table(stdout: Stdout, bytes: &[u8], out: &mut [u8]) -> io::Result<Printer>
     requires { room most_rows ≤ length out.old }
-    ensures { result.at ≡ length (output bytes.now) }
+    ensures { IfOk result (λ printer. printer.at ≡ length (output bytes.now)) }
 {
     let mut words = [0u64; Table::WORDS];
     match load(bytes, &mut words) {
-        Loaded::Refused(number, row) => print_refusal(bytes, number, row),
-        Loaded::Words(n) => print_rows(bytes, &words[..n], out),
+        Loaded::Refused(number, row) => print_refusal(stdout, bytes, number, row),
+        Loaded::Words(n) => print_rows(stdout, bytes, &words[..n], out),
     }
 }
 
 // Room for what may be held and any sequent behind it: its rows 80, 84 and 82, and a row 81 for each hypothesis, of which a segment has at most one for each row.
 const ROOM: usize = Batch::ENOUGH + Row::LENGTH * (3 + Segment::COUNT as usize * Table::ROWS);
 
-// One byte more than a table may have is enough to tell that it is too long. After a short read the input has ended, or reading it fails.
-fn main() {
+// Says what failed, and why.
+fn failed(rt: &impl Eprint, what: &str, error: io::Error) -> ExitCode {
+    let _ = eprintln!(rt; "{what}: {error}");
+    ExitCode::FAILURE
+}
+
+// One byte more than a table may have is enough to tell that it is too long.
+fn main(rt: HostRuntime) -> ExitCode {
     let mut input = [0u8; Table::BYTES + 1];
-    let got = io::read_full(STDIN_FILENO, &mut input);
-    let mut more = [0u8; 1];
-    if libc::read(STDIN_FILENO, &mut more) < 0 {
-        os::fail(b"standard input");
-        return;
-    }
+    let got = match read_full(&mut rt.reader(), &mut input) {
+        Ok(got) => got,
+        Err(error) => return failed(&rt, "standard input", error),
+    };
     let mut out = [0u8; ROOM];
-    print_table(&input[..got], &mut out);
+    match print_table(rt.stdout(), &input[..got], &mut out) {
+        Ok(printer) => ExitCode::SUCCESS,
+        Err(error) => failed(&rt, "standard output", error),
+    }
 }

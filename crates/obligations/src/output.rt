@@ -1,39 +1,34 @@
 // The program's standard output. Outside this module nothing moves a printer on but `print`, which alone writes.
-ghost use Rattle.std.specs.Prelude.{◌≡◌, ◌+◌, length};
+ghost use Rattle.std.specs.Prelude.{◌≡◌, ◌+◌, length, IfOk};
 ghost use Rattle.obligations.specs.Output.{StandsAt};
 
-use libc::STDOUT_FILENO;
+use std::io;
+use std::io::Stdout;
 
-// How many bytes of the output it was given, and whether writing some of them failed: then it writes no more.
+// Where the output goes, and how many bytes of it were printed. Where writing some of them fails it is gone, so no more are printed.
 #[derive(Drop)]
 pub struct Printer {
+    stdout: Stdout,
     at: usize,
-    failed: bool,
 }
 
 impl Printer {
-    pub fn start() -> Self
+    pub fn start(stdout: Stdout) -> Self
         ensures { result.at ≡ 0 }
     {
-        Self {
-            at: 0,
-            failed: false,
-        }
+        Self { stdout, at: 0 }
     }
 
     // Prints the part of a table's output that begins where the printer stands.
-    pub fn print(self, bytes: &[u8], part: &[u8]) -> Self
+    pub fn print(self, bytes: &[u8], part: &[u8]) -> io::Result<Self>
         requires { StandsAt bytes.now self.at part.now }
-        ensures { result.at ≡ self.at + length part.now }
+        ensures { IfOk result (λ printer. printer.at ≡ self.at + length part.now) }
     {
-        let at = self.at + part.len();
-        if self.failed {
-            return Self { at, failed: true };
-        }
-        if io::write_all(STDOUT_FILENO, part) {
-            return Self { at, failed: false };
-        }
-        os::fail(b"standard output");
-        Self { at, failed: true }
+        let Self { stdout, at } = self;
+        stdout.write_all(part)?;
+        Ok(Self {
+            stdout,
+            at: at + part.len(),
+        })
     }
 }
