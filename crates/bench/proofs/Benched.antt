@@ -39,7 +39,7 @@ use Rattle.recording.proofs.Exact.{replay_exact}
 use Rattle.bench.specs.declared.Record.{Record}
 use Rattle.bench.specs.State.{values_in, types_in, value_of, IsState, updated, with_values_of}
 use Rattle.bench.specs.Choice.{chosen, none, asked, choice}
-use Rattle.bench.specs.Press.{made, at_hand, completed, press_fault, press_on, press}
+use Rattle.bench.specs.Press.{made, at_hand, completed, press_fault, press_on}
 use Rattle.bench.specs.Pressed.{state_of, left, choice_rows, records_of}
 use Rattle.bench.specs.Benched.{PressedAll, pressed_none, pressed_next, Benched}
 use Rattle.bench.proofs.Lengths.{Pressing, made_pressing}

@@ -19,7 +19,7 @@ use Rattle.table.specs.Rows.{Rows}
 use Rattle.machine.specs.Machine.{Action, unassigned, becomes_equal, becomes_such_that, Role, Machine}
 use Rattle.machine.specs.Described.{machine_of}
 use Rattle.rules.proofs.Obeys.{Obeys}
-use Rattle.run.specs.Run.{State}
+use Rattle.run.specs.Run.{State, view}
 use Rattle.recording.specs.declared.Replay.{Replay}
 use Rattle.recording.specs.declared.Replay.TheVariants.{Steps, Refused}
 use Rattle.recording.specs.Rows.{logged}
@@ -55,7 +55,7 @@ module _ (t : Rows) where
   step_fault_number : {ro : Role} {e : ℕ} {c s q k : State machine} {n : ℕ} → StepFault t ro e c s q k n → LogNumber n
   step_fault_number (axiom_fault i f) = formula_fault_number (first_in f).2
   step_fault_number (guard_fault a f) = formula_fault_number (first_in f).2
-  step_fault_number {e = e} {n = n} (action_at_fault a g f) = let (x, i, g) = first_in f in action_fault_number _ x (machine.action e x) n g
+  step_fault_number {ro = ro} {e = e} {c = c} {s = s} {q = q} {k = k} {n = n} (action_at_fault a g f) = let (x, i, g) = first_in f in action_fault_number (view machine ro c s q k) x (machine.action e x) n g
 
   pub refusal_number : {first : Bool} {c s : State machine} {i : ℕ} {bytes : List ℕ} {number row : ℕ} → Refusal t first c s i bytes number row → LogNumber number
   refusal_number empty = inr (inr refl)

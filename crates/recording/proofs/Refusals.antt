@@ -343,7 +343,7 @@ module _ (t : Rows) where
             let size = read_size t e (logged t e) (i + 1) step_lines_of vs ws (lines more) (at_size first vs c s at) step_read.reads in
             ready_next t ok e ws d (state_before t first s) q k size begun_held
 
-    marked_refused : {first : Bool} {c s : State machine} {i : ℕ} {bytes : List ℕ} {number row : ℕ} (most n : ℕ) (vs : Values) → Refusal t first c s i bytes number row
+    marked_refused : (most n : ℕ) (vs : Values) {first : Bool} {c s : State machine} {i : ℕ} {bytes : List ℕ} {number row : ℕ} → Refusal t first c s i bytes number row
         → eqb n 0 ≡ first → length (lines bytes) < most → At first vs c s → replay_from t most n i (lines bytes) vs ≡ Refused number row
     unfolding replay_from
     marked_refused zero n vs r is-first enough at = absurd (omega (arith, enough))

@@ -21,6 +21,7 @@ number_word w h = go (ltb w (2 ^ 63)) refl
   where
     negative : (m : ℕ) → 1 ≤ m → m ≤ 2 ^ 63 → word_of (neg_ℤ (pos m)) ≡ 2 ^ 64 - m
     negative (suc n) l k = simp (lt-ltb n (2 ^ 63) k)
+    negative zero l k = elim l [ ]
 
     go : (b : Bool) → ltb w (2 ^ 63) ≡ b → word_of (pick b (pos w) (neg_ℤ (pos (2 ^ 64 - w)))) ≡ w
     go true e = ap (λ b. pick b w (2 ^ 64)) e

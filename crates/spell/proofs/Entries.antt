@@ -18,10 +18,6 @@ use Rattle.sequent.specs.Forms.{forms, entry_of}
 use Rattle.reply.specs.Spelled.{spelled, spell_tree, spell}
 use Rattle.spell.specs.Spell.{unchanged_rows, shown_rows, defined_rows, moves_rows, witness_node, entry_rows}
 
--- a number from lo on that is not lo itself
-pub past : (lo n : ℕ) → lo ≤ n → (n ≡ lo → ⊥) → lo < n
-past lo n h f = omega arith
-
 -- a number that is no form from 2 to 10 counts as form 1
 other_form : (n : ℕ) → (2 ≤ n → 10 < n) → (λ a b. written a) ≡ get_or forms n (λ a b. written a)
 other_form zero h = refl

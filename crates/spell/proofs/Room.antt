@@ -4,7 +4,7 @@ use mathlib.Core.Path.{◌≡◌, sym, ap, ◌∙◌}
 use native.Mathlib.Omega.{arith}
 use lib.Dec.{ltb}
 use borrow.Author.Tests.{ltb-true, ltb-false, lt-ltb, le-ltb}
-use Rattle.spell.specs.Spell.{cap, capped}
+use Rattle.spell.specs.Spell.{capped}
 use Rattle.spell.proofs.Capped.{capped_below, capped_room}
 
 module _ (size n r : ℕ) (small : size < 2 ^ 64) (counted : r ≡ capped n) where

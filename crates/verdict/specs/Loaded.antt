@@ -1,5 +1,5 @@
 -- 01, checks 1 and 2: what is known of a table's bytes once its rows are read.
-use Rattle.std.specs.Prelude.{ℕ, ◌+◌, ◌*◌, true, false, List}
+use Rattle.std.specs.Prelude.{ℕ, ◌+◌, ◌*◌, List}
 use Rattle.lists.specs.Choice.{pick}
 use Rattle.lists.specs.Over.{over}
 use Rattle.rules.specs.Decoded.{framed, row_count, decoded}

@@ -1,0 +1,11 @@
+-- By whether the slot is of no event.
+use mathlib.Core.Path.{sym, ap, ◌∙◌}
+use mathlib.Core.Bool.{not}
+use Rattle.segments.proofs.has_abstract.Goals as goal
+
+pub returns-then-of_none : goal.returns-then-of_none
+returns-then-of_none c = rw (sym c.of_none.ensures ∙ c.if-of_none.true)
+
+pub returns : goal.returns
+returns c =
+    rw (sym c.of_none.ensures ∙ c.if-of_none.false) (ap not c.is_initial.ensures)

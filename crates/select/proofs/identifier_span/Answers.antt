@@ -1,0 +1,10 @@
+-- As many as the counts say.
+use mathlib.Core.Path.{ap}
+use Rattle.table.specs.Rows.{rows_of}
+use Rattle.table.proofs.Counts.{counts_identifiers}
+use Rattle.select.specs.Selection.{between}
+use Rattle.select.proofs.identifier_span.Goals as goal
+
+pub returns : goal.returns
+returns c =
+    ap (between 0) (counts_identifiers (rows_of c.args.words.now) c.args.table c.requires)

@@ -1,0 +1,58 @@
+use mathlib.Core.Path.{◌≡◌, refl, ◌∙◌}
+use native.Mathlib.Omega.{arith}
+use lib.ListN.{length}
+use borrow.Author.Rules.{rules}
+use Rattle.table.specs.Rows.{rows_of}
+use Rattle.table.proofs.Counts.{counts_identifiers}
+use Rattle.values.specs.Values.{values_of}
+use Rattle.values.proofs.Reading.{rest_start_lem, rest_next, rest_bad, rest_end}
+use Rattle.values.proofs.read_values.Goals as goal
+
+pub loop-x-init : goal.loop-x-init
+loop-x-init c =
+    (refl, refl, rest_start_lem (rows_of c.args.words.now) c.args.pressing c.args.e c.args.run.now c.args.place.at (values_of c.args.present.now c.args.after.now) c.requires.2)
+
+pub loop-x-preserved : goal.loop-x-preserved
+loop-x-preserved c =
+    let t = rows_of c.args.words.now in
+    let present : length c.read_identifier.new.present ≡ length c.loop-x.present = search rules in
+    let after : length c.read_identifier.new.after ≡ length c.loop-x.after = search rules in
+    let inside = c.loop-x-test.true in (
+      present ∙ c.loop-x.invariant.0,
+      after ∙ c.loop-x.invariant.1,
+      rest_next t c.args.pressing c.args.e c.args.run.now c.loop-x.x (omega (arith, inside, counts_identifiers t c.args.table c.requires.0)) c.loop-x.place.at (values_of c.loop-x.present c.loop-x.after) c.loop-x.invariant.2 _ _
+          c.read_identifier.ensures.reads_identifier c.read_identifier.ensures.reaches c.in-Next.next c.in-Next.is,
+    )
+
+pub shape_of-present-in-Bad : goal.shape_of-present-in-Bad
+shape_of-present-in-Bad c =
+    let present : length c.read_identifier.new.present ≡ length c.loop-x.present = search rules in
+    present ∙ c.loop-x.invariant.0
+
+pub shape_of-after-in-Bad : goal.shape_of-after-in-Bad
+shape_of-after-in-Bad c =
+    let after : length c.read_identifier.new.after ≡ length c.loop-x.after = search rules in
+    after ∙ c.loop-x.invariant.1
+
+pub returns-in-Bad : goal.returns-in-Bad
+returns-in-Bad c =
+    let t = rows_of c.args.words.now in
+    let inside = c.loop-x-test.true in
+    record {
+      reads_values = rest_bad t c.args.pressing c.args.e c.args.run.now c.loop-x.x (omega (arith, inside, counts_identifiers t c.args.table c.requires.0)) c.loop-x.place.at (values_of c.loop-x.present c.loop-x.after) c.loop-x.invariant.2 _ _
+          c.read_identifier.ensures.reads_identifier c.read_identifier.ensures.reaches c.in-Bad.row c.in-Bad.is;
+      reaches = tt;
+    }
+
+pub shape_of-present : goal.shape_of-present
+shape_of-present c = c.loop-x.invariant.0
+
+pub shape_of-after : goal.shape_of-after
+shape_of-after c = c.loop-x.invariant.1
+
+pub returns : goal.returns
+returns c =
+    let t = rows_of c.args.words.now in
+    let past = counts_identifiers t c.args.table c.requires.0 in
+    let both = rest_end t c.args.pressing c.args.e c.args.run.now c.loop-x.x c.loop-x.place (values_of c.loop-x.present c.loop-x.after) (omega (arith, past, c.loop-x-test.false)) c.loop-x.invariant.2 in
+    record { reads_values = both.0; reaches = both.1 }
