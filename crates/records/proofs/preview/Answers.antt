@@ -15,7 +15,7 @@ returns c =
     let m = few_of (length ys) in
     let is = previewed_is table step xs ys in
     let done : c.previewed-done.result ≡ previewed_of table step (loaded n xs) n (loaded m ys) m =
-        c.previewed-done.ensures ∙ ap₂ (λ from kept. previewed_of table step from n kept m) c.load_state-from.ensures c.load_state-kept.ensures in (
+    c.previewed-done.ensures ∙ ap₂ (λ from kept. previewed_of table step from n kept m) c.load_state-from.ensures c.load_state-kept.ensures in (
       ap (λ (d : Done). d.reply) done ∙ is.0,
       c.store_state.ensures ∙ ap (λ (d : Done). stored d.numbers m ys) done ∙ is.1,
     )
