@@ -56,7 +56,7 @@ fn reply_value(reply: Reply) -> u64
 // check: the count of sequents, or refusal 1 to 12.
 #[unsafe(no_mangle)]
 pub extern "C" fn sifthorma_check(table: &[u8], value: &mut u64) -> u64
-    ensures value { result ≡ verdict_number (verdict_of table.now) }
+    ensures reply { result ≡ verdict_number (verdict_of table.now) }
     ensures value_after { value.new ≡ verdict_value (verdict_of table.now) }
 {
     let v = check(table);
@@ -72,7 +72,7 @@ pub extern "C" fn sifthorma_write_sequent(
     out: &mut [u8],
     value: &mut u64,
 ) -> u64
-    ensures value { result ≡ reply_number (write_sequent table.now k out.old).reply }
+    ensures reply { result ≡ reply_number (write_sequent table.now k out.old).reply }
     ensures value_after { value.new ≡ reply_value (write_sequent table.now k out.old).reply }
     ensures out_after { out.new ≡ (write_sequent table.now k out.old).buffer }
 {
@@ -90,7 +90,7 @@ pub extern "C" fn sifthorma_spell_entry(
     out: &mut [u8],
     value: &mut u64,
 ) -> u64
-    ensures value { result ≡ reply_number (spell_entry table.now k j out.old).reply }
+    ensures reply { result ≡ reply_number (spell_entry table.now k j out.old).reply }
     ensures value_after { value.new ≡ reply_value (spell_entry table.now k j out.old).reply }
     ensures out_after { out.new ≡ (spell_entry table.now k j out.old).buffer }
 {
@@ -120,7 +120,7 @@ fn replay_value(reply: Replay) -> u64
 // replay a recorded run: how many steps follow the initialisation, or a refusal.
 #[unsafe(no_mangle)]
 pub extern "C" fn sifthorma_replay(table: &[u8], run: &[u8], value: &mut u64) -> u64
-    ensures value { result ≡ replay_number (replay_of table.now run.now) }
+    ensures reply { result ≡ replay_number (replay_of table.now run.now) }
     ensures value_after { value.new ≡ replay_value (replay_of table.now run.now) }
 {
     let reply = replay(table, run);

@@ -7,7 +7,7 @@ pub returns : goal.returns
 returns c =
     let served = c.write_sequent-reply.ensures in
     record {
-      value = c.reply_number.ensures ∙ ap (λ o. reply_number o.reply) served;
+      reply = c.reply_number.ensures ∙ ap (λ o. reply_number o.reply) served;
       value_after = c.reply_value.ensures ∙ ap (λ o. reply_value o.reply) served;
       out_after = ap (λ o. o.buffer) served;
     }
