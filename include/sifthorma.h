@@ -1,7 +1,7 @@
 /* Sifthorma: the sequents of an Event-B machine and its refinement, replays of its recorded runs, and steps pressed on a state.
  *
  * A table is rows of 38 bytes: a tag in 4 columns, three numbers in 11 columns each, byte 10 (docs/GUIDE.md). A log is such rows too.
- * Link with libsifthorma.a, which `rt staticlib sifthorma` writes to target/staticlib/. It is for x86-64.
+ * Link with libsifthorma.a, which `rt lib` writes in crates/sifthorma to crates/sifthorma/out/. It is for x86-64.
  *
  * Replies. Every function returns 0, or the number of a refusal, and sets *value in either case:
  *

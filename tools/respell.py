@@ -107,6 +107,23 @@ class Turner(snake.Turner):
         return super().rt(text, where)
 
 
+def aliases():
+    """Spells the names alike that a file gives to what it brings in, as 'verdict as verdictOf'."""
+    for path in snake.files_below("crates"):
+        if not path.endswith((".antt", ".rt")):
+            continue
+        with open(path, encoding="utf-8") as f:
+            text = f.read()
+        turned = text
+        for old in set(re.findall(r"\bas ([a-z]+(?:[A-Z]|-[a-z])[A-Za-z-]*)(?=[,}\n;])", text)):
+            new = in_snake_case(old)
+            if old[0].islower() and not re.search(r"(?<![\w'-])" + new + r"(?![\w'-])", text) and not PROOF.search(path):
+                turned = re.sub(r"(?<![\w.'-])" + re.escape(old) + r"(?![\w'-])", new, turned)
+        if turned != text:
+            with open(path, "w", encoding="utf-8") as f:
+                f.write(turned)
+
+
 def main():
     snake.Turner = Turner
     turned = table()
@@ -118,6 +135,7 @@ def main():
         f.writelines(f"{old}\t{new}\n" for old, new in sorted(turned.items()))
     snake.main(["--table", f.name, "--prose", "file", "crates"])
     os.unlink(f.name)
+    aliases()
     for crate in sorted(glob.glob("crates/*/src")):
         subprocess.run(["rt", "fmt"], cwd=os.path.dirname(crate), stdout=subprocess.DEVNULL)
 

@@ -23,7 +23,7 @@ use Rattle.machine.specs.Described.{machine_of}
 use Rattle.machine.proofs.Described.{variable_named}
 use Rattle.rules.specs.declared.Verdict.TheVariants as verdict
 use Rattle.rules.specs.Decoded.{decoded}
-use Rattle.rules.specs.Verdict.{verdict as verdictOf}
+use Rattle.rules.specs.Verdict.{verdict as verdict_of}
 use Rattle.rules.proofs.Obeys.{Obeys}
 use Rattle.run.specs.Run.{State, blank, AllReadTrue, Step, Taken, of_run, Follows}
 use Rattle.recording.specs.declared.Replay.TheVariants.{Steps}
@@ -116,7 +116,7 @@ module _ (t : Rows) where
         p.leaves ∙ left_same t j k zs types right (λ x n v.
         sym ((left_shows t j zs types right c s shows).variables x n v) ∙ ap (λ ys. state_of t ys x) (sym p.leaves) ∙ all_at afters (of_variable t x n v))
 
-module _ (table : List ℕ) (n : ℕ) (accepted : verdictOf table ≡ verdict.Accepted n) where
+module _ (table : List ℕ) (n : ℕ) (accepted : verdict_of table ≡ verdict.Accepted n) where
   abbrev t : Rows
   t = decoded table
 
@@ -249,5 +249,5 @@ module _ (table : List ℕ) (n : ℕ) (accepted : verdictOf table ≡ verdict.Ac
       (replay_exact table run total).1 (n, accepted, (whole, record { axioms = b.inside.axioms; start = b.inside.start; steps = rest.inside }, b.count))
 
 -- press after press is replay, both ways
-pub press_replay : (table run : List ℕ) (n : ℕ) → verdictOf table ≡ verdict.Accepted n → (total : ℕ) → (replay table run ≡ Steps total) ↔ Benched table run total
+pub press_replay : (table run : List ℕ) (n : ℕ) → verdict_of table ≡ verdict.Accepted n → (total : ℕ) → (replay table run ≡ Steps total) ↔ Benched table run total
 press_replay table run n accepted total = (replay_benched table n accepted run total, benched_replay table n accepted run total)

@@ -11,7 +11,7 @@ use lib.ListN.{length}
 use Rattle.table.specs.Rows.{count}
 use Rattle.rules.specs.declared.Verdict.TheVariants as verdict
 use Rattle.rules.specs.Decoded.{decoded}
-use Rattle.rules.specs.Verdict.{verdict as verdictOf}
+use Rattle.rules.specs.Verdict.{verdict as verdict_of}
 use Rattle.rules.proofs.Obeys.{Obeys}
 use Rattle.rules.proofs.Accepted.{accepted_none, none_obeys}
 use Rattle.bench.specs.declared.Record.{Record}
@@ -27,7 +27,7 @@ use Rattle.bench.proofs.Records.{values_length}
 pub performed_never : {n row : ℕ} → Refused n row ≡ Performed → ⊥
 performed_never e = true≢false (ap (λ (p : Press). elim p [ Performed ↦ false | Refused n row ↦ true ]) e)
 
-pub accepted_obeys : (table : List ℕ) (n : ℕ) → verdictOf table ≡ verdict.Accepted n → Obeys (decoded table)
+pub accepted_obeys : (table : List ℕ) (n : ℕ) → verdict_of table ≡ verdict.Accepted n → Obeys (decoded table)
 accepted_obeys table n a = none_obeys table (accepted_none table n a).0
 
 -- ---- a list by an outcome
@@ -53,13 +53,13 @@ unfolding press
 made_press table step state zs e = ap (λ (o : Outcome). record { reply = reply_of o; state = kept_or (λ zs. with_values_of zs state) state o }) e
 
 -- the outcome on records, by the table's rows
-pub records_made : (table step : List ℕ) (state : List Record) (n : ℕ) (zs : List ℤ) → verdictOf table ≡ verdict.Accepted n
+pub records_made : (table step : List ℕ) (state : List Record) (n : ℕ) (zs : List ℤ) → verdict_of table ≡ verdict.Accepted n
     → press_on (decoded table) step (values_in state) (types_in state) (length state) ≡ made zs → records_outcome table step state (length state) ≡ made zs
 unfolding records_outcome outcome
 records_made table step state n zs a h = ap (λ v. outcome_by v (press_on (decoded table) step (values_in state) (types_in state) (length state))) a ∙ h
 
 pub made_records : (table step : List ℕ) (state : List Record) (room : ℕ) (zs : List ℤ) → records_outcome table step state room ≡ made zs
-    → (n : ℕ) × (verdictOf table ≡ verdict.Accepted n) × (press_on (decoded table) step (values_in state) (types_in state) room ≡ made zs)
+    → (n : ℕ) × (verdict_of table ≡ verdict.Accepted n) × (press_on (decoded table) step (values_in state) (types_in state) room ≡ made zs)
 unfolding records_outcome
 made_records table step state room zs h = outcome_made table step (values_in state) (types_in state) room zs h
 

@@ -14,7 +14,7 @@ use Rattle.table.specs.Rows.{Rows, count}
 use Rattle.rules.specs.declared.Verdict.{Verdict}
 use Rattle.rules.specs.declared.Verdict.TheVariants as verdict
 use Rattle.rules.specs.Decoded.{decoded}
-use Rattle.rules.specs.Verdict.{verdict as verdictOf}
+use Rattle.rules.specs.Verdict.{verdict as verdict_of}
 use Rattle.rules.proofs.Full.{few_identifiers}
 use Rattle.rules.proofs.Accepted.{accepted_none, none_obeys}
 use Rattle.recording.specs.Lines.{lines}
@@ -102,17 +102,17 @@ module _ (t : Rows) (step : List ℕ) (zs : List ℤ) (types : List ℕ) (room :
       and_false false = refl
 
 -- ---- over bytes
-accepted_few : (table : List ℕ) (n : ℕ) → verdictOf table ≡ verdict.Accepted n → count (decoded table) 10 ≤ 64
+accepted_few : (table : List ℕ) (n : ℕ) → verdict_of table ≡ verdict.Accepted n → count (decoded table) 10 ≤ 64
 accepted_few table n a = few_identifiers (decoded table) (none_obeys table (accepted_none table n a).0).full
 
 module _ (table step : List ℕ) where
   -- a made state is one of an accepted table
   pub outcome_made : (zs : List ℤ) (types : List ℕ) (room : ℕ) (ys : List ℤ) → outcome table step zs types room ≡ made ys
-      → (n : ℕ) × (verdictOf table ≡ verdict.Accepted n) × (press_on (decoded table) step zs types room ≡ made ys)
+      → (n : ℕ) × (verdict_of table ≡ verdict.Accepted n) × (press_on (decoded table) step zs types room ≡ made ys)
   unfolding outcome
-  outcome_made zs types room ys h = go (verdictOf table) refl h
+  outcome_made zs types room ys h = go (verdict_of table) refl h
     where
-      go : (v : Verdict) → verdictOf table ≡ v → outcome_by v (press_on (decoded table) step zs types room) ≡ made ys → (n : ℕ) × (verdictOf table ≡ verdict.Accepted n) × (press_on (decoded table) step zs types room ≡ made ys)
+      go : (v : Verdict) → verdict_of table ≡ v → outcome_by v (press_on (decoded table) step zs types room) ≡ made ys → (n : ℕ) × (verdict_of table ≡ verdict.Accepted n) × (press_on (decoded table) step zs types room ≡ made ys)
       go (verdict.Accepted n) a h = (n, a, h)
       go (verdict.Refused n row) a h = absurd (made_never h)
 
@@ -126,7 +126,7 @@ module _ (table step : List ℕ) where
       let size = p.right.size in
       (ap length p.makes ∙ updated_size t (completed t p.event p.values).after zs, p.right.sorts ∙ sym size, p.roomy ∙ sym size, omega (arith, size, few))
 
-  either : (v : Verdict) → verdictOf table ≡ v → (o p : Outcome) → ((n : ℕ) → verdictOf table ≡ verdict.Accepted n → (o ≡ refused log_fault 0) × (p ≡ refused log_fault 0)) → outcome_by v o ≡ outcome_by v p
+  either : (v : Verdict) → verdict_of table ≡ v → (o p : Outcome) → ((n : ℕ) → verdict_of table ≡ verdict.Accepted n → (o ≡ refused log_fault 0) × (p ≡ refused log_fault 0)) → outcome_by v o ≡ outcome_by v p
   either (verdict.Accepted n) a o p f = (f n a).0 ∙ sym (f n a).1
   either (verdict.Refused n row) a o p f = refl
 
@@ -135,12 +135,12 @@ module _ (table step : List ℕ) where
   unfolding outcome
   outcome_long zs zs' types types' room room' h k =
       let t = decoded table in
-      either (verdictOf table) refl (press_on t step zs types room) (press_on t step zs' types' room')
+      either (verdict_of table) refl (press_on t step zs types room) (press_on t step zs' types' room')
       (λ n a. (many_refused t step zs types room (accepted_few table n a) h, many_refused t step zs' types' room' (accepted_few table n a) k))
 
   pub outcome_room : (zs : List ℤ) (types : List ℕ) (room room' : ℕ) → 64 < room → 64 < room' → outcome table step zs types room ≡ outcome table step zs types room'
   unfolding outcome
   outcome_room zs types room room' h k =
       let t = decoded table in
-      either (verdictOf table) refl (press_on t step zs types room) (press_on t step zs types room')
+      either (verdict_of table) refl (press_on t step zs types room) (press_on t step zs types room')
       (λ n a. (room_refused t step zs types room (accepted_few table n a) h, room_refused t step zs types room' (accepted_few table n a) k))

@@ -23,7 +23,7 @@ use Rattle.machine.specs.Described.{machine_of}
 use Rattle.rules.specs.declared.Verdict.{Verdict}
 use Rattle.rules.specs.declared.Verdict.TheVariants as verdict
 use Rattle.rules.specs.Decoded.{decoded}
-use Rattle.rules.specs.Verdict.{verdict as verdictOf}
+use Rattle.rules.specs.Verdict.{verdict as verdict_of}
 use Rattle.rules.proofs.Obeys.{Obeys}
 use Rattle.run.specs.Run.{State, blank, world, view, AllReadTrue, of_run}
 use Rattle.recording.specs.Rows.{is_initial}
@@ -275,8 +275,8 @@ module _ (t : Rows) where
 -- the table's own refusal, or that of a press whose new state goes to a list of so many records, with row 0
 abbrev pub Refuses : List ℕ → List ℕ → List Record → ℕ → ℕ → ℕ → Type 0
 Refuses table step state room n row =
-    (verdictOf table ≡ verdict.Refused n row)
-    ⊎ ((count : ℕ) × (verdictOf table ≡ verdict.Accepted count) × (row ≡ 0) × PressRefusal (decoded table) step (values_in state) (types_in state) room n)
+    (verdict_of table ≡ verdict.Refused n row)
+    ⊎ ((count : ℕ) × (verdict_of table ≡ verdict.Accepted count) × (row ≡ 0) × PressRefusal (decoded table) step (values_in state) (types_in state) room n)
 
 pub outcome_refused : (o : Outcome) (n row : ℕ) → reply_of o ≡ Refused n row → o ≡ refused n row
 outcome_refused (made zs) n row h = absurd (performed_never (sym h))
@@ -285,18 +285,18 @@ outcome_refused (refused m i) n row h =
 
 pub records_refused : (table step : List ℕ) (state : List Record) (room n row : ℕ) → (reply_of (records_outcome table step state room) ≡ Refused n row) ↔ Refuses table step state room n row
 unfolding records_outcome outcome
-records_refused table step state room n row = (λ h. by (verdictOf table) refl (outcome_refused (outcome_by (verdictOf table) on) n row h), back)
+records_refused table step state room n row = (λ h. by (verdict_of table) refl (outcome_refused (outcome_by (verdict_of table) on) n row h), back)
   where
     on : Outcome
     on = press_on (decoded table) step (values_in state) (types_in state) room
 
-    by : (v : Verdict) → verdictOf table ≡ v → outcome_by v on ≡ refused n row → Refuses table step state room n row
+    by : (v : Verdict) → verdict_of table ≡ v → outcome_by v on ≡ refused n row → Refuses table step state room n row
     by (verdict.Accepted count) a h =
         let p = refused_cause (decoded table) (accepted_obeys table count a) step (values_in state) (types_in state) room n row h in
         inr (count, a, p.0, p.1)
     by (verdict.Refused m i) a h = inl (a ∙ ap₂ verdict.Refused (refused_number h) (refused_row h))
 
-    back : Refuses table step state room n row → reply_of (outcome_by (verdictOf table) on) ≡ Refused n row
+    back : Refuses table step state room n row → reply_of (outcome_by (verdict_of table) on) ≡ Refused n row
     back (inl a) = ap (λ v. reply_of (outcome_by v on)) a
     back (inr (count, a, z, p)) =
         ap (λ v. reply_of (outcome_by v on)) a ∙ ap reply_of (cause_refused (decoded table) (accepted_obeys table count a) step (values_in state) (types_in state) room n p) ∙ ap (Refused n) (sym z)

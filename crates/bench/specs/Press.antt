@@ -13,7 +13,7 @@ use Rattle.machine.specs.Described.{machine_of}
 use Rattle.rules.specs.declared.Verdict.{Verdict}
 use Rattle.rules.specs.declared.Verdict.TheVariants as verdict
 use Rattle.rules.specs.Decoded.{decoded}
-use Rattle.rules.specs.Verdict.{verdict as verdictOf}
+use Rattle.rules.specs.Verdict.{verdict as verdict_of}
 use Rattle.recording.specs.Lines.{lines}
 use Rattle.recording.specs.Faults.{no_fault, log_fault, first_fault, untrue, step_fault}
 use Rattle.recording.specs.Replay.{Values}
@@ -85,7 +85,7 @@ outcome_by (verdict.Accepted n) o = o
 outcome_by (verdict.Refused n row) o = refused n row
 
 unfoldable pub outcome : List ℕ → List ℕ → List ℤ → List ℕ → ℕ → Outcome
-outcome table step zs types room = outcome_by (verdictOf table) (press_on (decoded table) step zs types room)
+outcome table step zs types room = outcome_by (verdict_of table) (press_on (decoded table) step zs types room)
 
 -- the answer, and what a list holds then: "no record changes on a refusal"
 abbrev pub reply_of : Outcome → Press

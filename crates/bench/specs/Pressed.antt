@@ -14,7 +14,7 @@ use Rattle.machine.specs.Machine.{Machine}
 use Rattle.machine.specs.Described.{machine_of}
 use Rattle.rules.specs.declared.Verdict.TheVariants as verdict
 use Rattle.rules.specs.Decoded.{decoded}
-use Rattle.rules.specs.Verdict.{verdict as verdictOf}
+use Rattle.rules.specs.Verdict.{verdict as verdict_of}
 use Rattle.run.specs.Run.{State, blank, AllReadTrue, Step, Taken, of_run}
 use Rattle.recording.specs.Rows.{step_tag, is_state_variable}
 use Rattle.recording.specs.Recorded.{value_row, logged_value, constants_alone, AllInside, StepInside}
@@ -60,7 +60,7 @@ module _ (t : Rows) where
 -- the table is accepted, the records are a state of it, and the new ones are what a step leaves of them
 pub record Presses (table step : List ℕ) (state state' : List Record) : Type 0 where
   pub count : ℕ
-  pub accepted : verdictOf table ≡ verdict.Accepted count
+  pub accepted : verdict_of table ≡ verdict.Accepted count
   pub is_state : IsState (decoded table) (values_in state) (types_in state)
   pub values : List ℤ
   pub pressed : PressedBy (decoded table) step (values_in state) values

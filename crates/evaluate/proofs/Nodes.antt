@@ -14,7 +14,7 @@ use Rattle.formula.specs.Evaluate.{Env, reads_right}
 use Rattle.machine.specs.Operator.{Operator, literalOf, identifierOf, after_of, constant_of, unary_of, binary_of, division_of, connective_of, unknown, operator_numbered}
 use Rattle.machine.specs.Described.{node, tree_to, tree_of}
 use Rattle.machine.proofs.Described.{operand_falls, tree_step}
-use Rattle.answer.specs.Answer.{Answer, answer, right_of as rightAnswer, operands, binary_answer, connective_answer}
+use Rattle.answer.specs.Answer.{Answer, answer, right_of as right_answer, operands, binary_answer, connective_answer}
 use Rattle.signed.specs.Found.{found_of, answer_of}
 use Rattle.signed.proofs.Answers.{answer_found}
 use Rattle.signed.specs.declared.Found.{Found}
@@ -22,7 +22,7 @@ use Rattle.signed.specs.declared.Found.TheVariants.{Number, Truth, Outside, Unde
 use Rattle.evaluate.specs.Evaluate.{bottom_number, operator_at, is_leaf, leaf_answer, combined, reads_right_of}
 
 -- a right side that is not read
-unread : (o : Connective) (v : AnyValue) → reads_right o (as_truth v) ≡ false → (r s : Answer) → rightAnswer o v r ≡ rightAnswer o v s
+unread : (o : Connective) (v : AnyValue) → reads_right o (as_truth v) ≡ false → (r s : Answer) → right_answer o v r ≡ right_answer o v s
 unread o v e r s = not_chosen (reads_right o (as_truth v)) _ _ e ∙ sym (not_chosen (reads_right o (as_truth v)) _ _ e)
 
 right_unread : (o : Operator) (l : Found) → reads_right_of o l ≡ false → (r s : Answer) → combined o (answer_of l) r ≡ combined o (answer_of l) s

@@ -13,7 +13,7 @@ use Rattle.answer.specs.Answer.{Answer, value, outside, undefined, answer}
 use Rattle.answer.proofs.Answer.{answer_exact}
 use Rattle.rules.specs.declared.Verdict.TheVariants as verdict
 use Rattle.rules.specs.Decoded.{decoded}
-use Rattle.rules.specs.Verdict.{verdict as verdictOf}
+use Rattle.rules.specs.Verdict.{verdict as verdict_of}
 use Rattle.recording.specs.Faults.{outside_fault, undefined_fault}
 use Rattle.recording.specs.Replay.{replay_by, replay}
 use Rattle.recording.specs.declared.Replay.{Replay}
@@ -59,7 +59,7 @@ module _ {A : Type 0} (refusal : ℕ → ℕ → A) (number : A → ℕ) (number
 replay_number : Replay → ℕ
 replay_number r = elim r [ Steps n ↦ 0 | Refused n row ↦ n ]
 
-table_refused : (table run : List ℕ) (n row : ℕ) → verdictOf table ≡ verdict.Refused n row → former_replay table run ≡ Refused n row
+table_refused : (table run : List ℕ) (n row : ℕ) → verdict_of table ≡ verdict.Refused n row → former_replay table run ≡ Refused n row
 unfolding replay_with
 table_refused table run n row v = ap (λ v. replay_by v (replay_log_by formerly (decoded table) run)) v
 
@@ -70,7 +70,7 @@ replay_changes table run =
     (λ row f. (replay_refused table run outside_fault row).1 (inr f))
     (λ row u o. go row u ((replay_refused table run outside_fault row).0 o))
   where
-    go : (row : ℕ) → former_replay table run ≡ Refused undefined_fault row → (verdictOf table ≡ verdict.Refused outside_fault row) ⊎ LogOutside table run row → LogOutside table run row
+    go : (row : ℕ) → former_replay table run ≡ Refused undefined_fault row → (verdict_of table ≡ verdict.Refused outside_fault row) ⊎ LogOutside table run row → LogOutside table run row
     go row u (inl v) = absurd (never_both refl refl (refused_number (sym u ∙ table_refused table run outside_fault row v)))
     go row u (inr f) = f
 
@@ -78,7 +78,7 @@ replay_changes table run =
 outcome_number : Outcome → ℕ
 outcome_number o = elim o [ made zs ↦ 0 | refused n row ↦ n ]
 
-outcome_table : (table step : List ℕ) (state : List Record) (room n row : ℕ) → verdictOf table ≡ verdict.Refused n row → outcome_with formerly table step state room ≡ refused n row
+outcome_table : (table step : List ℕ) (state : List Record) (room n row : ℕ) → verdict_of table ≡ verdict.Refused n row → outcome_with formerly table step state room ≡ refused n row
 unfolding outcome_with
 outcome_table table step state room n row v = ap (λ v. outcome_by v (press_on_by formerly (decoded table) step (values_in state) (types_in state) room)) v
 
@@ -94,7 +94,7 @@ outcome_changes table step state room =
     former : Outcome
     former = outcome_with formerly table step state room
 
-    go : (row : ℕ) → former ≡ refused undefined_fault row → (verdictOf table ≡ verdict.Refused outside_fault row) ⊎ PressOutside table step state room row → PressOutside table step state room row
+    go : (row : ℕ) → former ≡ refused undefined_fault row → (verdict_of table ≡ verdict.Refused outside_fault row) ⊎ PressOutside table step state room row → PressOutside table step state room row
     go row u (inl v) = absurd (never_both refl refl (ap outcome_number (sym u ∙ outcome_table table step state room outside_fault row v)))
     go row u (inr f) = f
 

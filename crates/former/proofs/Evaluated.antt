@@ -24,7 +24,7 @@ use Rattle.machine.specs.Described.{machine_of}
 use Rattle.rules.specs.declared.Verdict.{Verdict}
 use Rattle.rules.specs.declared.Verdict.TheVariants as verdict
 use Rattle.rules.specs.Decoded.{decoded}
-use Rattle.rules.specs.Verdict.{verdict as verdictOf}
+use Rattle.rules.specs.Verdict.{verdict as verdict_of}
 use Rattle.recording.specs.Rows.{is_initial, logged, is_step_row}
 use Rattle.recording.specs.Lines.{lines}
 use Rattle.recording.specs.Faults.{no_fault, outside_fault, undefined_fault, log_fault, fault_of, first_fault, untrue, not_allowed, step_fault}
@@ -182,7 +182,7 @@ module _ (possible : Type 0) where
     -- ---- over bytes and records
     pub replay_reply : (table run : List ℕ) → Reply Refused (replay_with evaluation table run) (replay table run)
     unfolding replay_with replay replay_log_by replay_log
-    replay_reply table run = go (verdictOf table)
+    replay_reply table run = go (verdict_of table)
       where
         go : (v : Verdict) → Reply Refused (replay_by v (replay_log_by evaluation (decoded table) run)) (replay_by v (replay_log (decoded table) run))
         go (verdict.Accepted n) = from_reply (decoded table) (suc (length (lines run))) 0 1 (lines run) no_values
@@ -190,7 +190,7 @@ module _ (possible : Type 0) where
 
     pub outcome_reply : (table step : List ℕ) (rs : List Record) (room : ℕ) → Reply refused (outcome_with evaluation table step rs room) (records_outcome table step rs room)
     unfolding outcome_with records_outcome outcome
-    outcome_reply table step rs room = go (verdictOf table)
+    outcome_reply table step rs room = go (verdict_of table)
       where
         go : (v : Verdict) → Reply refused (outcome_by v (press_on_by evaluation (decoded table) step (values_in rs) (types_in rs) room)) (outcome_by v (press_on (decoded table) step (values_in rs) (types_in rs) room))
         go (verdict.Accepted n) = on_reply (decoded table) step (values_in rs) (types_in rs) room

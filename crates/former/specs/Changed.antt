@@ -7,7 +7,7 @@ use Rattle.answer.specs.Answer.{outside, undefined, answer}
 use Rattle.answer.specs.Met.{FirstFault}
 use Rattle.rules.specs.declared.Verdict.TheVariants as verdict
 use Rattle.rules.specs.Decoded.{decoded}
-use Rattle.rules.specs.Verdict.{verdict as verdictOf}
+use Rattle.rules.specs.Verdict.{verdict as verdict_of}
 use Rattle.run.specs.Run.{blank}
 use Rattle.machine.specs.Described.{machine_of}
 use Rattle.recording.specs.Faults.{outside_fault, undefined_fault}
@@ -56,8 +56,8 @@ preview_refused first second n row = record { reply = Refused n row; first = fir
 -- the first fault of a log, at the step whose row 90 this is, or of a step that is pressed, which has row 0: a term outside 64 bits
 abbrev pub LogOutside : List ℕ → List ℕ → ℕ → Type 0
 LogOutside table run row =
-    (count : ℕ) × (verdictOf table ≡ verdict.Accepted count) × Refusal (decoded table) true (blank (machine_of (decoded table))) (blank (machine_of (decoded table))) 1 run outside_fault row
+    (count : ℕ) × (verdict_of table ≡ verdict.Accepted count) × Refusal (decoded table) true (blank (machine_of (decoded table))) (blank (machine_of (decoded table))) 1 run outside_fault row
 
 abbrev pub PressOutside : List ℕ → List ℕ → List Record → ℕ → ℕ → Type 0
 PressOutside table step state room row =
-    (count : ℕ) × (verdictOf table ≡ verdict.Accepted count) × (row ≡ 0) × PressRefusal (decoded table) step (values_in state) (types_in state) room outside_fault
+    (count : ℕ) × (verdict_of table ≡ verdict.Accepted count) × (row ≡ 0) × PressRefusal (decoded table) step (values_in state) (types_in state) room outside_fault

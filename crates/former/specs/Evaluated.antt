@@ -14,7 +14,7 @@ use Rattle.table.specs.Rows.{Rows, count}
 use Rattle.machine.specs.Machine.{Action, unassigned, becomes_equal, becomes_such_that, Machine}
 use Rattle.machine.specs.Described.{machine_of}
 use Rattle.rules.specs.Decoded.{decoded}
-use Rattle.rules.specs.Verdict.{verdict as verdictOf}
+use Rattle.rules.specs.Verdict.{verdict as verdict_of}
 use Rattle.recording.specs.Rows.{is_initial, logged, is_step_row}
 use Rattle.recording.specs.Lines.{lines}
 use Rattle.recording.specs.Faults.{no_fault, log_fault, differs, fault_of, first_fault}
@@ -109,10 +109,10 @@ module _ (evaluation : Evaluation) where
 
   -- ---- over bytes and records
   unfoldable pub replay_with : List ℕ → List ℕ → Replay
-  replay_with table run = replay_by (verdictOf table) (replay_log_by (decoded table) run)
+  replay_with table run = replay_by (verdict_of table) (replay_log_by (decoded table) run)
 
   unfoldable pub outcome_with : List ℕ → List ℕ → List Record → ℕ → Outcome
-  outcome_with table step rs room = outcome_by (verdictOf table) (press_on_by (decoded table) step (values_in rs) (types_in rs) room)
+  outcome_with table step rs room = outcome_by (verdict_of table) (press_on_by (decoded table) step (values_in rs) (types_in rs) room)
 
   unfoldable pub press_with : List ℕ → List ℕ → List Record → Pressed
   press_with table step state = pressed_of state (outcome_with table step state (length state))

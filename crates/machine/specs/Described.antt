@@ -3,7 +3,7 @@ use Rattle.std.specs.Prelude.{Bool, ◌&&◌, List, map, ℕ, zero, suc, ltb, eq
 use Rattle.lists.specs.Choice.{pick}
 use Rattle.lists.specs.Below.{first, numbers, keep}
 use Rattle.table.specs.Names.{abstract_invariant_tag, abstract_machine, abstract_parameter_kind, abstract_variable_kind, axiom_tag, becomes_equal_tag}
-use Rattle.table.specs.Names.{boolean_type, concrete_invariant_tag, concrete_variable_kind, constant_kind as kindOfConstants, event_tag, guard_tag}
+use Rattle.table.specs.Names.{boolean_type, concrete_invariant_tag, concrete_variable_kind, constant_kind as kind_of_constants, event_tag, guard_tag}
 use Rattle.table.specs.Names.{identifier_tag, convergent_class, initialisation_class, is_variable_of, ordinary_class, shared_variable_kind, variant_tag, witness_tag}
 use Rattle.table.specs.Rows.{Rows, tagged, section, count, kind_of, type_of, operator_of, left_of, right_of, machine_number, class_of, refined_by, is_action}
 use Rattle.formula.specs.Values.{ValueType, integer, boolean}
@@ -20,7 +20,7 @@ type_numbered n = pick (eqb n boolean_type) boolean integer
 -- 01: "kind: 1 constant, 2 abstract variable, 3 concrete variable, 4 abstract parameter, 5 concrete parameter"; 02, request 2: 6, a variable of both machines
 unfoldable pub kind_numbered : ℕ → Kind
 kind_numbered n =
-    pick (eqb n kindOfConstants) constant_kind
+    pick (eqb n kind_of_constants) constant_kind
     (pick (eqb n abstract_variable_kind) abstractVariable
     (pick (eqb n concrete_variable_kind) concreteVariable
     (pick (eqb n shared_variable_kind) sharedVariable

@@ -9,7 +9,7 @@ use Rattle.formula.specs.Evaluate.{Env, evaluate, read_tree}
 use Rattle.machine.specs.Machine.{Machine}
 use Rattle.rules.specs.declared.Verdict.{Verdict}
 use Rattle.rules.specs.declared.Verdict.TheVariants as verdict
-use Rattle.rules.specs.Verdict.{verdict as verdictOf}
+use Rattle.rules.specs.Verdict.{verdict as verdict_of}
 use Rattle.rules.specs.Offence.{machine}
 use Rattle.run.specs.Run.{State, blank, world, Taken}
 use Rattle.run.specs.SafeRun.{within_bound, convergent_steps}
@@ -300,7 +300,7 @@ cases =
     -- P1: the program prints for L
     gives (output bytes_l) (rows_bytes printed_l)
     -- P2: count 2; k 2 accepted, 0 and 3 give 13
-    ∷ gives (of_verdict (verdictOf bytes_l)) (accepted 2)
+    ∷ gives (of_verdict (verdict_of bytes_l)) (accepted 2)
     ∷ gives (of_reply (write_sequent bytes_l 2 (room 200)).reply) (accepted 5)
     ∷ gives (of_outcome (write_sequent bytes_l 0 (room 200))) (refused 13 0 ++ room 200)
     ∷ gives (of_outcome (write_sequent bytes_l 3 (room 200))) (refused 13 0 ++ room 200)
@@ -309,13 +309,13 @@ cases =
     ∷ gives (of_outcome (write_sequent bytes_l 2 (room 189))) (refused 15 0 ++ room 189)
     ∷ gives (of_outcome (write_sequent bytes_l 2 (room 193))) (accepted 5 ++ (rows_bytes sequent2 ++ room 3))
     -- P4: L without its last row: 9, row 7
-    ∷ gives (of_verdict (verdictOf (rows_bytes short_l))) (refused 9 7)
+    ∷ gives (of_verdict (verdict_of (rows_bytes short_l))) (refused 9 7)
     -- P5: L with node 6 = ⊤ and row 60 2 1 6 added: 11, row 14
-    ∷ gives (of_verdict (verdictOf (rows_bytes twice_l))) (refused 11 14)
+    ∷ gives (of_verdict (verdict_of (rows_bytes twice_l))) (refused 11 14)
     -- P6: empty input: 12
-    ∷ gives (of_verdict (verdictOf [])) (refused 12 0)
+    ∷ gives (of_verdict (verdict_of [])) (refused 12 0)
     -- P7: 37 bytes: 1
-    ∷ gives (of_verdict (verdictOf (room 37))) (refused 1 0)
+    ∷ gives (of_verdict (verdict_of (room 37))) (refused 1 0)
     -- P8: −7 ÷ 2 = −3; 02, request 7: "−7 mod 2 becomes undefined"
     ∷ gives (of_reading (read_tree at (divided quotient))) (whole (negsuc 2))
     ∷ gives (of_reading (read_tree at (divided remainder))) undefined
@@ -323,7 +323,7 @@ cases =
     ∷ gives (of_reading (read_tree at (connective and nonzero quotient_one))) (bit false)
     ∷ gives (of_reading (read_tree at (connective and quotient_one nonzero))) undefined
     -- P10: variant 0, one convergent step to −1: allowed, two are not
-    ∷ gives (of_verdict (verdictOf bytes_p10)) (accepted 2)
+    ∷ gives (of_verdict (verdict_of bytes_p10)) (accepted 2)
     ∷ gives (of_reading (read_tree (read_in (pos 0)) (falling.tree 8))) (whole (pos 0))
     ∷ gives (of_reading (read_tree (read_in (negsuc 0)) (falling.tree 8))) (whole (negsuc 0))
     ∷ gives (bit (within_bound (convergent_steps falling (step_to (negsuc 0) ∷ [])) (pos 0))) (bit true)
@@ -409,7 +409,7 @@ cases =
     ∷ gives (of_reading (some (evaluate at (divided remainder)))) (whole (pos 0))
     ∷ gives (of_reading (some (evaluate at (by_minus_two remainder)))) (whole (pos 0))
     -- FIS of the initialisation, and WD of event 3's action, whose goal mentions dividend and divisor
-    ∷ gives (of_verdict (verdictOf bytes_r)) (accepted 2)
+    ∷ gives (of_verdict (verdict_of bytes_r)) (accepted 2)
     ∷ gives (of_outcome (write_sequent bytes_r 2 (room 114))) (accepted 3 ++ rows_bytes (row 80 1 3 12 ∷ row 84 2 1 2 ∷ row 82 3 12 0 ∷ []))
     ∷ gives (of_outcome (spell_entry bytes_r 2 1 (room 1026))) (accepted 27 ++ rows_bytes defined_r)
     -- 27 mod 8 = 3, replayed and pressed

@@ -10,7 +10,7 @@ ghost use Rattle.table.specs.Counts.{counts_of};
 ghost use Rattle.nodes.specs.Notes.{Noted};
 ghost use Rattle.rules.specs.declared.Verdict.TheVariants.{Accepted, Refused};
 ghost use Rattle.rules.specs.Decoded.{words_of};
-ghost use Rattle.rules.specs.Verdict.{judge as judgeOf, verdict as verdictOf};
+ghost use Rattle.rules.specs.Verdict.{judge as judge_of, verdict as verdict_of};
 ghost use Rattle.reply.specs.Replies.{output};
 ghost use Rattle.services.specs.Found.{ListedSlot};
 ghost use Rattle.obligations.specs.Output.{StandsAt, slot_bytes};
@@ -34,7 +34,7 @@ use walk::{Slot, seek};
 
 // "or one row 89 (refusal, row, 0)"
 fn print_refusal(stdout: Stdout, bytes: &[u8], number: u64, row: u64) -> io::Result<Printer>
-    requires { verdictOf bytes.now ≡ Refused number row }
+    requires { verdict_of bytes.now ≡ Refused number row }
     ensures { IfOk result (λ printer. printer.at ≡ length (output bytes.now)) }
 {
     let mut out = [0u8; Row::LENGTH];
@@ -124,7 +124,7 @@ fn print_sequents(
     out: &mut [u8],
 ) -> io::Result<Printer>
     requires table_value { (table ≡ counts_of (rows_of words.now)) × Noted (rows_of words.now) spans.now }
-    requires words_value { (words.now ≡ words_of bytes.now) × (verdictOf bytes.now ≡ Accepted count) × (room (rows_of words.now).size ≤ length out.old) }
+    requires words_value { (words.now ≡ words_of bytes.now) × (verdict_of bytes.now ≡ Accepted count) × (room (rows_of words.now).size ≤ length out.old) }
     ensures { IfOk result (λ printer. printer.at ≡ length (output bytes.now)) }
 {
     let mut batch = Batch::start(stdout);
@@ -148,7 +148,7 @@ fn print_judged(
     out: &mut [u8],
 ) -> io::Result<Printer>
     requires table_value { (table ≡ counts_of (rows_of words.now)) × Noted (rows_of words.now) spans.now × (length words.now ≤ most_words) }
-    requires words_value { (words.now ≡ words_of bytes.now) × (verdictOf bytes.now ≡ judgeOf (rows_of words.now)) × (room most_rows ≤ length out.old) }
+    requires words_value { (words.now ≡ words_of bytes.now) × (verdict_of bytes.now ≡ judge_of (rows_of words.now)) × (room most_rows ≤ length out.old) }
     ensures { IfOk result (λ printer. printer.at ≡ length (output bytes.now)) }
 {
     match judge_with(words, table, spans) {
@@ -159,7 +159,7 @@ fn print_judged(
 
 // The same, of the rows alone: they are counted, and what is asked of them again and again is noted, once.
 fn print_rows(stdout: Stdout, bytes: &[u8], words: &[u64], out: &mut [u8]) -> io::Result<Printer>
-    requires words_value { (words.now ≡ words_of bytes.now) × (verdictOf bytes.now ≡ judgeOf (rows_of words.now)) }
+    requires words_value { (words.now ≡ words_of bytes.now) × (verdict_of bytes.now ≡ judge_of (rows_of words.now)) }
     requires words_len_bound { (length words.now ≤ most_words) × (room most_rows ≤ length out.old) }
     ensures { IfOk result (λ printer. printer.at ≡ length (output bytes.now)) }
 {

@@ -11,7 +11,7 @@ use Rattle.lists.specs.Choice.{pick}
 use Rattle.table.specs.Rows.{Rows, count}
 use Rattle.rules.specs.declared.Verdict.TheVariants as verdict
 use Rattle.rules.specs.Decoded.{decoded}
-use Rattle.rules.specs.Verdict.{judge, verdict as verdictOf}
+use Rattle.rules.specs.Verdict.{judge, verdict as verdict_of}
 use Rattle.rules.proofs.Cases.{judge_passes}
 use Rattle.rules.proofs.Obeys.{passes_obeys}
 use Rattle.rules.proofs.Full.{few_identifiers}
@@ -77,6 +77,6 @@ pub accepted_few : (t : Rows) (n : ℕ) → judge t ≡ verdict.Accepted n → c
 accepted_few t n h = few_identifiers t (passes_obeys t (judge_passes t n h)).full
 
 -- the outcome of a table's bytes
-pub outcome_is : (table step : List ℕ) (zs : List ℤ) (types : List ℕ) (room : ℕ) → outcome table step zs types room ≡ outcome_by (verdictOf table) (press_on (decoded table) step zs types room)
+pub outcome_is : (table step : List ℕ) (zs : List ℤ) (types : List ℕ) (room : ℕ) → outcome table step zs types room ≡ outcome_by (verdict_of table) (press_on (decoded table) step zs types room)
 unfolding outcome
 outcome_is table step zs types room = refl

@@ -25,7 +25,7 @@ use Rattle.values.specs.declared.Reached.{Reached}
 use Rattle.values.specs.declared.Reached.TheVariants.{Next, Bad}
 use Rattle.values.specs.Values.{wanted, lines_at, row_at, read_on, ReadsValues}
 use Rattle.values.proofs.Reading.{end_lines, malformed_lines, row_lines, next_place, wanted_asked}
-use Rattle.bench.specs.Choice.{Choice, none, asked, choice, choice_of as choiceFound}
+use Rattle.bench.specs.Choice.{Choice, none, asked, choice, choice_of as choice_found}
 use Rattle.press.specs.declared.Chosen.{Chosen}
 use Rattle.press.specs.declared.Chosen.TheVariants.{Event, Nothing}
 use Rattle.press.specs.Numbers.{choice_of}
@@ -43,14 +43,14 @@ module _ (t : Rows) (e : ℕ) (step : List ℕ) (at : ℕ) (vs us : Values) (fir
       ∙ ap₂ (λ xs bytes. read_values t e xs (row_at at) (lines_at bytes at) vs) (wanted_asked t e) (append-nil step)
       ∙ ap (λ i. read_values t e (asked t e) i (lines_at step at) vs) (ap row_at first)
 
-  pub values_bad : (row : ℕ) → r ≡ Bad row → choice_of Nothing us ≡ choiceFound e rows_read
+  pub values_bad : (row : ℕ) → r ≡ Bad row → choice_of Nothing us ≡ choice_found e rows_read
   unfolding read_on
-  values_bad row q = ap (choiceFound e) (ap (λ r. read_on t r e [] step us) (sym q) ∙ read_is)
+  values_bad row q = ap (choice_found e) (ap (λ r. read_on t r e [] step us) (sym q) ∙ read_is)
 
   -- they are the step's last where nothing is left
-  pub values_end : (p : Place) → r ≡ Next p → {c : Chosen} → c ≡ pick (ltb p.at (length step)) Nothing (Event e) → choice_of c us ≡ choiceFound e rows_read
+  pub values_end : (p : Place) → r ≡ Next p → {c : Chosen} → c ≡ pick (ltb p.at (length step)) Nothing (Event e) → choice_of c us ≡ choice_found e rows_read
   unfolding read_on read_values
-  values_end p q is = ap (λ c. choice_of c us) is ∙ go (ltb p.at (length step)) refl ∙ ap (choiceFound e) (ap (λ r. read_on t r e [] step us) (sym q) ∙ read_is)
+  values_end p q is = ap (λ c. choice_of c us) is ∙ go (ltb p.at (length step)) refl ∙ ap (choice_found e) (ap (λ r. read_on t r e [] step us) (sym q) ∙ read_is)
     where
       left : length (lines_at step p.at) ≡ 0 → length step ≤ p.at
       left z = let d = length-drop p.at step in let n = ap length (lines_nothing (drop p.at step) (none_left (lines_at step p.at) z)) in omega (arith, d, n)
@@ -59,16 +59,16 @@ module _ (t : Rows) (e : ℕ) (step : List ℕ) (at : ℕ) (vs us : Values) (fir
           none_left [] z = refl
           none_left (l ∷ ls) z = absurd (omega (arith, z))
 
-      by_lines : (ls : List Line) → (length ls ≡ 0 → length step ≤ p.at) → ltb p.at (length step) ≡ true → none ≡ choiceFound e (found us ls)
+      by_lines : (ls : List Line) → (length ls ≡ 0 → length step ≤ p.at) → ltb p.at (length step) ≡ true → none ≡ choice_found e (found us ls)
       by_lines [] f h = absurd (let l = ltb-true p.at (length step) h in let k = f refl in omega (arith, l, k))
       by_lines (l ∷ ls) f h = refl
 
-      go : (b : Bool) → ltb p.at (length step) ≡ b → choice_of (pick b Nothing (Event e)) us ≡ choiceFound e (found us (lines_at step p.at))
+      go : (b : Bool) → ltb p.at (length step) ≡ b → choice_of (pick b Nothing (Event e)) us ≡ choice_found e (found us (lines_at step p.at))
       go true h = by_lines (lines_at step p.at) left h
       go false h =
           let l = ltb-false p.at (length step) h in
           let d = length-drop p.at step in
-          sym (ap (λ ls. choiceFound e (found us ls)) (lines_none (drop p.at step) (omega (arith, l, d))))
+          sym (ap (λ ls. choice_found e (found us ls)) (lines_none (drop p.at step) (omega (arith, l, d))))
 
 -- ---- the row 90
 module _ (t : Rows) (step : List ℕ) (vs : Values) {f : Read} (seen : f ≡ read_at greatest width step 0) where
@@ -88,13 +88,13 @@ module _ (t : Rows) (step : List ℕ) (vs : Values) {f : Read} (seen : f ≡ rea
     row_place = next_place step 0 seen r p q
 
     abbrev rest : Choice
-    rest = choiceFound r.a (read_values t r.a (asked t r.a) 2 (lines_at step p.at) vs)
+    rest = choice_found r.a (read_values t r.a (asked t r.a) 2 (lines_at step p.at) vs)
 
     by_row : choice t (lines step) vs ≡ pick (is_step_row t false r) rest none
     unfolding choice
     by_row =
         ap (λ ls. choice t ls vs) (lines_are (row_lines step [] 0 (inr refl) seen r p q))
-        ∙ ap (λ bytes. pick (is_step_row t false r) (choiceFound r.a (read_values t r.a (asked t r.a) 2 (lines_at bytes p.at) vs)) none) (append-nil step)
+        ∙ ap (λ bytes. pick (is_step_row t false r) (choice_found r.a (read_values t r.a (asked t r.a) 2 (lines_at bytes p.at) vs)) none) (append-nil step)
 
     pub row_chosen : {good : Bool} {c : Choice} → good ≡ is_step_row t false r → good ≡ true → c ≡ rest → c ≡ choice t (lines step) vs
     row_chosen g h e = e ∙ sym (by_row ∙ ap (λ b. pick b rest none) (sym g ∙ h))

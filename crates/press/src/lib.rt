@@ -10,11 +10,11 @@ ghost use Rattle.table.specs.Counts.{counts_of};
 ghost use Rattle.table.specs.Lookups.{most_words};
 ghost use Rattle.scan.specs.Spans.{Spanned};
 ghost use Rattle.nodes.specs.Notes.{Noted};
-ghost use Rattle.rules.specs.Verdict.{judge as judgeOf};
+ghost use Rattle.rules.specs.Verdict.{judge as judge_of};
 ghost use Rattle.recording.specs.Lines.{lines};
 ghost use Rattle.recording.specs.Replay.{read_values};
 ghost use Rattle.values.specs.Values.{values_of, lines_at};
-ghost use Rattle.bench.specs.Choice.{asked, chosen, choice, choice_of as choiceFound};
+ghost use Rattle.bench.specs.Choice.{asked, chosen, choice, choice_of as choice_found};
 ghost use Rattle.bench.specs.Press.{reply_of, kept_or, press_choice, press_on, at_hand, outcome_by, outcome};
 ghost use Rattle.press.specs.declared.Chosen.TheVariants.{Event, Nothing};
 ghost use Rattle.press.specs.Numbers.{choice_of, room_for, is_performed};
@@ -62,7 +62,7 @@ fn choose_values(
     after: &mut [i64],
 ) -> Chosen
     requires { (table ≡ counts_of (rows_of words.now)) × Spanned (rows_of words.now) spans.now × (place.at ≡ row_length width) × (place.at ≤ length step.now) }
-    ensures { choice_of result (values_of present.new after.new) ≡ choiceFound e (read_values (rows_of words.now) e (asked (rows_of words.now) e) 2 (lines_at step.now place.at) (values_of present.old after.old)) }
+    ensures { choice_of result (values_of present.new after.new) ≡ choice_found e (read_values (rows_of words.now) e (asked (rows_of words.now) e) 2 (lines_at step.now place.at) (values_of present.old after.old)) }
 {
     match read_values(words, table, spans, true, step, e, place, present, after) {
         Reached::Bad(row) => Chosen::Nothing,
@@ -186,8 +186,8 @@ fn press_judged(
     room: usize,
 ) -> Press
     requires { (table ≡ counts_of (rows_of words.now)) × Noted (rows_of words.now) spans.now × (length words.now ≤ most_words) }
-    ensures value { result ≡ reply_of (outcome_by (judgeOf (rows_of words.now)) (press_on (rows_of words.now) step.now values.old sorts.now room)) }
-    ensures values_after { values.new ≡ kept_or (λ zs. zs) values.old (outcome_by (judgeOf (rows_of words.now)) (press_on (rows_of words.now) step.now values.old sorts.now room)) }
+    ensures value { result ≡ reply_of (outcome_by (judge_of (rows_of words.now)) (press_on (rows_of words.now) step.now values.old sorts.now room)) }
+    ensures values_after { values.new ≡ kept_or (λ zs. zs) values.old (outcome_by (judge_of (rows_of words.now)) (press_on (rows_of words.now) step.now values.old sorts.now room)) }
 {
     match judge_with(words, table, spans) {
         Verdict::Refused(number, row) => Press::Refused(number, row),
@@ -198,8 +198,8 @@ fn press_judged(
 // The same of the rows alone.
 fn press_rows(words: &[u64], step: &[u8], values: &mut [i64], sorts: &[u64], room: usize) -> Press
     requires { length words.now ≤ most_words }
-    ensures value { result ≡ reply_of (outcome_by (judgeOf (rows_of words.now)) (press_on (rows_of words.now) step.now values.old sorts.now room)) }
-    ensures values_after { values.new ≡ kept_or (λ zs. zs) values.old (outcome_by (judgeOf (rows_of words.now)) (press_on (rows_of words.now) step.now values.old sorts.now room)) }
+    ensures value { result ≡ reply_of (outcome_by (judge_of (rows_of words.now)) (press_on (rows_of words.now) step.now values.old sorts.now room)) }
+    ensures values_after { values.new ≡ kept_or (λ zs. zs) values.old (outcome_by (judge_of (rows_of words.now)) (press_on (rows_of words.now) step.now values.old sorts.now room)) }
 {
     let mut spans = [0usize; Span::WORDS];
     let table = Table::of(words);

@@ -12,7 +12,7 @@ use Rattle.sequent.specs.Listed.{sequents}
 use Rattle.rules.specs.declared.Verdict.{Verdict}
 use Rattle.rules.specs.declared.Verdict.TheVariants as verdict
 use Rattle.rules.specs.Decoded.{decoded}
-use Rattle.rules.specs.Verdict.{verdict as verdictOf}
+use Rattle.rules.specs.Verdict.{verdict as verdict_of}
 use Rattle.rules.specs.Offence.{machine}
 use Rattle.rules.proofs.Obeys.{Obeys}
 use Rattle.rules.proofs.Accepted.{accepted_none, none_obeys}
@@ -27,41 +27,41 @@ use Rattle.recording.proofs.Runs.{steps_never, RunOf, replay_recorded, recorded_
 use Rattle.recording.proofs.Refusals.{refused_number, refused_row, RefusalOf, refusal_exact}
 use Rattle.recording.proofs.Marks.{LogNumber, refused_numbers, refused_rows, refused_no_row}
 
-accepted_obeys : (table : List ℕ) (count : ℕ) → verdictOf table ≡ verdict.Accepted count → Obeys (decoded table)
+accepted_obeys : (table : List ℕ) (count : ℕ) → verdict_of table ≡ verdict.Accepted count → Obeys (decoded table)
 accepted_obeys table count a = none_obeys table (accepted_none table count a).0
 
 -- the table is accepted, and the log is a run of it, of n steps after the initialisation, no term of which leaves 64 bits
 abbrev pub Replays : List ℕ → List ℕ → ℕ → Type 0
-Replays table run n = (count : ℕ) × (verdictOf table ≡ verdict.Accepted count) × RunOf (decoded table) run n
+Replays table run n = (count : ℕ) × (verdict_of table ≡ verdict.Accepted count) × RunOf (decoded table) run n
 
 pub replay_exact : (table run : List ℕ) (n : ℕ) → (replay table run ≡ Steps n) ↔ Replays table run n
 unfolding replay
-replay_exact table run n = (by (verdictOf table) refl, λ (count, a, r). ap (λ v. replay_by v (replay_log (decoded table) run)) a ∙ recorded_replay (decoded table) (accepted_obeys table count a) run n r)
+replay_exact table run n = (by (verdict_of table) refl, λ (count, a, r). ap (λ v. replay_by v (replay_log (decoded table) run)) a ∙ recorded_replay (decoded table) (accepted_obeys table count a) run n r)
   where
-    by : (v : Verdict) → verdictOf table ≡ v → replay_by v (replay_log (decoded table) run) ≡ Steps n → Replays table run n
+    by : (v : Verdict) → verdict_of table ≡ v → replay_by v (replay_log (decoded table) run) ≡ Steps n → Replays table run n
     by (verdict.Accepted count) a h = (count, a, replay_recorded (decoded table) (accepted_obeys table count a) run n h)
     by (verdict.Refused number row) a h = absurd (steps_never h)
 
 -- "After the table's checks": the table's own refusal, or that of the log
 abbrev pub Refuses : List ℕ → List ℕ → ℕ → ℕ → Type 0
 Refuses table run number row =
-    (verdictOf table ≡ verdict.Refused number row) ⊎ ((count : ℕ) × (verdictOf table ≡ verdict.Accepted count) × RefusalOf (decoded table) run number row)
+    (verdict_of table ≡ verdict.Refused number row) ⊎ ((count : ℕ) × (verdict_of table ≡ verdict.Accepted count) × RefusalOf (decoded table) run number row)
 
 pub replay_refused : (table run : List ℕ) (number row : ℕ) → (replay table run ≡ Refused number row) ↔ Refuses table run number row
 unfolding replay
-replay_refused table run number row = (by (verdictOf table) refl, back)
+replay_refused table run number row = (by (verdict_of table) refl, back)
   where
-    by : (v : Verdict) → verdictOf table ≡ v → replay_by v (replay_log (decoded table) run) ≡ Refused number row → Refuses table run number row
+    by : (v : Verdict) → verdict_of table ≡ v → replay_by v (replay_log (decoded table) run) ≡ Refused number row → Refuses table run number row
     by (verdict.Accepted count) a h = inr (count, a, (refusal_exact (decoded table) (accepted_obeys table count a) run number row).0 h)
     by (verdict.Refused n i) a h = inl (a ∙ ap₂ verdict.Refused (refused_number h) (refused_row h))
 
-    back : Refuses table run number row → replay_by (verdictOf table) (replay_log (decoded table) run) ≡ Refused number row
+    back : Refuses table run number row → replay_by (verdict_of table) (replay_log (decoded table) run) ≡ Refused number row
     back (inl a) = ap (λ v. replay_by v (replay_log (decoded table) run)) a
     back (inr (count, a, r)) =
         ap (λ v. replay_by v (replay_log (decoded table) run)) a ∙ (refusal_exact (decoded table) (accepted_obeys table count a) run number row).1 r
 
 -- what the refusal of a log by an accepted table marks: number 16, 17 or 18, and a row of the log, or 0 with number 18
-pub replay_marks : (table run : List ℕ) (count number row : ℕ) → verdictOf table ≡ verdict.Accepted count → replay table run ≡ Refused number row
+pub replay_marks : (table run : List ℕ) (count number row : ℕ) → verdict_of table ≡ verdict.Accepted count → replay table run ≡ Refused number row
     → LogNumber number × (row ≤ length (lines run)) × (row ≡ 0 → number ≡ log_fault)
 unfolding replay
 replay_marks table run count number row a h =

@@ -9,7 +9,7 @@ use Rattle.machine.specs.Described.{machine_of}
 use Rattle.rules.specs.declared.Verdict.{Verdict}
 use Rattle.rules.specs.declared.Verdict.TheVariants as verdict
 use Rattle.rules.specs.Decoded.{decoded}
-use Rattle.rules.specs.Verdict.{verdict as verdictOf}
+use Rattle.rules.specs.Verdict.{verdict as verdict_of}
 use Rattle.recording.specs.Rows.{is_given, logged, is_step_row, is_value_row}
 use Rattle.recording.specs.Lines.{lines}
 use Rattle.recording.specs.Faults.{no_fault, log_fault, step_fault}
@@ -83,4 +83,4 @@ replay_by (verdict.Accepted count) r = r
 replay_by (verdict.Refused number row) r = Refused number row
 
 unfoldable pub replay : List ℕ → List ℕ → Replay
-replay table run = replay_by (verdictOf table) (replay_log (decoded table) run)
+replay table run = replay_by (verdict_of table) (replay_log (decoded table) run)

@@ -2,7 +2,7 @@
 #![tactic(auto)]
 
 ghost use Rattle.std.specs.Prelude.{◌≡◌, ◌<◌, length, get_or, set};
-ghost use Rattle.bench.specs.Press.{press as pressOf, preview as previewOf};
+ghost use Rattle.bench.specs.Press.{press as press_of, preview as preview_of};
 ghost use Rattle.records.specs.Numbers.{few_of, no_record, no_numbers, with_record, loaded, record_at, stored, pressed_of, previewed_of};
 
 use bench::{Press, Record};
@@ -156,7 +156,7 @@ fn previewed(table: &[u8], step: &[u8], first: Numbers, n: usize, second: Number
 
 // press: "performs one concrete step and updates the variables' records".
 pub fn press(table: &[u8], step: &[u8], state: &mut [Record]) -> Press
-    ensures { (result ≡ (pressOf table.now step.now state.old).reply) × (state.new ≡ (pressOf table.now step.now state.old).state) }
+    ensures { (result ≡ (press_of table.now step.now state.old).reply) × (state.new ≡ (press_of table.now step.now state.old).state) }
 {
     let all = load_state(state);
     let done = pressed(table, step, all, state.len());
@@ -167,7 +167,7 @@ pub fn press(table: &[u8], step: &[u8], state: &mut [Record]) -> Press
 
 // preview: "writes into a second lent list what pressing would make of the first, which keeps its records".
 pub fn preview(table: &[u8], step: &[u8], first: &[Record], second: &mut [Record]) -> Press
-    ensures { (result ≡ (previewOf table.now step.now first.now second.old).reply) × (second.new ≡ (previewOf table.now step.now first.now second.old).second) }
+    ensures { (result ≡ (preview_of table.now step.now first.now second.old).reply) × (second.new ≡ (preview_of table.now step.now first.now second.old).second) }
 {
     let from = load_state(first);
     let kept = load_state(second);

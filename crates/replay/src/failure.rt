@@ -1,4 +1,5 @@
 // Why there is no reply.
+use std::process::ExitCode;
 use std::{fmt, io};
 
 #[derive(Debug, Drop)]
@@ -16,6 +17,16 @@ pub enum Failure {
     TooLong,
     // the reply can't be written
     Output(io::Error),
+}
+
+impl Failure {
+    // The exit status: 1 where reading or writing failed, else 0.
+    pub fn status(&self) -> ExitCode {
+        match self {
+            Failure::Usage | Failure::TooLong => ExitCode::SUCCESS,
+            _ => ExitCode::FAILURE,
+        }
+    }
 }
 
 impl fmt::Display for Failure {

@@ -206,7 +206,7 @@ fn main(rt: HostRuntime) -> ExitCode {
         Ok(()) => ExitCode::SUCCESS,
         Err(failure) => {
             let _ = eprintln!(rt; "{failure}");
-            ExitCode::FAILURE
+            failure.status()
         }
     }
 }

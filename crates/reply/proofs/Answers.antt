@@ -24,7 +24,7 @@ use Rattle.sequent.specs.Sequent.{Sequent}
 use Rattle.rules.specs.declared.Verdict.{Verdict}
 use Rattle.rules.specs.declared.Verdict.TheVariants as verdict
 use Rattle.rules.specs.Decoded.{row_count}
-use Rattle.rules.specs.Verdict.{verdict as verdictOf}
+use Rattle.rules.specs.Verdict.{verdict as verdict_of}
 use Rattle.rules.specs.Offence.{machine}
 use Rattle.rules.proofs.Refused.{refused_number, refused_inside, refused_row}
 use Rattle.reply.specs.declared.Reply.TheVariants as reply
@@ -55,7 +55,7 @@ not_among k n h = go (among k n) refl
 
 module _ (bytes : List ℕ) where
   -- enough room, or refusal 15
-  rows_answered : (q : Call) (out : List ℕ) (n : ℕ) → verdictOf bytes ≡ verdict.Accepted n → OneOf n (asked q) → EntryThere bytes q
+  rows_answered : (q : Call) (out : List ℕ) (n : ℕ) → verdict_of bytes ≡ verdict.Accepted n → OneOf n (asked q) → EntryThere bytes q
       → Answer bytes q out (write_rows (rows_asked bytes q) out)
   unfolding write_rows
   rows_answered q out n v h e = go (ltb (length out) (length (rows_bytes (rows_asked bytes q)))) refl
@@ -67,8 +67,8 @@ module _ (bytes : List ℕ) where
 
   -- the refusals of the table, then 13
   sequent_answered : (q : Call) (out : List ℕ) (f : Sequent → Outcome)
-      → ((n : ℕ) → verdictOf bytes ≡ verdict.Accepted n → OneOf n (asked q) → Answer bytes q out (f (sequent_asked bytes q)))
-      → (v : Verdict) → verdictOf bytes ≡ v → Answer bytes q out (with_sequent (machine bytes) v (asked q) out f)
+      → ((n : ℕ) → verdict_of bytes ≡ verdict.Accepted n → OneOf n (asked q) → Answer bytes q out (f (sequent_asked bytes q)))
+      → (v : Verdict) → verdict_of bytes ≡ v → Answer bytes q out (with_sequent (machine bytes) v (asked q) out f)
   sequent_answered q out f g (verdict.Refused c r) e = refusal (of_table e)
   sequent_answered q out f g (verdict.Accepted n) e = go (among (asked q) n) refl
     where
@@ -78,8 +78,8 @@ module _ (bytes : List ℕ) where
 
   pub answered : (q : Call) (out : List ℕ) → Answer bytes q out (outcome_of bytes q out)
   unfolding write_sequent spell_entry
-  answered (writing k) out = sequent_answered (writing k) out _ (λ n v h. rows_answered (writing k) out n v h tt) (verdictOf bytes) refl
-  answered (spelling k j) out = sequent_answered q out _ entry (verdictOf bytes) refl
+  answered (writing k) out = sequent_answered (writing k) out _ (λ n v h. rows_answered (writing k) out n v h tt) (verdict_of bytes) refl
+  answered (spelling k j) out = sequent_answered q out _ entry (verdict_of bytes) refl
     where
       q : Call
       q = spelling k j
@@ -87,7 +87,7 @@ module _ (bytes : List ℕ) where
       count : ℕ
       count = length (entries (sequent_asked bytes q))
 
-      entry : (n : ℕ) → verdictOf bytes ≡ verdict.Accepted n → OneOf n k → Answer bytes q out (spell_at (machine bytes) (sequent_asked bytes q) j out)
+      entry : (n : ℕ) → verdict_of bytes ≡ verdict.Accepted n → OneOf n k → Answer bytes q out (spell_at (machine bytes) (sequent_asked bytes q) j out)
       entry n v h = go (among j count) refl
         where
           go : (b : Bool) → among j count ≡ b → Answer bytes q out (pick b (write_rows (rows_asked bytes q) out) (refused 14 0 out))
@@ -112,7 +112,7 @@ module _ (bytes : List ℕ) where
       ap (λ v. spell_by (machine bytes) v k j out) e ∙ chosen (among k n) _ _ (one_among k n h) ∙ chosen (among j _) _ _ (one_among j _ f)
       ∙ chosen (ltb (length out) _) _ _ (lt-ltb (length out) _ l)
 
-  rows_writable : (q : Call) (n : ℕ) → verdictOf bytes ≡ verdict.Accepted n → OneOf n (asked q) → EntryThere bytes q
+  rows_writable : (q : Call) (n : ℕ) → verdict_of bytes ≡ verdict.Accepted n → OneOf n (asked q) → EntryThere bytes q
       → All (Writable greatest width) (rows_asked bytes q)
   rows_writable (writing k) n v h e = sequent_rows_writable bytes n v (sequent_listed bytes n k v h.0 h.1).member
   rows_writable (spelling k j) n v h e =

@@ -24,7 +24,7 @@ use Rattle.sequent.specs.Sequent.{Sequent}
 use Rattle.sequent.specs.Listed.{sequents}
 use Rattle.rules.specs.declared.Verdict.{Verdict}
 use Rattle.rules.specs.declared.Verdict.TheVariants as verdict
-use Rattle.rules.specs.Verdict.{verdict as verdictOf}
+use Rattle.rules.specs.Verdict.{verdict as verdict_of}
 use Rattle.rules.specs.Offence.{machine}
 use Rattle.reply.specs.Row.{row}
 use Rattle.reply.specs.Printed.{sequent_rows, rows_bytes}
@@ -90,33 +90,33 @@ printed_rows m (verdict.Accepted n) = flat_map (sequent_rows m) (sequents m)
 
 module _ (bytes : List ℕ) where
   abbrev pub output_rows : List Row
-  output_rows = printed_rows (machine bytes) (verdictOf bytes)
+  output_rows = printed_rows (machine bytes) (verdict_of bytes)
 
   printed_rows_lem : (v : Verdict) → printed (machine bytes) v ≡ rows_bytes (printed_rows (machine bytes) v)
   unfolding rows_bytes flat_map
   printed_rows_lem (verdict.Refused number at) = sym (append-nil (row_bytes width (row 89 number at 0)))
   printed_rows_lem (verdict.Accepted n) = refl
 
-  printed_writable : (v : Verdict) → verdictOf bytes ≡ v → All (Writable greatest width) (printed_rows (machine bytes) v)
+  printed_writable : (v : Verdict) → verdict_of bytes ≡ v → All (Writable greatest width) (printed_rows (machine bytes) v)
   printed_writable (verdict.Refused number at) e = all_cons (refusal_row_writable bytes number at e) all_nil
   printed_writable (verdict.Accepted n) e = list_rows_writable bytes n e
 
   pub output_rows_lem : output bytes ≡ rows_bytes output_rows
   unfolding output
-  output_rows_lem = printed_rows_lem (verdictOf bytes)
+  output_rows_lem = printed_rows_lem (verdict_of bytes)
 
   -- whatever the table, every row that is printed reads as that row, and nothing else is printed
   pub output_reads : (d : Row) (i : ℕ) → i < length output_rows
       → read_at greatest width (output bytes) (row_length width * i) ≡ read.Next (get_or output_rows i d) (record { at = row_length width * i + row_length width })
   output_reads d i h =
       ap (λ bs. read_at greatest width bs (row_length width * i)) (output_rows_lem ∙ sym (append-nil (rows_bytes output_rows)))
-      ∙ rows_read_lem output_rows [] (printed_writable (verdictOf bytes) refl) d i h
+      ∙ rows_read_lem output_rows [] (printed_writable (verdict_of bytes) refl) d i h
 
   pub output_ends : read_at greatest width (output bytes) (row_length width * length output_rows) ≡ read.End
   output_ends = ap (λ bs. read_at greatest width bs (row_length width * length output_rows)) output_rows_lem ∙ rows_end output_rows
 
   -- two entries of an accepted table's sequents that are spelled with the same bytes have the same formula
-  pub entry_bytes_once : (n : ℕ) → verdictOf bytes ≡ verdict.Accepted n → {s t : Sequent} → In s (sequents (machine bytes)) → In t (sequents (machine bytes))
+  pub entry_bytes_once : (n : ℕ) → verdict_of bytes ≡ verdict.Accepted n → {s t : Sequent} → In s (sequents (machine bytes)) → In t (sequents (machine bytes))
       → {h g : Entry} → In h (entries s) → In g (entries t)
       → rows_bytes (spell (formula (machine bytes) h)) ≡ rows_bytes (spell (formula (machine bytes) g)) → formula (machine bytes) h ≡ formula (machine bytes) g
   entry_bytes_once n v i j {h} {g} k l e =

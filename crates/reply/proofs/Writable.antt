@@ -30,7 +30,7 @@ use Rattle.sequent.specs.Sequent.{Sequent}
 use Rattle.sequent.specs.Listed.{sequents}
 use Rattle.rules.specs.declared.Verdict.TheVariants as verdict
 use Rattle.rules.specs.Decoded.{decoded}
-use Rattle.rules.specs.Verdict.{verdict as verdictOf}
+use Rattle.rules.specs.Verdict.{verdict as verdict_of}
 use Rattle.rules.specs.Offence.{machine}
 use Rattle.rules.proofs.Accepted.{accepted_none, none_obeys}
 use Rattle.rules.proofs.Range.{Ranged, small_ranged, zero_ranged, RangedRows, framed_ranged, accepted_framed}
@@ -247,7 +247,7 @@ module _ (m : Machine) (trees : (n : ℕ) → TreeWritable (m.tree n)) where
   formula_writable (not_increased r) k = two_writable 22 (omega arith) (after_writable (variable m) (m.tree r) (trees r)) (trees r)
   formula_writable (unchanged x) k = action_writable unassigned x k.0
 
-module _ (bytes : List ℕ) (n : ℕ) (v : verdictOf bytes ≡ verdict.Accepted n) where
+module _ (bytes : List ℕ) (n : ℕ) (v : verdict_of bytes ≡ verdict.Accepted n) where
   rows_ranged : RangedRows (decoded bytes)
   rows_ranged = framed_ranged bytes (accepted_framed bytes (accepted_none bytes n v).0)
 
@@ -274,7 +274,7 @@ module _ (bytes : List ℕ) (n : ℕ) (v : verdictOf bytes ≡ verdict.Accepted 
   list_rows_writable = all_flat (sequent_rows (machine bytes)) (all_in (sequents (machine bytes)) (λ s i. sequent_rows_writable i))
 
 -- the row of a refusal
-pub refusal_row_writable : (bytes : List ℕ) (c r : ℕ) → verdictOf bytes ≡ verdict.Refused c r → Writable greatest width (row 89 c r 0)
+pub refusal_row_writable : (bytes : List ℕ) (c r : ℕ) → verdict_of bytes ≡ verdict.Refused c r → Writable greatest width (row 89 c r 0)
 unfolding rest_of
 refusal_row_writable bytes c r v =
     row_writable 89 c r 0 (omega arith) refl (small_ranged c (omega (arith, (refused_number bytes c r v).1))) (small_ranged r (omega (arith, refused_few bytes c r v)))

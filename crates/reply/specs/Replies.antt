@@ -12,7 +12,7 @@ use Rattle.sequent.specs.Sequent.{Sequent, sequent}
 use Rattle.sequent.specs.Listed.{sequents}
 use Rattle.rules.specs.declared.Verdict.{Verdict}
 use Rattle.rules.specs.declared.Verdict.TheVariants as verdict
-use Rattle.rules.specs.Verdict.{verdict as verdictOf}
+use Rattle.rules.specs.Verdict.{verdict as verdict_of}
 use Rattle.rules.specs.Offence.{machine}
 use Rattle.reply.specs.declared.Reply.{Reply}
 use Rattle.reply.specs.declared.Reply.TheVariants as reply
@@ -75,10 +75,10 @@ module _ (m : Machine) where
 
 module _ (bytes : List ℕ) where
   unfoldable pub write_sequent : ℕ → List ℕ → Outcome
-  write_sequent k out = write_by (machine bytes) (verdictOf bytes) k out
+  write_sequent k out = write_by (machine bytes) (verdict_of bytes) k out
 
   unfoldable pub spell_entry : ℕ → ℕ → List ℕ → Outcome
-  spell_entry k j out = spell_by (machine bytes) (verdictOf bytes) k j out
+  spell_entry k j out = spell_by (machine bytes) (verdict_of bytes) k j out
 
   unfoldable pub output : List ℕ
-  output = printed (machine bytes) (verdictOf bytes)
+  output = printed (machine bytes) (verdict_of bytes)

@@ -10,7 +10,7 @@ use Rattle.lists.specs.Choice.{pick}
 use Rattle.lists.specs.All.{All, In}
 use Rattle.lists.proofs.All.{all_head, all_tail, all_at, all_in, all_imp, all_map, in_map}
 use Rattle.lists.proofs.Below.{in_keep}
-use Rattle.lists.proofs.Choice.{chosen as chosen-first, not_chosen}
+use Rattle.lists.proofs.Choice.{chosen as chosen_first, not_chosen}
 use Rattle.lists.proofs.Keep.{all_keep}
 use Rattle.formula.specs.Values.{Value}
 use Rattle.formula.specs.Tree.{Tree}
@@ -141,7 +141,7 @@ module _ (m : Machine) (c a k p k' : State m) where
     pub shared_values : AgreeOnShared m hidden_values k'
     unfolding hidden_values
     shared_values = all_in (shared_variables m) (λ x i.
-        chosen-first (is_shared (m.kind x)) _ _ (test_true _ (in_keep (λ x. is_shared (m.kind x)) m.abstract_variables i).1))
+        chosen_first (is_shared (m.kind x)) _ _ (test_true _ (in_keep (λ x. is_shared (m.kind x)) m.abstract_variables i).1))
 
     hidden_true : (x : ℕ) → In x (targets m e) → True (put m (m.kind x) unmatched x (hidden_values x)) (witness_tree m e x)
     unfolding hidden_values

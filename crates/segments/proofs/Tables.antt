@@ -15,7 +15,7 @@ use Rattle.lists.proofs.Choice.{chosen, not_chosen}
 use Rattle.lists.proofs.Range.{table_rest}
 use Rattle.table.specs.Rows.{Rows}
 use Rattle.sequent.specs.Entry.{defined}
-use Rattle.sequent.specs.Numbers.{numbers as numbersAt, numbers_of, written_form, moves_form}
+use Rattle.sequent.specs.Numbers.{numbers as numbers_at, numbers_of, written_form, moves_form}
 use Rattle.select.specs.declared.Selection.TheVariants.{None}
 use Rattle.select.specs.declared.Item.TheVariants.{A}
 use Rattle.select.specs.Each.{item_at}
@@ -41,16 +41,16 @@ module _ (t : Rows) where
     item : x ≡ item_at t (segment_at t s k).item s.event j
     item = q ∙ ap (λ r. item_at t r.item s.event j) p
 
-    pub entry_moves : r.form ≡ moves_form → numbersAt moves_form s.event x ≡ numbers_of (segment_entry t s k j)
+    pub entry_moves : r.form ≡ moves_form → numbers_at moves_form s.event x ≡ numbers_of (segment_entry t s k j)
     unfolding segment_entry
     entry_moves h =
-        ap (numbersAt moves_form s.event) item
+        ap (numbers_at moves_form s.event) item
         ∙ ap numbers_of (sym (chosen (eqb (segment_at t s k).form moves_form) _ _ (eq-eqb _ moves_form (ap (λ r. r.form) (sym p) ∙ h))))
 
-    pub entry_written : (r.form ≡ moves_form → ⊥) → numbersAt written_form x 0 ≡ numbers_of (segment_entry t s k j)
+    pub entry_written : (r.form ≡ moves_form → ⊥) → numbers_at written_form x 0 ≡ numbers_of (segment_entry t s k j)
     unfolding segment_entry
     entry_written h =
-        ap (λ x. numbersAt written_form x 0) item
+        ap (λ x. numbers_at written_form x 0) item
         ∙ ap numbers_of (sym (not_chosen (eqb (segment_at t s k).form moves_form) _ _ (ne_eqb _ moves_form (λ e. h (ap (λ r. r.form) p ∙ e)))))
 
 module _ (t : Rows) (s : Slot) where

@@ -8,7 +8,7 @@ ghost use Rattle.table.specs.Names.{guard_tag};
 ghost use Rattle.nodes.specs.Notes.{Noted};
 ghost use Rattle.select.specs.declared.Selection.TheVariants.{Tagged, OfEvent};
 ghost use Rattle.sequent.specs.Numbers.{numbers, numbers_of, written_form, moves_form};
-ghost use Rattle.select.specs.declared.Item.TheVariants.{A as columnA, B as columnB, Identifier};
+ghost use Rattle.select.specs.declared.Item.TheVariants.{A as column_a, B as column_b, Identifier};
 ghost use Rattle.groups.specs.Groups.{when, guard_group};
 ghost use Rattle.segments.specs.Segments.{segment_of, sim_goal, variant_goal, goal_of, up_to, of_none, has_abstract, has_concrete, has_moves, has_witnesses, has_abstract_moves, witness_rows};
 ghost use Rattle.segments.specs.Segments.{segment_at, segment_entry};
@@ -144,7 +144,7 @@ impl Segment {
 
 // The axioms or invariants of a tag, where a slot has them, up to the row of a slot of their own group.
 fn formulas(words: &[u64], slot: Slot, has: bool, tag: u64, group: u64) -> Segment
-    ensures { result ≡ segment_of (when has (Tagged tag)) (up_to (rows_of words.now) slot group) written_form columnA }
+    ensures { result ≡ segment_of (when has (Tagged tag)) (up_to (rows_of words.now) slot group) written_form column_a }
 {
     let rows = when(has, Selection::Tagged(tag));
     Segment::new(rows, up_to(words, slot, group), form::WRITTEN, Item::A)
@@ -152,7 +152,7 @@ fn formulas(words: &[u64], slot: Slot, has: bool, tag: u64, group: u64) -> Segme
 
 // The guards of an event, up to the slot's own where it is of a guard.
 fn guards(words: &[u64], slot: Slot) -> Segment
-    ensures { result ≡ segment_of (when (not (of_none slot)) (OfEvent guard_tag slot.event)) (up_to (rows_of words.now) slot guard_group) written_form columnB }
+    ensures { result ≡ segment_of (when (not (of_none slot)) (OfEvent guard_tag slot.event)) (up_to (rows_of words.now) slot guard_group) written_form column_b }
 {
     let event = slot.event;
     let guards = Selection::OfEvent {

@@ -16,7 +16,7 @@ use Rattle.sequent.specs.Sequent.{Sequent, sequent, WD, INV, FIS, SIM, NAT, VAR}
 use Rattle.sequent.specs.Listed.{in_order, action_wd, action_fis, refined}
 use Rattle.sequent.specs.Listed.{all_written, base, guarded, moved, witness_entries, witness_hypotheses, witness_sequents}
 use Rattle.sequent.specs.Listed.{parameter_witnesses, sim_sequents, inv_hypotheses, variant_sequents, event_sequents, formulas, obligations}
-use Rattle.sequent.specs.Listed.{grd as grdOf, inv as invOf}
+use Rattle.sequent.specs.Listed.{grd as grd_of, inv as inv_of}
 use Rattle.sequent.proofs.Parts.{guard_wds, action_wds, action_fiss, of_witnesses, grds, nats, vars}
 use Rattle.sequent.proofs.Parts.{from_invs, from_sims, from_grds, from_witnesses, from_fiss, from_actions, event_sequents_parts}
 use Rattle.sequent.specs.Required.{is_new, MatchedBy, by_initialisation, by_refined}
@@ -203,7 +203,7 @@ module _ (m : Machine) where
 
     grd_obligation : In s (grds m (m.role e) e) → Obligation m s
     grd_obligation i =
-        let (f, j, k) = in_unflat (grdOf m (m.role e) e) (refined (m.role e)) i in
+        let (f, j, k) = in_unflat (grd_of m (m.role e) e) (refined (m.role e)) i in
         let (r, l, p) = in_unmap _ (m.guards f) k in
         obligation_as p (ap (λ hs. hs ++ witness_entries m (parameter_witnesses m e)) (guarded_same e)) (grd at (refined_role (m.role e) j) l)
 
@@ -214,7 +214,7 @@ module _ (m : Machine) where
         (λ k. let (x, c, j, p) = k in obligation_as p (moved_same e) (sim_of_new at c j))
         (sim_role (m.role e) i)
 
-    inv_obligation : In s (invOf m (m.role e) e) → Obligation m s
+    inv_obligation : In s (inv_of m (m.role e) e) → Obligation m s
     inv_obligation i =
         let (r, j, p) = in_unmap _ (own_invariants m (m.role e)) i in
         by_class p j (is_new (m.role e)) refl (inv_hypotheses_lem (m.role e) e)
@@ -238,7 +238,7 @@ module _ (m : Machine) where
     event_obligation i =
         ⊎_elim guard_obligation (λ i. ⊎_elim action_obligation (λ i. ⊎_elim feasible_obligation (λ i. ⊎_elim witness_obligation
         (λ i. ⊎_elim grd_obligation (λ i. ⊎_elim sim_obligation (λ i. ⊎_elim inv_obligation variant_obligation
-        (in_either (invOf m (m.role e) e) i)) (in_either (sim_sequents m (m.role e) e) i)) (in_either (grds m (m.role e) e) i))
+        (in_either (inv_of m (m.role e) e) i)) (in_either (sim_sequents m (m.role e) e) i)) (in_either (grds m (m.role e) e) i))
         (in_either (of_witnesses m (m.role e) e) i)) (in_either (action_fiss m (m.role e) e) i)) (in_either (action_wds m (m.role e) e) i))
         (in_either (guard_wds m (m.role e) e) (subst (In s) (event_sequents_parts m (m.role e) e) i))
 
@@ -283,7 +283,7 @@ module _ (m : Machine) where
     invs_listed i = sims_listed (in_right (sim_sequents m (m.role e) e) i)
 
     variants_listed : In s (variant_sequents m (m.role e) e) → In s (obligations m)
-    variants_listed i = invs_listed (in_right (invOf m (m.role e) e) i)
+    variants_listed i = invs_listed (in_right (inv_of m (m.role e) e) i)
 
   -- the sequents of a role's variant, by what they are for that role
   variants_at : {ro role : Role} (e : ℕ) (f : Role → List Sequent) → variant_sequents m ro e ≡ f ro → {s : Sequent} → role ≡ ro → In s (f role)
@@ -311,7 +311,7 @@ module _ (m : Machine) where
       listed_as (witness_same e w) (witnesses_listed at (in_left _ (in_flat (witness_sequents m (m.role e) e) i (there (here refl)))))
   obligation_listed (grd {e} at c i) =
       listed_as (ap (λ hs. hs ++ witness_entries m (parameter_witnesses m e)) (guarded_same e))
-      (grds_listed at (in_left _ (in_flat (grdOf m (m.role e) e) (refined_at c) (in_map _ i))))
+      (grds_listed at (in_left _ (in_flat (grd_of m (m.role e) e) (refined_at c) (in_map _ i))))
   obligation_listed (sim {e} at c i) =
       listed_as (ap (λ hs. hs ++ witnesses_of m e) (moved_same e))
       (sims_listed at (in_left _ (sim_at c i)))

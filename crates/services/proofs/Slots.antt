@@ -30,7 +30,7 @@ use Rattle.entries.specs.Seek.{entry_at}
 use Rattle.entries.specs.Written.{hypothesis_rows, entry_rows}
 use Rattle.entries.proofs.Seek.{walk_length}
 use Rattle.reply.proofs.Printed.{rows_length}
-use Rattle.spell.specs.Spell.{entry_rows as spelledRows}
+use Rattle.spell.specs.Spell.{entry_rows as spelled_rows}
 use Rattle.walk.specs.declared.Slot.{Slot}
 use Rattle.rules.proofs.Obeys.{passes_obeys}
 use Rattle.sets.specs.Set.{set_of, Identifier}
@@ -83,8 +83,8 @@ module _ (t : Rows) (s : Slot) where
   last_entry (y ∷ ys) x d (suc k) h = last_entry ys x d k (omega arith)
 
   pub spelled_entry_lem : (j : ℕ) (entry : Numbers) → j - 1 ≤ hypothesis_count t s → entry ≡ numbers_of (entry_at t s (j - 1))
-      → spell (formula (machine_of t) (get_or (entries (slot_sequent t s)) (j - 1) (written 0))) ≡ spelledRows t entry
-  unfolding spelledRows
+      → spell (formula (machine_of t) (get_or (entries (slot_sequent t s)) (j - 1) (written 0))) ≡ spelled_rows t entry
+  unfolding spelled_rows
   spelled_entry_lem j entry h e =
       ap (λ x. spell (formula (machine_of t) x))
       (last_entry (hypothesis_walk t s) (goal_at t s) (written 0) (j - 1) (omega (arith, walk_length t s)) ∙ sym (ap entry_of e ∙ entry_of_numbers (entry_at t s (j - 1))))

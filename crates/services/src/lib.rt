@@ -12,7 +12,7 @@ ghost use Rattle.machine.specs.Described.{machine_of};
 ghost use Rattle.sequent.specs.Listed.{sequents};
 ghost use Rattle.entries.specs.Sequent.{slot_sequent, hypothesis_count};
 ghost use Rattle.rules.specs.declared.Verdict.TheVariants.{Accepted};
-ghost use Rattle.rules.specs.Verdict.{Passes, judge as judgeOf, verdict as verdictOf};
+ghost use Rattle.rules.specs.Verdict.{Passes, judge as judge_of, verdict as verdict_of};
 ghost use Rattle.rules.specs.Offence.{machine};
 ghost use Rattle.reply.specs.Printed.{sequent_rows, rows_bytes};
 ghost use Rattle.reply.specs.Replies.{write_rows, spell_at, write_sequent, spell_entry};
@@ -160,7 +160,7 @@ fn serve_accepted(
     out: &mut [u8],
 ) -> Reply
     requires table_value { (table ≡ counts_of (rows_of words.now)) × Noted (rows_of words.now) spans.now }
-    requires words_value { judgeOf (rows_of words.now) ≡ Accepted count }
+    requires words_value { judge_of (rows_of words.now) ≡ Accepted count }
     ensures { outcome result out.new ≡ serve_by (machine_of (rows_of words.now)) (Accepted count) k request out.old }
 {
     if !among(k, count) {
@@ -180,7 +180,7 @@ fn serve_judged(
     out: &mut [u8],
 ) -> Reply
     requires { (table ≡ counts_of (rows_of words.now)) × Noted (rows_of words.now) spans.now × (length words.now ≤ most_words) }
-    ensures { outcome result out.new ≡ serve_by (machine_of (rows_of words.now)) (judgeOf (rows_of words.now)) k request out.old }
+    ensures { outcome result out.new ≡ serve_by (machine_of (rows_of words.now)) (judge_of (rows_of words.now)) k request out.old }
 {
     match judge_with(words, table, spans) {
         Verdict::Refused(number, row) => Reply::Refused(number, row),
@@ -191,7 +191,7 @@ fn serve_judged(
 // The same, of the rows alone: they are counted, and what is asked of them again and again is noted, once.
 fn serve_rows(words: &[u64], k: u64, request: Request, out: &mut [u8]) -> Reply
     requires { length words.now ≤ most_words }
-    ensures { outcome result out.new ≡ serve_by (machine_of (rows_of words.now)) (judgeOf (rows_of words.now)) k request out.old }
+    ensures { outcome result out.new ≡ serve_by (machine_of (rows_of words.now)) (judge_of (rows_of words.now)) k request out.old }
 {
     let mut spans = [0usize; Span::WORDS];
     let table = Table::of(words);
@@ -201,7 +201,7 @@ fn serve_rows(words: &[u64], k: u64, request: Request, out: &mut [u8]) -> Reply
 
 // Does what is asked of sequent k of a table.
 fn serve(bytes: &[u8], k: u64, request: Request, out: &mut [u8]) -> Reply
-    ensures { outcome result out.new ≡ serve_by (machine bytes.now) (verdictOf bytes.now) k request out.old }
+    ensures { outcome result out.new ≡ serve_by (machine bytes.now) (verdict_of bytes.now) k request out.old }
 {
     let mut words = [0u64; Table::WORDS];
     match load(bytes, &mut words) {

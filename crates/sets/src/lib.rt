@@ -4,7 +4,7 @@
 ghost use Rattle.std.specs.Prelude.{ℕ, ◌≡◌, not, List, [], ◌∷◌, eqb};
 ghost use Rattle.std.specs.Int.Bits.{bit_and};
 ghost use Rattle.lists.specs.All.{All};
-ghost use Rattle.lists.specs.Different.{different, lowest as lowestOf, highest as highestOf};
+ghost use Rattle.lists.specs.Different.{different, lowest as lowest_of, highest as highest_of};
 ghost use Rattle.sets.specs.Set.{set_of, Identifier};
 
 // The set of one identifier; empty for a number that can't name one.
@@ -36,7 +36,7 @@ pub fn count(set: u64) -> u64
 
 // The lowest identifier of a set; 0 for the empty set.
 pub fn lowest(set: u64) -> u64
-    ensures { (xs : List ℕ) → All Identifier xs → set ≡ set_of xs → result ≡ lowestOf xs }
+    ensures { (xs : List ℕ) → All Identifier xs → set ≡ set_of xs → result ≡ lowest_of xs }
 {
     if set == 0 {
         return 0;
@@ -46,7 +46,7 @@ pub fn lowest(set: u64) -> u64
 
 // The highest identifier of a set; 0 for the empty set.
 pub fn highest(set: u64) -> u64
-    ensures { (xs : List ℕ) → All Identifier xs → set ≡ set_of xs → result ≡ highestOf xs }
+    ensures { (xs : List ℕ) → All Identifier xs → set ≡ set_of xs → result ≡ highest_of xs }
 {
     64 - u64::leading_zeros(set) as u64
 }

@@ -2,10 +2,10 @@
 #![tactic(auto)]
 
 ghost use Rattle.std.specs.Prelude.{◌≡◌};
-ghost use Rattle.rules.specs.Verdict.{verdict as verdictOf};
+ghost use Rattle.rules.specs.Verdict.{verdict as verdict_of};
 ghost use Rattle.reply.specs.Replies.{write_sequent, spell_entry};
-ghost use Rattle.recording.specs.Replay.{replay as replayOf};
-ghost use Rattle.bench.specs.Press.{press as pressOf, preview as previewOf};
+ghost use Rattle.recording.specs.Replay.{replay as replay_of};
+ghost use Rattle.bench.specs.Press.{press as press_of, preview as preview_of};
 ghost use Rattle.sifthorma.specs.Codes.{verdict_number, verdict_value, reply_number, reply_value, replay_number, replay_value, press_number, press_value};
 
 use bench::{Press, Record};
@@ -56,8 +56,8 @@ fn reply_value(reply: Reply) -> u64
 // check: the count of sequents, or refusal 1 to 12.
 #[unsafe(no_mangle)]
 pub extern "C" fn sifthorma_check(table: &[u8], value: &mut u64) -> u64
-    ensures value { result ≡ verdict_number (verdictOf table.now) }
-    ensures value_after { value.new ≡ verdict_value (verdictOf table.now) }
+    ensures value { result ≡ verdict_number (verdict_of table.now) }
+    ensures value_after { value.new ≡ verdict_value (verdict_of table.now) }
 {
     let v = check(table);
     *value = verdict_value(v);
@@ -120,8 +120,8 @@ fn replay_value(reply: Replay) -> u64
 // replay a recorded run: how many steps follow the initialisation, or a refusal.
 #[unsafe(no_mangle)]
 pub extern "C" fn sifthorma_replay(table: &[u8], run: &[u8], value: &mut u64) -> u64
-    ensures value { result ≡ replay_number (replayOf table.now run.now) }
-    ensures value_after { value.new ≡ replay_value (replayOf table.now run.now) }
+    ensures value { result ≡ replay_number (replay_of table.now run.now) }
+    ensures value_after { value.new ≡ replay_value (replay_of table.now run.now) }
 {
     let reply = replay(table, run);
     *value = replay_value(reply);
@@ -162,7 +162,7 @@ pub extern "C" fn sifthorma_press(
     state: &mut [Record],
     value: &mut u64,
 ) -> u64
-    ensures { (result ≡ press_number (pressOf table.now step.now state.old).reply) × (state.new ≡ (pressOf table.now step.now state.old).state) × (value.new ≡ press_value (pressOf table.now step.now state.old).reply) }
+    ensures { (result ≡ press_number (press_of table.now step.now state.old).reply) × (state.new ≡ (press_of table.now step.now state.old).state) × (value.new ≡ press_value (press_of table.now step.now state.old).reply) }
 {
     let reply = press(table, step, state);
     tell_press(reply, value)
@@ -177,7 +177,7 @@ pub extern "C" fn sifthorma_preview(
     second: &mut [Record],
     value: &mut u64,
 ) -> u64
-    ensures { (result ≡ press_number (previewOf table.now step.now first.now second.old).reply) × (second.new ≡ (previewOf table.now step.now first.now second.old).second) × (value.new ≡ press_value (previewOf table.now step.now first.now second.old).reply) }
+    ensures { (result ≡ press_number (preview_of table.now step.now first.now second.old).reply) × (second.new ≡ (preview_of table.now step.now first.now second.old).second) × (value.new ≡ press_value (preview_of table.now step.now first.now second.old).reply) }
 {
     let reply = preview(table, step, first, second);
     tell_press(reply, value)

@@ -9,9 +9,9 @@ ghost use Rattle.table.specs.Counts.{counts_of};
 ghost use Rattle.table.specs.Lookups.{most_words};
 ghost use Rattle.scan.specs.Spans.{Spanned};
 ghost use Rattle.nodes.specs.Notes.{Noted};
-ghost use Rattle.rules.specs.Verdict.{judge as judgeOf};
+ghost use Rattle.rules.specs.Verdict.{judge as judge_of};
 ghost use Rattle.recording.specs.Lines.{lines};
-ghost use Rattle.recording.specs.Replay.{replay_log, replay_by, replay as replayOf};
+ghost use Rattle.recording.specs.Replay.{replay_log, replay_by, replay as replay_of};
 ghost use Rattle.values.specs.Values.{values_of};
 ghost use Rattle.steps.specs.Steps.{ended_after, step_progress, step_values, TakesStep, ReplaysStep, BeginsWithin};
 ghost use Rattle.steps.specs.Parts.{later_row, replay_rest, ReplaysPart, Stops};
@@ -204,7 +204,7 @@ fn replay_log(words: &[u64], table: Table, spans: &[usize], run: &[u8]) -> Repla
 // The same of a table that may be refused: "After the table's checks".
 fn replay_judged(words: &[u64], table: Table, spans: &[usize], run: &[u8]) -> Replay
     requires { (table ≡ counts_of (rows_of words.now)) × Noted (rows_of words.now) spans.now × (length words.now ≤ most_words) }
-    ensures { result ≡ replay_by (judgeOf (rows_of words.now)) (replay_log (rows_of words.now) run.now) }
+    ensures { result ≡ replay_by (judge_of (rows_of words.now)) (replay_log (rows_of words.now) run.now) }
 {
     match judge_with(words, table, spans) {
         Verdict::Refused(number, row) => Replay::Refused(number, row),
@@ -215,7 +215,7 @@ fn replay_judged(words: &[u64], table: Table, spans: &[usize], run: &[u8]) -> Re
 // The same of the rows alone.
 fn replay_rows(words: &[u64], run: &[u8]) -> Replay
     requires { length words.now ≤ most_words }
-    ensures { result ≡ replay_by (judgeOf (rows_of words.now)) (replay_log (rows_of words.now) run.now) }
+    ensures { result ≡ replay_by (judge_of (rows_of words.now)) (replay_log (rows_of words.now) run.now) }
 {
     let mut spans = [0usize; Span::WORDS];
     let table = Table::of(words);
@@ -225,7 +225,7 @@ fn replay_rows(words: &[u64], run: &[u8]) -> Replay
 
 // Replays a recorded run of a table: how many steps follow the initialisation, or a refusal.
 pub fn replay(table: &[u8], run: &[u8]) -> Replay
-    ensures { result ≡ replayOf table.now run.now }
+    ensures { result ≡ replay_of table.now run.now }
 {
     let mut words = [0u64; Table::WORDS];
     match load(table, &mut words) {

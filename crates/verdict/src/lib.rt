@@ -6,7 +6,7 @@ ghost use Rattle.table.specs.Lookups.{most_words};
 ghost use Rattle.table.specs.Rows.{rows_of};
 ghost use Rattle.table.specs.Counts.{counts_of};
 ghost use Rattle.nodes.specs.Notes.{Noted};
-ghost use Rattle.rules.specs.Verdict.{judge as judgeOf, verdict as verdictOf};
+ghost use Rattle.rules.specs.Verdict.{judge as judge_of, verdict as verdict_of};
 ghost use Rattle.verdict.specs.Loaded.{end_row, loaded_rows, loaded_of, loaded_words};
 
 use decode::{Decoded, decode};
@@ -55,7 +55,7 @@ pub fn load(bytes: &[u8], words: &mut [u64]) -> Loaded
 // Checks 3 to 12, and the count of the sequents where none offends, by the counts of the rows and what is noted of them.
 pub fn judge_with(words: &[u64], table: Table, spans: &[usize]) -> Verdict
     requires { (table ≡ counts_of (rows_of words.now)) × Noted (rows_of words.now) spans.now × (length words.now ≤ most_words) }
-    ensures { result ≡ judgeOf (rows_of words.now) }
+    ensures { result ≡ judge_of (rows_of words.now) }
 {
     let check = first_check(words, table, spans);
     if check < Verdict::MISSING {
@@ -70,7 +70,7 @@ pub fn judge_with(words: &[u64], table: Table, spans: &[usize]) -> Verdict
 // The same, of the rows alone.
 pub fn judge(words: &[u64]) -> Verdict
     requires { length words.now ≤ most_words }
-    ensures { result ≡ judgeOf (rows_of words.now) }
+    ensures { result ≡ judge_of (rows_of words.now) }
 {
     let mut spans = [0usize; Span::WORDS];
     let table = Table::of(words);
@@ -80,7 +80,7 @@ pub fn judge(words: &[u64]) -> Verdict
 
 // "check (accepts a table by giving the count of sequents)"
 pub fn check(bytes: &[u8]) -> Verdict
-    ensures { result ≡ verdictOf bytes.now }
+    ensures { result ≡ verdict_of bytes.now }
 {
     let mut words = [0u64; Table::WORDS];
     match load(bytes, &mut words) {

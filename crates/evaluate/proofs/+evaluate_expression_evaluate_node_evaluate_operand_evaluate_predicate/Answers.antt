@@ -51,13 +51,13 @@ evaluate_node-returns t c =
     let inner = sym c.is_leaf.ensures ∙ c.if-is_leaf.false in
     let given : Found → Found = λ r. found_of (combined (operator_numbered operator) (answer_of left) (answer_of r)) in
     c.combine.ensures ∙ elim c.if-reads_right.branch [
-      evaluate_node-then-reads_right w ↦
-      ap given w.right-is
-      ∙ both_read rows a.n operator c.node_column-b.result c.operator_at-operator.ensures c.node_column-b.ensures ρ inner
-      c.operand-x.result c.operand-x.ensures left c.evaluate_operand-left.ensures
-      w.node_column-c.result w.operand-y.result w.node_column-c.ensures w.operand-y.ensures w.evaluate_operand-right.result w.evaluate_operand-right.ensures
-    | evaluate_node-else-reads_right w ↦
-      ap given w.right-is
-      ∙ left_read rows a.n operator c.node_column-b.result c.operator_at-operator.ensures c.node_column-b.ensures ρ inner
-      c.operand-x.result c.operand-x.ensures left c.evaluate_operand-left.ensures (sym c.reads_right.ensures ∙ w.if-reads_right.false)
+      | evaluate_node-then-reads_right w ↦
+          ap given w.right-is
+          ∙ both_read rows a.n operator c.node_column-b.result c.operator_at-operator.ensures c.node_column-b.ensures ρ inner
+          c.operand-x.result c.operand-x.ensures left c.evaluate_operand-left.ensures
+          w.node_column-c.result w.operand-y.result w.node_column-c.ensures w.operand-y.ensures w.evaluate_operand-right.result w.evaluate_operand-right.ensures
+      | evaluate_node-else-reads_right w ↦
+          ap given w.right-is
+          ∙ left_read rows a.n operator c.node_column-b.result c.operator_at-operator.ensures c.node_column-b.ensures ρ inner
+          c.operand-x.result c.operand-x.ensures left c.evaluate_operand-left.ensures (sym c.reads_right.ensures ∙ w.if-reads_right.false)
     ]

@@ -49,4 +49,4 @@ pub returns : goal.returns
 returns c =
     let pressed = c.press_numbers-reply in
     let a = c.args in
-    done a.table.now a.step.now a.all _ a.n _ _ c.few-end.ensures pressed.ensures.0 pressed.ensures.1
+    done a.table.now a.step.now a.all _ a.n _ _ c.few-end.ensures pressed.ensures.value pressed.ensures.values_after

@@ -74,4 +74,4 @@ pub returns : goal.returns
 returns c =
     let says = c.preview_numbers-reply.ensures in
     let a = c.args in
-    done a.table.now a.step.now a.first a.second _ _ a.n a.m _ _ _ c.few-end.ensures c.few-room.ensures says.0 says.1.0 says.1.1
+    done a.table.now a.step.now a.first a.second _ _ a.n a.m _ _ _ c.few-end.ensures c.few-room.ensures says.value says.second_after says.types_after
