@@ -199,7 +199,7 @@ fn main(rt: HostRuntime) -> ExitCode {
     };
     let mut out = [0u8; ROOM];
     match print_table(rt.stdout(), &input[..got], &mut out) {
-        Ok(printer) => ExitCode::SUCCESS,
+        Ok(_) => ExitCode::SUCCESS,
         Err(error) => failed(&rt, "standard output", error),
     }
 }

@@ -181,7 +181,7 @@ fn replay_table<R: Read>(rt: &impl Print, bytes: &[u8], log: &mut R) -> Result<(
     }
 }
 
-// Opens the file that an argument names; where it can't be opened, it is said why.
+// Opens the file that an argument names.
 fn open<R: Files>(rt: &R, path: String) -> Result<R::File, Failure> {
     File::open(rt, path.as_str()).map_err(|error| Failure::Open(path, error))
 }
