@@ -17,7 +17,7 @@ import subprocess
 import sys
 import tempfile
 
-KIT = os.path.dirname(os.path.dirname(subprocess.run(["rt", "doc"], capture_output=True, text=True).stdout.strip()) + "/x")
+KIT = os.path.dirname(subprocess.run(["rt", "doc"], capture_output=True, text=True).stdout.strip())
 SNAKE = os.path.join(KIT, "port/notes/2026-11-18-names-are-in-snake-case")
 sys.dont_write_bytecode = True
 sys.path.insert(0, SNAKE)
