@@ -1,4 +1,8 @@
 // Why there is no reply.
+ghost use Rattle.std.specs.Prelude.{◌≡◌};
+ghost use Rattle.std.specs.Process.{exit_status};
+ghost use Rattle.replay.specs.Status.{status_of};
+
 use std::process::ExitCode;
 use std::{fmt, io};
 
@@ -21,7 +25,9 @@ pub enum Failure {
 
 impl Failure {
     // The exit status: 1 where reading or writing failed, else 0.
-    pub fn status(&self) -> ExitCode {
+    pub fn status(&self) -> ExitCode
+        ensures { exit_status result ≡ status_of self.now }
+    {
         match self {
             Failure::Usage | Failure::TooLong => ExitCode::SUCCESS,
             _ => ExitCode::FAILURE,
