@@ -1,3 +1,4 @@
+-- The loop's invariant: what was read so far stands at the buffer's start, and the buffer keeps its length.
 use Rattle.std.proofs.Common.{◌≡◌, ◌-◌, ◌≤◌, length, take}
 use Rattle.std.specs.Io.KnownBytes.{Consumes}
 use Rattle.input.proofs.read_full.Given as goal
