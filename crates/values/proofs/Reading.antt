@@ -7,6 +7,7 @@ use Prim.Native.Nat.{ℕ, ◌+◌, ◌-◌, ◌*◌, ◌≤◌, ◌<◌}
 use native.Mathlib.Omega.{arith}
 use borrow.Author.Tests.{eq-eqb, ne_eqb, ltb-true, ltb-false, lt-ltb, le-ltb}
 use lib.Dec.{ltb, eqb}
+use Rattle.std.specs.Prelude.{Ok, Err}
 use lib.ListN.{length, take, drop, length-drop, length-append}
 use lib.Seq.{drop-drop, drop-append-le, take-append-le}
 use Rattle.lists.specs.Choice.{pick}
@@ -30,9 +31,8 @@ use Rattle.recording.specs.Replay.{Values, Found, bad, store_by, read_values}
 use Rattle.recording.specs.Lines.{lines}
 use Rattle.recording.proofs.Lines.{lines_none, lines_torn, lines_whole}
 use Rattle.bench.specs.Choice.{is_such_that, asked}
-use Rattle.values.specs.declared.Reached.{Reached}
-use Rattle.values.specs.declared.Reached.TheVariants.{Next, Bad}
-use Rattle.values.specs.Values.{lines_at, row_at, AtHand, is_told, is_wanted, wanted, read_on, ReadsValue, ReadsIdentifier, ReadsValues, Reaches}
+use Rattle.values.specs.declared.BadRow.{BadRow}
+use Rattle.values.specs.Values.{Reached, lines_at, row_at, AtHand, is_told, is_wanted, wanted, read_on, ReadsValue, ReadsIdentifier, ReadsValues, Reaches}
 use Rattle.values.proofs.Behind.{behind, behind_all, behind_next, behind_none, kept_within}
 
 -- a row that is stored, and one that isn't
@@ -125,11 +125,11 @@ next_row at e = ap row_at e ∙ omega arith
 
 -- ---- reading the row 91 of the identifier x
 module _ (t : Rows) (given : Bool) (x : ℕ) (run : List ℕ) (at : ℕ) (vs : Values) {f : Read} (seen : f ≡ read_at greatest width run at) where
-  pub value_ends : f ≡ read.End → ReadsValue t given x run at vs (Bad 0) vs
+  pub value_ends : f ≡ read.End → ReadsValue t given x run at vs (Err (record { row = 0 })) vs
   unfolding read_on read_values
   value_ends q more hand e g ys = sym (ap (λ ls. read_values t e (x ∷ ys) (row_at at) ls vs) (end_lines run more at hand seen q))
 
-  pub value_malformed : {row : ℕ} → f ≡ read.Malformed → row ≡ row_at at → ReadsValue t given x run at vs (Bad row) vs
+  pub value_malformed : {row : ℕ} → f ≡ read.Malformed → row ≡ row_at at → ReadsValue t given x run at vs (Err (record { row = row })) vs
   unfolding read_on read_values
   value_malformed q k more hand e g ys = ap bad k ∙ sym (ap (λ ls. read_values t e (x ∷ ys) (row_at at) ls vs) (malformed_lines run more at hand seen q).1)
 
@@ -138,7 +138,7 @@ module _ (t : Rows) (given : Bool) (x : ℕ) (run : List ℕ) (at : ℕ) (vs : V
     abbrev next : Values
     next = store_by given x (whole_number r.b) vs
 
-    pub value_stored : good ≡ true → ReadsValue t given x run at vs (Next p) ws
+    pub value_stored : good ≡ true → ReadsValue t given x run at vs (Ok p) ws
     unfolding read_on read_values
     value_stored b more hand e g ys =
         let passes : is_value_row t x r ≡ true = sym is ∙ b in
@@ -147,7 +147,7 @@ module _ (t : Rows) (given : Bool) (x : ℕ) (run : List ℕ) (at : ℕ) (vs : V
         ∙ sym (ap (λ ls. read_values t e (x ∷ ys) (row_at at) ls vs) (row_lines run more at hand seen r p q)
         ∙ ap (λ b. pick b (read_values t e ys (row_at at + 1) rest (store_by (is_given t e x) x (whole_number r.b) vs)) (bad (row_at at))) passes)
 
-    pub value_wrong : {row : ℕ} → good ≡ false → row ≡ row_at at → ReadsValue t given x run at vs (Bad row) ws
+    pub value_wrong : {row : ℕ} → good ≡ false → row ≡ row_at at → ReadsValue t given x run at vs (Err (record { row = row })) ws
     unfolding read_on read_values
     value_wrong b k more hand e g ys =
         let fails : is_value_row t x r ≡ false = sym is ∙ b in
@@ -184,7 +184,7 @@ module _ (t : Rows) (pressing : Bool) (e x : ℕ) (run : List ℕ) {w : Bool} (i
         subst (λ b. Reaches r run (at + row_length width * one_if b)) (sym has) next,
       )
 
-  pub identifier_skipped : (p : Place) (vs : Values) → p.at ≤ length run → w ≡ false → ReadsIdentifier t pressing e x run p.at vs (Next p) vs × Reaches (Next p) run (p.at + row_length width * one_if (is_wanted t pressing e x))
+  pub identifier_skipped : (p : Place) (vs : Values) → p.at ≤ length run → w ≡ false → ReadsIdentifier t pressing e x run p.at vs (Ok p) vs × Reaches (Ok p) run (p.at + row_length width * one_if (is_wanted t pressing e x))
   unfolding read_on
   identifier_skipped p vs within h =
       let has : is_wanted t pressing e x ≡ false = sym is ∙ h in (
@@ -273,7 +273,7 @@ module _ (t : Rows) (pressing : Bool) (e : ℕ) where
           reads more (at_hand_lem more hand) (wanted_from (x + 1))
           ∙ sym (ap (λ xs. read_values t e xs (row_at at) (lines_at (run ++ more) at) vs) (behind_next (is_wanted t pressing e) (count t 10) x h)) ∙ rest.reads more hand
 
-      pub rest_next : (p : Place) → r ≡ Next p → Rest run start us (x + 1) p.at ws
+      pub rest_next : (p : Place) → r ≡ Ok p → Rest run start us (x + 1) p.at ws
       unfolding read_on
       rest_next p q =
           let k = subst (λ r. Reaches r run (at + row_length width * one_if (is_wanted t pressing e (x + 1)))) q next in
@@ -283,12 +283,12 @@ module _ (t : Rows) (pressing : Bool) (e : ℕ) where
             within = k.1;
           }
 
-      pub rest_bad : (row : ℕ) → r ≡ Bad row → ReadsValues t e (wanted t pressing e) run start us (Bad row) ws
+      pub rest_bad : (wrong : BadRow) → r ≡ Err wrong → ReadsValues t e (wanted t pressing e) run start us (Err wrong) ws
       unfolding read_on
-      rest_bad row q more hand = ap (λ r. read_on t r e (wanted_from (x + 1)) (run ++ more) ws) (sym q) ∙ whole more hand
+      rest_bad wrong q more hand = ap (λ r. read_on t r e (wanted_from (x + 1)) (run ++ more) ws) (sym q) ∙ whole more hand
 
     pub rest_end : {start : ℕ} {us : Values} (x : ℕ) (p : Place) (vs : Values) → count t 10 ≤ x → Rest run start us x p.at vs
-        → ReadsValues t e (wanted t pressing e) run start us (Next p) vs × Reaches (Next p) run (start + row_length width * length (wanted t pressing e))
+        → ReadsValues t e (wanted t pressing e) run start us (Ok p) vs × Reaches (Ok p) run (start + row_length width * length (wanted t pressing e))
     unfolding read_on
     rest_end x p vs h rest = (
       λ more hand. ap (λ xs. read_values t e xs (row_at p.at) (lines_at (run ++ more) p.at) vs) (sym (behind_none (is_wanted t pressing e) (count t 10) x h)) ∙ rest.reads more hand,

@@ -1,5 +1,5 @@
 -- How the code reads the rows 91 of a step: from a place in the run, identifier by identifier.
-use Rattle.std.specs.Prelude.{◌≡◌, Bool, not, ◌&&◌, ◌||◌, List, [], ◌∷◌, ◌++◌, ◌⊎◌, ℕ, ◌+◌, ◌*◌, ◌/◌, ◌≤◌, ℤ, length, drop}
+use Rattle.std.specs.Prelude.{◌≡◌, Result, Ok, Err, Bool, not, ◌&&◌, ◌||◌, List, [], ◌∷◌, ◌++◌, ◌⊎◌, ℕ, ◌+◌, ◌*◌, ◌/◌, ◌≤◌, ℤ, length, drop}
 use Rattle.lists.specs.Choice.{pick}
 use Rattle.lists.specs.Below.{one_if, numbers, keep}
 use Rattle.row.specs.Row.{width, row_length}
@@ -11,8 +11,12 @@ use Rattle.recording.specs.Lines.{lines}
 use Rattle.recording.specs.Rows.{is_state_variable, is_given}
 use Rattle.recording.specs.Replay.{Values, Found, bad, read_values}
 use Rattle.bench.specs.Choice.{is_such_that}
-use Rattle.values.specs.declared.Reached.{Reached}
-use Rattle.values.specs.declared.Reached.TheVariants.{Next, Bad}
+use Rattle.row.specs.declared.Place.{Place}
+use Rattle.values.specs.declared.BadRow.{BadRow}
+
+-- where reading goes on, or the row that is bad
+abbrev pub Reached : Type 0
+Reached = Result Place BadRow
 
 abbrev pub values_of : List ℤ → List ℤ → Values
 values_of present after = record { present = present; after = after }
@@ -42,8 +46,8 @@ module _ (t : Rows) where
 
   -- what reading on for the identifiers ys finds
   unfoldable pub read_on : Reached → ℕ → List ℕ → List ℕ → Values → Found
-  read_on (Next place) e ys run vs = read_values t e ys (row_at place.at) (lines_at run place.at) vs
-  read_on (Bad row) e ys run vs = bad row
+  read_on (Ok place) e ys run vs = read_values t e ys (row_at place.at) (lines_at run place.at) vs
+  read_on (Err wrong) e ys run vs = bad wrong.row
 
   -- reading the row 91 of the identifier x at a place, of which is known whether it is given, and reading on; more bytes may follow
   abbrev pub ReadsValue : Bool → ℕ → List ℕ → ℕ → Values → Reached → Values → Type 0
@@ -64,5 +68,5 @@ module _ (t : Rows) where
 
 -- where reading goes on, it is at this byte of the run
 abbrev pub Reaches : Reached → List ℕ → ℕ → Type 0
-Reaches (Next place) run at = (place.at ≡ at) × (place.at ≤ length run)
-Reaches (Bad wrong) run at = Unit {0}
+Reaches (Ok place) run at = (place.at ≡ at) × (place.at ≤ length run)
+Reaches (Err wrong) run at = Unit {0}

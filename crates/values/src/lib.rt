@@ -28,11 +28,10 @@ use table::{
     tag, tag_at,
 };
 
-// Where reading goes on, or the row that is bad: 0 where the run ends.
+// Why the rows of a step can't be read: the row that is bad, 0 where the run ends.
 #[derive(Clone, Copy)]
-pub enum Reached {
-    Next(Place),
-    Bad(u64),
+pub struct BadRow {
+    pub row: u64,
 }
 
 // The number of the row at a place.
@@ -146,19 +145,23 @@ fn read_value(
     place: Place,
     present: &mut [i64],
     after: &mut [i64],
-) -> Reached
+) -> Result<Place, BadRow>
     requires { table ≡ counts_of (rows_of words.now) }
     ensures reads_value { ReadsValue (rows_of words.now) given x run.now place.at (values_of present.old after.old) result (values_of present.new after.new) }
     ensures reaches { Reaches result run.now (place.at + row_length width) }
 {
     match next_row(place, run) {
-        Read::End => Reached::Bad(0),
-        Read::Malformed => Reached::Bad(row_number(place)),
+        Read::End => Err(BadRow { row: 0 }),
+        Read::Malformed => Err(BadRow {
+            row: row_number(place),
+        }),
         Read::Next(row, next) => {
             if read_row(words, table, given, x, row, present, after) {
-                return Reached::Next(next);
+                return Ok(next);
             }
-            Reached::Bad(row_number(place))
+            Err(BadRow {
+                row: row_number(place),
+            })
         }
     }
 }
@@ -197,7 +200,7 @@ fn read_identifier(
     place: Place,
     present: &mut [i64],
     after: &mut [i64],
-) -> Reached
+) -> Result<Place, BadRow>
     requires { (table ≡ counts_of (rows_of words.now)) × Spanned (rows_of words.now) spans.now × (initial ≡ is_initial (rows_of words.now) e) × (place.at ≤ length run.now) }
     ensures reads_identifier { ReadsIdentifier (rows_of words.now) pressing e x run.now place.at (values_of present.old after.old) result (values_of present.new after.new) }
     ensures reaches { Reaches result run.now (place.at + row_length width * one_if (is_wanted (rows_of words.now) pressing e x)) }
@@ -207,7 +210,7 @@ fn read_identifier(
     if given | is_told(words, spans, pressing, kind, e, x) {
         return read_value(words, table, run, given, x, place, present, after);
     }
-    Reached::Next(place)
+    Ok(place)
 }
 
 // Reads the rows 91 of a step of the event e, "in identifier order": those of a log, or those of a choice for a press.
@@ -221,26 +224,29 @@ pub fn read_values(
     place: Place,
     present: &mut [i64],
     after: &mut [i64],
-) -> Reached
+) -> Result<Place, BadRow>
     requires { (table ≡ counts_of (rows_of words.now)) × Spanned (rows_of words.now) spans.now × (place.at ≤ length run.now) }
     ensures reads_values { ReadsValues (rows_of words.now) e (wanted (rows_of words.now) pressing e) run.now place.at (values_of present.old after.old) result (values_of present.new after.new) }
     ensures reaches { Reaches result run.now (place.at + row_length width * length (wanted (rows_of words.now) pressing e)) }
 {
     let initial = is_initial(words, table, e);
     let mut place = place;
-    let mut x = 0;
-    while x < table.identifiers {
-        x += 1;
-        match read_identifier(
-            words, table, spans, pressing, run, initial, e, x, place, present, after,
-        ) {
-            Reached::Next(next) => {
-                place = next;
-            }
-            Reached::Bad(row) => return Reached::Bad(row),
-        }
+    for x in 0..table.identifiers {
+        place = read_identifier(
+            words,
+            table,
+            spans,
+            pressing,
+            run,
+            initial,
+            e,
+            x + 1,
+            place,
+            present,
+            after,
+        )?;
     }
-    Reached::Next(place)
+    Ok(place)
 }
 
 // The present value of the identifier x becomes its after value, where it is a variable of the concrete machine.
@@ -258,9 +264,7 @@ pub fn move_values(words: &[u64], table: Table, present: &mut [i64], after: &[i6
     requires { table ≡ counts_of (rows_of words.now) }
     ensures { values_of present.new after.now ≡ moved (rows_of words.now) (values_of present.old after.now) }
 {
-    let mut x = 0;
-    while x < table.identifiers {
-        x += 1;
-        move_value(words, table, x, present, after);
+    for x in 0..table.identifiers {
+        move_value(words, table, x + 1, present, after);
     }
 }

@@ -1,5 +1,4 @@
 -- The loop's invariant: moving the variables behind x on gives what moving all of them gives.
-use Prim.Native.Nat.{◌-◌}
 use mathlib.Core.Path.{◌≡◌}
 use lib.ListN.{length}
 use Rattle.table.specs.Rows.{rows_of}
@@ -11,6 +10,3 @@ use Rattle.values.proofs.move_values.Given as goal
 abbrev pub invariant-loop-x : goal.invariant-loop-x
 invariant-loop-x l =
     (length l.present ≡ length l.initial.present) × (move (variables_from (rows_of l.words) l.x) (values_of l.present l.after) ≡ moved (rows_of l.words) (values_of l.initial.present l.after))
-
-abbrev pub decreases-loop-x : goal.decreases-loop-x
-decreases-loop-x l = l.table.identifiers - l.x

@@ -1,5 +1,6 @@
 use mathlib.Core.Path.{◌≡◌, refl, ◌∙◌}
 use native.Mathlib.Omega.{arith}
+use Rattle.std.proofs.lemmas.Result.{err_from_is_err_and}
 use lib.ListN.{length}
 use borrow.Author.Rules.{rules}
 use Rattle.table.specs.Rows.{rows_of}
@@ -21,28 +22,21 @@ loop-x-preserved c =
       present ∙ c.loop-x.invariant.0,
       after ∙ c.loop-x.invariant.1,
       rest_next t c.args.pressing c.args.e c.args.run.now c.loop-x.x (omega (arith, inside, counts_identifiers t c.args.table c.requires.0)) c.loop-x.place.at (values_of c.loop-x.present c.loop-x.after) c.loop-x.invariant.2 _ _
-          c.read_identifier.ensures.reads_identifier c.read_identifier.ensures.reaches c.in-Next.next c.in-Next.is,
+          c.read_identifier.ensures.reads_identifier c.read_identifier.ensures.reaches c.in_ok-place.place c.in_ok-place.was,
     )
 
-pub shape_of-present-in-Bad : goal.shape_of-present-in-Bad
-shape_of-present-in-Bad c =
-    let present : length c.read_identifier.new.present ≡ length c.loop-x.present = search rules in
-    present ∙ c.loop-x.invariant.0
-
-pub shape_of-after-in-Bad : goal.shape_of-after-in-Bad
-shape_of-after-in-Bad c =
-    let after : length c.read_identifier.new.after ≡ length c.loop-x.after = search rules in
-    after ∙ c.loop-x.invariant.1
-
-pub returns-in-Bad : goal.returns-in-Bad
-returns-in-Bad c =
+pub returns-in_err-place-clause-reads_values : goal.returns-in_err-place-clause-reads_values
+returns-in_err-place-clause-reads_values c =
     let t = rows_of c.args.words.now in
     let inside = c.loop-x-test.true in
-    record {
-      reads_values = rest_bad t c.args.pressing c.args.e c.args.run.now c.loop-x.x (omega (arith, inside, counts_identifiers t c.args.table c.requires.0)) c.loop-x.place.at (values_of c.loop-x.present c.loop-x.after) c.loop-x.invariant.2 _ _
-          c.read_identifier.ensures.reads_identifier c.read_identifier.ensures.reaches c.in-Bad.row c.in-Bad.is;
-      reaches = tt;
-    }
+    let p = err_from_is_err_and c.from_residual.result c.from_residual.ensures.1 in
+    rw (p.1, p.2)
+    (rest_bad t c.args.pressing c.args.e c.args.run.now c.loop-x.x (omega (arith, inside, counts_identifiers t c.args.table c.requires.0)) c.loop-x.place.at (values_of c.loop-x.present c.loop-x.after) c.loop-x.invariant.2 _ _
+    c.read_identifier.ensures.reads_identifier c.read_identifier.ensures.reaches c.in_err-place.field-0.0 c.in_err-place.was)
+
+pub returns-in_err-place-clause-reaches : goal.returns-in_err-place-clause-reaches
+returns-in_err-place-clause-reaches c =
+    let p = err_from_is_err_and c.from_residual.result c.from_residual.ensures.1 in rw p.1 tt
 
 pub shape_of-present : goal.shape_of-present
 shape_of-present c = c.loop-x.invariant.0

@@ -1,5 +1,4 @@
 -- The loop's invariant: reading on for the identifiers behind x gives what reading for all of them gives.
-use Prim.Native.Nat.{◌-◌}
 use mathlib.Core.Path.{◌≡◌}
 use lib.ListN.{length}
 use Rattle.table.specs.Rows.{rows_of}
@@ -11,6 +10,3 @@ abbrev pub invariant-loop-x : goal.invariant-loop-x
 invariant-loop-x l =
     (length l.present ≡ length l.initial.present) × (length l.after ≡ length l.initial.after)
     × Rest (rows_of l.words) l.pressing l.e l.run l.initial.place.at (values_of l.initial.present l.initial.after) l.x l.place.at (values_of l.present l.after)
-
-abbrev pub decreases-loop-x : goal.decreases-loop-x
-decreases-loop-x l = l.table.identifiers - l.x
