@@ -301,15 +301,14 @@ pub fn seek_row(
 {
     let span = selected_span(words, table, spans, rows);
     let last = lesser(span.to, end);
-    let mut row = lesser(greater(from.row, span.from), end);
+    let start = lesser(greater(from.row, span.from), end);
     let mut left = from.left;
-    while row < last {
+    for row in start..last {
         let count = count_at(words, table, spans, rows, each, row);
         if left < count {
             return Sought { row, left };
         }
         left -= count;
-        row += 1;
     }
     Sought { row: end, left }
 }

@@ -14,8 +14,8 @@ loop-row-init c =
     let t = rows_of c.args.words.now in
     let span = c.selected_span-span in
     let spans = subst (Spans (selects t c.args.rows) t.size) (sym span.ensures) (selected_spans t c.args.rows) in
-    let start = c.lesser-row.ensures ∙ ap (λ n. lesser_of n c.args.end) c.greater.ensures in
-    ((place_start (count_at t c.args.rows c.args.each) (count_none t c.args.rows c.args.each) spans c.requires.row_le_end.1 c.args.from.row c.args.from.left c.lesser-row.result c.requires.row_le_end.0 start).0, refl)
+    let start = c.lesser-start.ensures ∙ ap (λ n. lesser_of n c.args.end) c.greater.ensures in
+    ((place_start (count_at t c.args.rows c.args.each) (count_none t c.args.rows c.args.each) spans c.requires.row_le_end.1 c.args.from.row c.args.from.left c.lesser-start.result c.requires.row_le_end.0 start).0, refl)
 
 pub count_at-count-requires : goal.count_at-count-requires
 count_at-count-requires c =
@@ -27,15 +27,12 @@ returns-then-left-count c =
     let t = rows_of c.args.words.now in
     let span = c.selected_span-span in
     let spans = subst (Spans (selects t c.args.rows) t.size) (sym span.ensures) (selected_spans t c.args.rows) in
-    let start = c.lesser-row.ensures ∙ ap (λ n. lesser_of n c.args.end) c.greater.ensures in
+    let start = c.lesser-start.ensures ∙ ap (λ n. lesser_of n c.args.end) c.greater.ensures in
     record {
-      place = c.loop-row.invariant.1 ∙ (place_start (count_at t c.args.rows c.args.each) (count_none t c.args.rows c.args.each) spans c.requires.row_le_end.1 c.args.from.row c.args.from.left c.lesser-row.result c.requires.row_le_end.0 start).1;
+      place = c.loop-row.invariant.1 ∙ (place_start (count_at t c.args.rows c.args.each) (count_none t c.args.rows c.args.each) spans c.requires.row_le_end.1 c.args.from.row c.args.from.left c.lesser-start.result c.requires.row_le_end.0 start).1;
       within = c.loop-row.invariant.0;
       found = λ h. place_held (count_at t c.args.rows c.args.each) c.loop-row.row c.loop-row.left c.count_at-count.result c.count_at-count.ensures c.if-left-count.true;
     }
-
-pub loop-row-smaller : goal.loop-row-smaller
-loop-row-smaller c = omega (arith, c.loop-row-test.true)
 
 pub loop-row-preserved : goal.loop-row-preserved
 loop-row-preserved c =
@@ -50,12 +47,12 @@ returns c =
     let t = rows_of c.args.words.now in
     let span = c.selected_span-span in
     let spans = subst (Spans (selects t c.args.rows) t.size) (sym span.ensures) (selected_spans t c.args.rows) in
-    let start = c.lesser-row.ensures ∙ ap (λ n. lesser_of n c.args.end) c.greater.ensures in
+    let start = c.lesser-start.ensures ∙ ap (λ n. lesser_of n c.args.end) c.greater.ensures in
     record {
       place =
           place_end (count_at t c.args.rows c.args.each) (count_none t c.args.rows c.args.each) spans c.requires.row_le_end.1 c.loop-row.row c.loop-row.left c.lesser-last.result c.loop-row.invariant.0 c.lesser-last.ensures c.loop-row-test.false
           ∙ c.loop-row.invariant.1
-          ∙ (place_start (count_at t c.args.rows c.args.each) (count_none t c.args.rows c.args.each) spans c.requires.row_le_end.1 c.args.from.row c.args.from.left c.lesser-row.result c.requires.row_le_end.0 start).1;
+          ∙ (place_start (count_at t c.args.rows c.args.each) (count_none t c.args.rows c.args.each) spans c.requires.row_le_end.1 c.args.from.row c.args.from.left c.lesser-start.result c.requires.row_le_end.0 start).1;
       within = omega arith;
       found = λ h. absurd (omega arith);
     }

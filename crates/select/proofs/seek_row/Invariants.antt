@@ -1,5 +1,5 @@
 -- The loop's invariant: the place that is sought is kept (Steps). Outside the span no row is of the selection (Selected).
-use Prim.Native.Nat.{◌-◌, ◌≤◌}
+use Prim.Native.Nat.{◌≤◌}
 use mathlib.Core.Path.{◌≡◌}
 use Rattle.table.specs.Rows.{rows_of}
 use Rattle.select.specs.Each.{count_at}
@@ -9,7 +9,4 @@ use Rattle.select.proofs.seek_row.Given as goal
 
 abbrev pub invariant-loop-row : goal.invariant-loop-row
 invariant-loop-row l =
-    (l.row ≤ l.end) × (place_of (count_at (rows_of l.words) l.rows l.each) (sought l.row l.left) ≡ place_of (count_at (rows_of l.words) l.rows l.each) (sought l.initial.row l.initial.left))
-
-abbrev pub decreases-loop-row : goal.decreases-loop-row
-decreases-loop-row l = l.last - l.row
+    (l.row ≤ l.end) × (place_of (count_at (rows_of l.words) l.rows l.each) (sought l.row l.left) ≡ place_of (count_at (rows_of l.words) l.rows l.each) (sought l.start l.initial.left))
