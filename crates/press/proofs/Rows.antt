@@ -7,6 +7,7 @@ use Prim.Native.Nat.{ℕ, ◌≤◌}
 use native.Mathlib.Omega.{arith}
 use borrow.Author.Tests.{ltb-true, ltb-false}
 use lib.Dec.{ltb}
+use Rattle.std.specs.Prelude.{Ok, Err, Option, Some, None}
 use lib.ListN.{length, drop, length-drop}
 use Rattle.lists.specs.Choice.{pick}
 use Rattle.row.specs.Row.{greatest, width, row_length}
@@ -21,13 +22,10 @@ use Rattle.recording.specs.Lines.{lines}
 use Rattle.recording.specs.Rows.{is_step_row}
 use Rattle.recording.specs.Replay.{Values, Found, found, read_values}
 use Rattle.recording.proofs.Lines.{lines_none, lines_nothing}
-use Rattle.values.specs.declared.Reached.{Reached}
-use Rattle.values.specs.declared.Reached.TheVariants.{Next, Bad}
-use Rattle.values.specs.Values.{wanted, lines_at, row_at, read_on, ReadsValues}
+use Rattle.values.specs.declared.BadRow.{BadRow}
+use Rattle.values.specs.Values.{Reached, wanted, lines_at, row_at, read_on, ReadsValues}
 use Rattle.values.proofs.Reading.{end_lines, malformed_lines, row_lines, next_place, wanted_asked}
 use Rattle.bench.specs.Choice.{Choice, none, asked, choice, choice_of as choice_found}
-use Rattle.press.specs.declared.Chosen.{Chosen}
-use Rattle.press.specs.declared.Chosen.TheVariants.{Event, Nothing}
 use Rattle.press.specs.Numbers.{choice_of}
 
 -- ---- the rows 91
@@ -43,12 +41,12 @@ module _ (t : Rows) (e : ℕ) (step : List ℕ) (at : ℕ) (vs us : Values) (fir
       ∙ ap₂ (λ xs bytes. read_values t e xs (row_at at) (lines_at bytes at) vs) (wanted_asked t e) (append-nil step)
       ∙ ap (λ i. read_values t e (asked t e) i (lines_at step at) vs) (ap row_at first)
 
-  pub values_bad : (row : ℕ) → r ≡ Bad row → choice_of Nothing us ≡ choice_found e rows_read
+  pub values_bad : (wrong : BadRow) → r ≡ Err wrong → choice_of None us ≡ choice_found e rows_read
   unfolding read_on
-  values_bad row q = ap (choice_found e) (ap (λ r. read_on t r e [] step us) (sym q) ∙ read_is)
+  values_bad wrong q = ap (choice_found e) (ap (λ r. read_on t r e [] step us) (sym q) ∙ read_is)
 
   -- they are the step's last where nothing is left
-  pub values_end : (p : Place) → r ≡ Next p → {c : Chosen} → c ≡ pick (ltb p.at (length step)) Nothing (Event e) → choice_of c us ≡ choice_found e rows_read
+  pub values_end : (p : Place) → r ≡ Ok p → {c : Option ℕ} → c ≡ pick (ltb p.at (length step)) None (Some e) → choice_of c us ≡ choice_found e rows_read
   unfolding read_on read_values
   values_end p q is = ap (λ c. choice_of c us) is ∙ go (ltb p.at (length step)) refl ∙ ap (choice_found e) (ap (λ r. read_on t r e [] step us) (sym q) ∙ read_is)
     where
@@ -63,7 +61,7 @@ module _ (t : Rows) (e : ℕ) (step : List ℕ) (at : ℕ) (vs us : Values) (fir
       by_lines [] f h = absurd (let l = ltb-true p.at (length step) h in let k = f refl in omega (arith, l, k))
       by_lines (l ∷ ls) f h = refl
 
-      go : (b : Bool) → ltb p.at (length step) ≡ b → choice_of (pick b Nothing (Event e)) us ≡ choice_found e (found us (lines_at step p.at))
+      go : (b : Bool) → ltb p.at (length step) ≡ b → choice_of (pick b None (Some e)) us ≡ choice_found e (found us (lines_at step p.at))
       go true h = by_lines (lines_at step p.at) left h
       go false h =
           let l = ltb-false p.at (length step) h in

@@ -1,21 +1,19 @@
 -- How the code presses on the values and the types of a state, two lists of numbers.
-use Rattle.std.specs.Prelude.{Bool, true, false, List, ℕ, eqb, ℤ, length}
+use Rattle.std.specs.Prelude.{Bool, true, false, Option, Some, None, List, ℕ, eqb, ℤ, length}
 use Rattle.lists.specs.Choice.{pick}
 use Rattle.recording.specs.Replay.{Values}
 use Rattle.bench.specs.Choice.{Choice, chosen, none}
 use Rattle.bench.specs.declared.Press.{Press}
 use Rattle.bench.specs.declared.Press.TheVariants.{Performed, Refused}
-use Rattle.press.specs.declared.Chosen.{Chosen}
-use Rattle.press.specs.declared.Chosen.TheVariants.{Event, Nothing}
 
 -- how many records two lists have room for: lists of two lengths are no list of records, for which 65 stands, more than a table has identifiers
 unfoldable pub room_for : List ℤ → List ℕ → ℕ
 room_for zs types = pick (eqb (length zs) (length types)) (length zs) 65
 
 -- the choice that the code found, with the values that it stored
-abbrev pub choice_of : Chosen → Values → Choice
-choice_of (Event e) vs = chosen e vs
-choice_of Nothing vs = none
+abbrev pub choice_of : Option ℕ → Values → Choice
+choice_of (Some e) vs = chosen e vs
+choice_of None vs = none
 
 abbrev pub is_performed : Press → Bool
 is_performed Performed = true

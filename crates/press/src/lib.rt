@@ -1,7 +1,7 @@
 // 02, request 6: "Press an event, or only look", on the values and the types of a state: two slices of numbers.
 #![tactic(auto)]
 
-ghost use Rattle.std.specs.Prelude.{◌≡◌, ◌≤◌, ltb, eqb, length};
+ghost use Rattle.std.specs.Prelude.{◌≡◌, ◌≤◌, ltb, eqb, length, Some, None};
 ghost use Rattle.lists.specs.Choice.{pick};
 ghost use Rattle.row.specs.Row.{width, row_length};
 ghost use Rattle.table.specs.Names.{identifier_tag};
@@ -16,7 +16,6 @@ ghost use Rattle.recording.specs.Replay.{read_values};
 ghost use Rattle.values.specs.Values.{values_of, lines_at};
 ghost use Rattle.bench.specs.Choice.{asked, chosen, choice, choice_of as choice_found};
 ghost use Rattle.bench.specs.Press.{reply_of, kept_or, press_choice, press_on, at_hand, outcome_by, outcome};
-ghost use Rattle.press.specs.declared.Chosen.TheVariants.{Event, Nothing};
 ghost use Rattle.press.specs.Numbers.{choice_of, room_for, is_performed};
 
 use after::{complete_values, update_values};
@@ -30,24 +29,18 @@ use rules::Verdict;
 use scan::{Span, lesser};
 use state::{copy_sorts, copy_values, is_state};
 use table::Table;
-use values::{Reached, is_step_row, read_values};
+use values::{is_step_row, read_values};
 use verdict::{Loaded, judge_with, load};
 
-// What the rows of a step choose: an event, whose values are stored; or they are no choice.
-#[derive(Clone, Copy)]
-pub enum Chosen {
-    Event(u64),
-    Nothing,
-}
-
-// "a row after the step's last": the rows of the event e end at a byte, and the step has so many.
-fn chosen_to(e: u64, end: usize, length: usize) -> Chosen
-    ensures { result ≡ pick (ltb end length) Nothing (Event e) }
+// What the rows of a step choose: an event, whose values are stored, if they are a choice. The rows of the event e end at a byte, and the step has so many:
+// "a row after the step's last" is none of a choice.
+fn chosen_to(e: u64, end: usize, length: usize) -> Option<u64>
+    ensures { result ≡ pick (ltb end length) None (Some e) }
 {
     if end < length {
-        return Chosen::Nothing;
+        return None;
     }
-    Chosen::Event(e)
+    Some(e)
 }
 
 // Reads the rows 91 of a choice of the event e, the last of its rows.
@@ -60,13 +53,13 @@ fn choose_values(
     place: Place,
     present: &mut [i64],
     after: &mut [i64],
-) -> Chosen
+) -> Option<u64>
     requires { (table ≡ counts_of (rows_of words.now)) × Spanned (rows_of words.now) spans.now × (place.at ≡ row_length width) × (place.at ≤ length step.now) }
     ensures { choice_of result (values_of present.new after.new) ≡ choice_found e (read_values (rows_of words.now) e (asked (rows_of words.now) e) 2 (lines_at step.now place.at) (values_of present.old after.old)) }
 {
     match read_values(words, table, spans, true, step, e, place, present, after) {
-        Reached::Bad(row) => Chosen::Nothing,
-        Reached::Next(end) => chosen_to(e, end.at, step.len()),
+        Err(_) => None,
+        Ok(end) => chosen_to(e, end.at, step.len()),
     }
 }
 
@@ -78,18 +71,18 @@ fn choose(
     step: &[u8],
     present: &mut [i64],
     after: &mut [i64],
-) -> Chosen
+) -> Option<u64>
     requires { (table ≡ counts_of (rows_of words.now)) × Spanned (rows_of words.now) spans.now }
     ensures { choice_of result (values_of present.new after.new) ≡ choice (rows_of words.now) (lines step.now) (values_of present.old after.old) }
 {
     match next_row(Place::start(), step) {
-        Read::End => Chosen::Nothing,
-        Read::Malformed => Chosen::Nothing,
+        Read::End => None,
+        Read::Malformed => None,
         Read::Next(row, next) => {
             if is_step_row(words, table, false, row) {
                 return choose_values(words, table, spans, step, row.a, next, present, after);
             }
-            Chosen::Nothing
+            None
         }
     }
 }
@@ -132,8 +125,8 @@ fn press_step(
     ensures values_after { values.new ≡ kept_or (λ zs. zs) values.old (press_choice (rows_of words.now) values.old (choice (rows_of words.now) (lines step.now) (values_of present.old after.old))) }
 {
     match choose(words, table, spans, step, present, after) {
-        Chosen::Nothing => Press::Refused(Replay::LOG, 0),
-        Chosen::Event(e) => press_event(words, table, spans, e, present, after, values),
+        None => Press::Refused(Replay::LOG, 0),
+        Some(e) => press_event(words, table, spans, e, present, after, values),
     }
 }
 

@@ -91,11 +91,9 @@ pub fn load_state(state: &[Record]) -> Numbers
 {
     let n = few(state.len());
     let mut all = no_numbers();
-    let mut i = 0;
-    while i < n {
+    for i in 0..n {
         let r = load(state, i);
         all = put(all, i, r);
-        i += 1;
     }
     all
 }
@@ -105,11 +103,9 @@ pub fn store_state(state: &mut [Record], all: Numbers)
     ensures { state.new ≡ stored all (few_of (length state.old)) state.old }
 {
     let n = few(state.len());
-    let mut i = 0;
-    while i < n {
+    for i in 0..n {
         let r = at(all, i);
         store(state, i, r);
-        i += 1;
     }
 }
 

@@ -14,7 +14,7 @@ unfolding loaded
 turned i ys r e = ap (with_record (loaded i ys) i) e
 
 pub loop-i-init : goal.loop-i-init
-loop-i-init c = (omega arith, c.no_numbers-all.ensures ∙ started c.args.state.now)
+loop-i-init c = c.no_numbers-all.ensures ∙ started c.args.state.now
 
 pub load-r-requires : goal.load-r-requires
 load-r-requires c = omega (arith, c.few-n.ensures, few_bound)
@@ -22,8 +22,6 @@ load-r-requires c = omega (arith, c.few-n.ensures, few_bound)
 pub loop-i-preserved : goal.loop-i-preserved
 loop-i-preserved c =
     let ys = c.args.state.now in
-    let i = c.loop-i.i in (
-      omega arith,
-      c.put-all.ensures ∙ ap (λ all. with_record all i c.load-r.result) c.loop-i.invariant.1 ∙ turned i ys c.load-r.result c.load-r.ensures
-          ∙ ap (λ k. loaded k ys) (sym (add-one i)),
-    )
+    let i = c.loop-i.i in
+    c.put-all.ensures ∙ ap (λ all. with_record all i c.load-r.result) c.loop-i.invariant ∙ turned i ys c.load-r.result c.load-r.ensures
+    ∙ ap (λ k. loaded k ys) (sym (add-one i))

@@ -15,7 +15,7 @@ unfolding stored
 turned all i ys = refl
 
 pub loop-i-init : goal.loop-i-init
-loop-i-init c = (omega arith, started c.args.all c.args.state.now)
+loop-i-init c = started c.args.all c.args.state.now
 
 pub store-requires : goal.store-requires
 store-requires c = omega (arith, c.few-n.ensures, few_bound, c.loop-i.auto.state)
@@ -24,7 +24,5 @@ pub loop-i-preserved : goal.loop-i-preserved
 loop-i-preserved c =
     let all = c.args.all in
     let ys = c.args.state.now in
-    let i = c.loop-i.i in (
-      omega arith,
-      c.store.ensures ∙ ap₂ (λ zs r. set zs i r) c.loop-i.invariant.1 c.at-r.ensures ∙ turned all i ys ∙ ap (λ k. stored all k ys) (sym (add-one i)),
-    )
+    let i = c.loop-i.i in
+    c.store.ensures ∙ ap₂ (λ zs r. set zs i r) c.loop-i.invariant c.at-r.ensures ∙ turned all i ys ∙ ap (λ k. stored all k ys) (sym (add-one i))

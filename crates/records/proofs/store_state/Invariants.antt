@@ -1,10 +1,7 @@
 -- The loop's invariant: the records before i are stored.
-use Rattle.std.proofs.Common.{◌-◌, ◌≡◌, ◌≤◌}
+use Rattle.std.proofs.Common.{◌≡◌}
 use Rattle.records.specs.Numbers.{stored}
 use Rattle.records.proofs.store_state.Given as goal
 
 abbrev pub invariant-loop-i : goal.invariant-loop-i
-invariant-loop-i l = (l.i ≤ l.n) × (l.state ≡ stored l.all l.i l.initial.state)
-
-abbrev pub decreases-loop-i : goal.decreases-loop-i
-decreases-loop-i l = l.n - l.i
+invariant-loop-i l = l.state ≡ stored l.all l.i l.initial.state
