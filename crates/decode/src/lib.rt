@@ -33,19 +33,15 @@ pub fn decode(bytes: &[u8], rows: usize, words: &mut [u64]) -> Decoded
     ensures words_after { words.new ≡ over (words_to bytes.now (first_bad bytes.now rows)) words.old }
 {
     let mut place = Place::start();
-    let mut i = 0;
-    let mut at = 0;
-    while i < rows {
+    for i in 0..rows {
         match place.read(bytes) {
             Read::Next(row, next) => {
-                store(&mut words[at..], row);
+                store(&mut words[4 * i..], row);
                 place = next;
             }
             Read::Malformed => return Decoded::Malformed(i),
             Read::End => return Decoded::Malformed(i),
         }
-        i += 1;
-        at += 4;
     }
     Decoded::Complete(rows)
 }

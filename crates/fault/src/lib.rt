@@ -49,14 +49,12 @@ pub fn first_row(words: &[u64], table: Table, spans: &[usize], check: u64) -> us
         return first_unused(words, table);
     }
     let rows = size(words);
-    let mut i = 0;
-    while i < rows {
+    for i in 0..rows {
         if row_offends(words, table, spans, check, i) {
             return i;
         }
-        i += 1;
     }
-    i
+    rows
 }
 
 // The first check from 3 on against which a row offends, or the last.
@@ -65,12 +63,10 @@ pub fn first_check(words: &[u64], table: Table, spans: &[usize]) -> u64
     ensures { result ≡ first_check (rows_of words.now) }
 {
     let rows = size(words);
-    let mut check = Verdict::TAG;
-    while check < Verdict::MISSING {
+    for check in Verdict::TAG..Verdict::MISSING {
         if first_row(words, table, spans, check) < rows {
             return check;
         }
-        check += 1;
     }
-    check
+    Verdict::MISSING
 }

@@ -1,5 +1,5 @@
 -- What a list holds when a node's note or an action is written into it: each number by whether it is one that was written; the spans stand before all of these.
-use Prim.Native.Nat.{ℕ, zero, suc, ◌+◌, ◌*◌, ◌≤◌, ◌<◌}
+use Prim.Native.Nat.{ℕ, zero, suc, min, ◌+◌, ◌*◌, ◌≤◌, ◌<◌}
 use mathlib.Core.Path.{◌≡◌, refl, ap, ap₂, sym, subst, ◌∙◌}
 use mathlib.Core.Bool.{Bool, true, false, ◌&&◌, ◌||◌, true≢false}
 use mathlib.Core.List.{List, [], ◌∷◌}
@@ -261,21 +261,19 @@ module _ (t : Rows) where
   unfolding count
   nodes_counted table e = ap (λ k. k.nodes) e
 
-  pub noted_all : (s : List ℕ) (n m : ℕ) → m ≡ count t node_tag → n ≡ pick (ltb m node_limit) m node_limit + 1 → NotedTo t n t.size s → Noted t s
+  pub noted_all : (s : List ℕ) (n m : ℕ) → m ≡ count t node_tag → n ≡ min m node_limit + 1 → NotedTo t n t.size s → Noted t s
   noted_all s n m counted last noted = record {
     spanned = noted.spanned;
     nodes = λ k l. noted.nodes k l ∙ ap (λ b. note_of (pick b (tree_of t k) (constant bottom))) (within k l ∙ ap (λ m. leb k node_limit && leb k m) counted);
     events = λ e l. noted.events e l ∙ sym (chosen (leb e event_limit) (set_where (λ x. some_below (sets t e x) t.size)) 0 (le-leb e event_limit l));
   }
     where
-      before : (b c : Bool) (k : ℕ) → k ≤ node_limit → ltb m node_limit ≡ b → leb k m ≡ c → n ≡ pick b m node_limit + 1 → ltb k n ≡ c
-      before true true k l p q r = lt-ltb k n (omega (arith, leb-true k m q))
-      before true false k l p q r = le-ltb k n (omega (arith, leb-false k m q))
-      before false true k l p q r = lt-ltb k n (omega arith)
-      before false false k l p q r = absurd (omega (arith, leb-false k m q, ltb-false m node_limit p))
+      before : (c : Bool) (k : ℕ) → k ≤ node_limit → leb k m ≡ c → ltb k n ≡ c
+      before true k l q = lt-ltb k n (omega (arith, leb-true k m q, last))
+      before false k l q = le-ltb k n (omega (arith, leb-false k m q, last))
 
       within : (k : ℕ) → k ≤ node_limit → ltb k n ≡ (leb k node_limit && leb k m)
-      within k l = before (ltb m node_limit) (leb k m) k l refl refl last ∙ sym (rw (le-leb k node_limit l))
+      within k l = before (leb k m) k l refl ∙ sym (rw (le-leb k node_limit l))
 
 -- What is read where nothing is noted: above the limits.
 module _ (t : Rows) where

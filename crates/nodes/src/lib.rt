@@ -56,11 +56,7 @@ fn clear_notes(spans: &mut [usize])
     requires { length spans.old ≡ span_words }
     ensures { Cleared spans.old spans.new }
 {
-    let mut k = Span::NODES;
-    while k < Span::WORDS {
-        spans[k] = 0;
-        k += 1;
-    }
+    spans[Span::NODES..].fill(0);
 }
 
 // Whether row i is an action of an event up to the limit.
@@ -91,10 +87,8 @@ fn note_actions(words: &[u64], spans: &mut [usize])
     ensures { NotedTo (rows_of words.now) 1 (rows_of words.now).size spans.new }
 {
     let actions = span_at(words, spans, tag::BECOMES_EQUAL);
-    let mut i = actions.from;
-    while i < actions.to {
+    for i in actions.from..actions.to {
         note_action(words, spans, i);
-        i += 1;
     }
 }
 
@@ -123,23 +117,14 @@ fn note_node(words: &[u64], table: Table, spans: &mut [usize], n: u64)
     store(spans, n, made);
 }
 
-// The lesser of two numbers.
-fn lesser(m: u64, n: u64) -> u64
-    ensures { result ≡ pick (ltb m n) m n }
-{
-    if m < n { m } else { n }
-}
-
 // Notes the nodes up to the limit, operands first.
 fn note_nodes(words: &[u64], table: Table, spans: &mut [usize])
     requires { (table ≡ counts_of (rows_of words.now)) × NotedTo (rows_of words.now) 1 (rows_of words.now).size spans.old }
     ensures { Noted (rows_of words.now) spans.new }
 {
-    let last = lesser(table.nodes, Table::NODES);
-    let mut n = 1;
-    while n <= last {
+    let last = table.nodes.min(Table::NODES);
+    for n in 1..=last {
         note_node(words, table, spans, n);
-        n += 1;
     }
 }
 

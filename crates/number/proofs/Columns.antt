@@ -7,11 +7,12 @@ use native.Mathlib.Numerals.{add-one, sub-one}
 use native.Mathlib.Nat.{not-suc-le-zero, le_of_suc-le-suc}
 use native.Mathlib.Omega.{arith}
 use borrow.Author.Tests.{le-leb, lt-leb}
-use lib.ListN.{length, take, drop, set, length-append, take-append-drop}
+use lib.ListN.{length, take, drop, set, replicate, length-append, take-append-drop}
+use Rattle.std.proofs.lemmas.List.{length-take-le}
+use Rattle.std.proofs.lemmas.Grind.{replicate_next}
 use lib.Seq.{append_snoc, take_at, drop_at, take-take, take-set-le}
 use Rattle.lists.specs.Choice.{pick}
 use Rattle.lists.specs.Over.{over}
-use Rattle.lists.proofs.Over.{over_set}
 use Rattle.number.specs.Number.{space, minus, digit_zero, Text, Spaces, Minus, Digits, last_of, before_digits, before_of, columns_of}
 
 -- what stands from j on once j is stored
@@ -53,10 +54,18 @@ pub no_columns : (out : List ℕ) (text : Text) (i : ℕ) → i ≤ 0 → out �
 unfolding columns_of over
 no_columns out text i h = let none : i ≡ 0 = omega arith in rw none
 
--- spaces from the left
-pub blank_more : (out xs : List ℕ) (i : ℕ) → i < length xs → out ≡ over (columns_of i Spaces) xs → set out i space ≡ over (columns_of (i + 1) Spaces) xs
+spaces_columns : (width : ℕ) → replicate width space ≡ columns_of width Spaces
 unfolding columns_of
-blank_more out xs i h e = rw add-one (over_set (columns_of i Spaces) xs out i space (written_length i Spaces) e h)
+spaces_columns zero = refl
+spaces_columns (suc width) =
+    ap (λ n. replicate n space) (sym (add-one width)) ∙ replicate_next width space ∙ ap (λ xs. xs ++ (space ∷ [])) (spaces_columns width)
+
+-- the first columns are filled with spaces
+pub blank_filled : (width : ℕ) (out filled : List ℕ) → width ≤ length out → filled ≡ replicate (length (take width out)) space
+    → filled ++ drop width out ≡ over (columns_of width Spaces) out
+blank_filled width out filled h e =
+    let size : length (take width out) ≡ width = length-take-le width out h in
+    rw (e, size, spaces_columns width) (sym (over_columns width Spaces out))
 
 pub blank_done : (width : ℕ) (out xs : List ℕ) → out ≡ over (columns_of width Spaces) xs → take width out ≡ columns_of width Spaces
 unfolding over

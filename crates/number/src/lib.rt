@@ -64,9 +64,7 @@ fn digits(greatest: u64, negative: bool, columns: &[u8], at: usize) -> Number
 {
     let most = most(greatest, negative);
     let mut m = 0;
-    let mut i = at;
-    while i < columns.len() {
-        let b = columns[i];
+    for &b in &columns[at..] {
         if (b < ZERO) | (NINE < b) {
             return Number::Malformed;
         }
@@ -78,7 +76,6 @@ fn digits(greatest: u64, negative: bool, columns: &[u8], at: usize) -> Number
         if most < m {
             return Number::Malformed;
         }
-        i += 1;
     }
     Number::Value(word(negative, m))
 }
@@ -153,12 +150,10 @@ fn read_from(greatest: u64, columns: &[u8], at: usize) -> Number
     requires { (greatest < 2 ^ 63) × BlankTo at columns.now }
     ensures { result ≡ number_of greatest columns.now }
 {
-    let mut i = at;
-    while i < columns.len() {
+    for i in at..columns.len() {
         if columns[i] != SPACE {
             return after_spaces(greatest, columns, i);
         }
-        i += 1;
     }
     Number::Malformed
 }
@@ -197,11 +192,7 @@ fn blank(out: &mut [u8], width: usize)
     requires { width ≤ length out.old }
     ensures { out.new ≡ over (columns_of width Spaces) out.old }
 {
-    let mut i = 0;
-    while i < width {
-        out[i] = SPACE;
-        i += 1;
-    }
+    out[..width].fill(SPACE);
 }
 
 // Writes the minus of a negative number into the last of the first columns of out, which hold spaces.
@@ -222,9 +213,7 @@ fn write_digits(out: &mut [u8], width: usize, negative: bool, magnitude: u64)
     ensures { out.new ≡ over (columns_of width (Digits negative magnitude)) out.old }
 {
     let mut m = magnitude;
-    let mut i = width;
-    while 0 < i {
-        i -= 1;
+    for i in (0..width).rev() {
         out[i] = ZERO + (m % 10) as u8;
         if m < 10 {
             write_sign(out, i, negative);

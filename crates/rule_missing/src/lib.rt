@@ -77,12 +77,10 @@ fn event_lacks(words: &[u64], table: Table, spans: &[usize], i: usize) -> bool
         return false;
     }
     let identifiers = span_at(words, spans, tag::IDENTIFIER);
-    let mut j = identifiers.from;
-    while j < identifiers.to {
+    for j in identifiers.from..identifiers.to {
         if lacks_for(words, table, spans, i, j) {
             return true;
         }
-        j += 1;
     }
     false
 }
@@ -93,12 +91,10 @@ fn some_event_lacks(words: &[u64], table: Table, spans: &[usize]) -> bool
     ensures { result ≡ some_below (event_lacks (rows_of words.now)) (rows_of words.now).size }
 {
     let events = span_at(words, spans, tag::EVENT);
-    let mut i = events.from;
-    while i < events.to {
+    for i in events.from..events.to {
         if event_lacks(words, table, spans, i) {
             return true;
         }
-        i += 1;
     }
     false
 }

@@ -200,11 +200,8 @@ fn count_uses(words: &[u64], uses: &mut [usize])
     ensures { UsedTo (rows_of words.now) (rows_of words.now).size uses.new }
 {
     clear(uses);
-    let rows = size(words);
-    let mut i = 0;
-    while i < rows {
+    for i in 0..size(words) {
         use_row(words, uses, i);
-        i += 1;
     }
 }
 
@@ -226,14 +223,12 @@ fn find_unused(words: &[u64], table: Table, uses: &[usize]) -> usize
     ensures { result ≡ first_row (rows_of words.now) 9 }
 {
     let rows = size(words);
-    let mut i = 0;
-    while i < rows {
+    for i in 0..rows {
         if use_offends(words, table, uses, i) {
             return i;
         }
-        i += 1;
     }
-    i
+    rows
 }
 
 // The first row that offends against check 9, or the number of rows.

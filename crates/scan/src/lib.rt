@@ -86,11 +86,7 @@ impl Span {
 pub fn clear(numbers: &mut [usize])
     ensures { (length numbers.new ≡ length numbers.old) × ((k : ℕ) → get_or numbers.new k 0 ≡ 0) }
 {
-    let mut k = 0;
-    while k < numbers.len() {
-        numbers[k] = 0;
-        k += 1;
-    }
+    numbers.fill(0);
 }
 
 // Where a span starts with row i: there if it ends at 0, so that it has no row yet.
@@ -171,11 +167,8 @@ fn fill_actions(words: &[u64], spans: &mut [usize])
     requires { SpannedTo (rows_of words.now) (rows_of words.now).size spans.old × ActionsTo (rows_of words.now) 0 spans.old }
     ensures { Spanned (rows_of words.now) spans.new }
 {
-    let rows = size(words);
-    let mut i = 0;
-    while i < rows {
+    for i in 0..size(words) {
         note_action(words, spans, i);
-        i += 1;
     }
 }
 
@@ -185,11 +178,8 @@ fn fill_tags(words: &[u64], spans: &mut [usize])
     ensures { SpannedTo (rows_of words.now) (rows_of words.now).size spans.new × ActionsTo (rows_of words.now) 0 spans.new }
 {
     clear(spans);
-    let rows = size(words);
-    let mut i = 0;
-    while i < rows {
+    for i in 0..size(words) {
         note_row(words, spans, i);
-        i += 1;
     }
 }
 
@@ -229,12 +219,10 @@ pub fn find_within(words: &[u64], query: Query, span: Span) -> usize
     requires { Spans (passes_of (rows_of words.now) query) (rows_of words.now).size span }
     ensures { result ≡ first (passes_of (rows_of words.now) query) (rows_of words.now).size 0 }
 {
-    let mut i = span.from;
-    while i < span.to {
+    for i in span.from..span.to {
         if passes(query, tag_at(words, i), a_at(words, i), b_at(words, i)) {
             return i;
         }
-        i += 1;
     }
     size(words)
 }
@@ -267,12 +255,10 @@ fn some_within(words: &[u64], query: Query, span: Span) -> bool
     requires { NoneBelow (passes_of (rows_of words.now) query) span.from }
     ensures { result ≡ some_below (passes_of (rows_of words.now) query) span.to }
 {
-    let mut i = span.from;
-    while i < span.to {
+    for i in span.from..span.to {
         if passes(query, tag_at(words, i), a_at(words, i), b_at(words, i)) {
             return true;
         }
-        i += 1;
     }
     false
 }

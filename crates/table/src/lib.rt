@@ -194,12 +194,9 @@ impl Table {
     pub fn of(words: &[u64]) -> Self
         ensures { result ≡ counts_of (rows_of words.now) }
     {
-        let rows = size(words);
         let mut table = Table::empty();
-        let mut i = 0;
-        while i < rows {
+        for i in 0..size(words) {
             table = table.with_row(tag_at(words, i));
-            i += 1;
         }
         table
     }

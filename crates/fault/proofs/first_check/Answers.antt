@@ -1,4 +1,4 @@
-use mathlib.Core.Path.{refl, sym, ◌∙◌}
+use mathlib.Core.Path.{◌≡◌, refl, sym, ◌∙◌}
 use native.Mathlib.Omega.{arith}
 use borrow.Author.Tests.{lt-ltb, le-ltb}
 use lib.Dec.{ltb}
@@ -6,25 +6,12 @@ use Rattle.lists.proofs.First.{first_here, first_next, first_end}
 use Rattle.table.specs.Rows.{rows_of}
 use Rattle.rules.specs.Verdict.{first_row, first_check}
 use Rattle.rules.proofs.Cases.{passed_next}
-use borrow.Author.Rules.{rules}
 use Rattle.fault.proofs.first_check.Goals as goal
-
-pub size-rows-requires : goal.size-rows-requires
-unfolding first_check
-size-rows-requires c = search rules
 
 pub loop-check-init : goal.loop-check-init
 unfolding first_check
 loop-check-init c =
-    (omega arith, omega arith, λ k i low high l. absurd (omega arith), refl)
-
-pub first_row-requires : goal.first_row-requires
-unfolding first_check
-first_row-requires c =
-    record {
-      table_value = c.requires;
-      passed_before = c.loop-check.invariant.2;
-    }
+    (λ k i low high l. absurd (omega arith), refl)
 
 pub returns-then-first_row-rows : goal.returns-then-first_row-rows
 unfolding first_check
@@ -32,31 +19,22 @@ returns-then-first_row-rows c =
     let t = rows_of c.args.words.now in
     let k = c.loop-check.check in
     sym (first_here (λ k. ltb (first_row t k) t.size) 12 k c.loop-check-test.true
-    (lt-ltb (first_row t k) t.size (omega (arith, c.first_row.ensures, c.size-rows.ensures, c.if-first_row-rows.true)))) ∙ c.loop-check.invariant.3
-
-pub overflow_add-check : goal.overflow_add-check
-unfolding first_check
-overflow_add-check c = omega arith
-
-pub loop-check-smaller : goal.loop-check-smaller
-unfolding first_check
-loop-check-smaller c = omega arith
+    (lt-ltb (first_row t k) t.size (omega (arith, c.first_row.ensures, c.size-rows.ensures, c.if-first_row-rows.true)))) ∙ c.loop-check.invariant.1
 
 pub loop-check-preserved : goal.loop-check-preserved
 unfolding first_check
 loop-check-preserved c = (
-  omega arith,
-  omega arith,
   let t = rows_of c.args.words.now in
-      passed_next t c.loop-check.check c.loop-check.invariant.2 (omega (arith, c.first_row.ensures, c.size-rows.ensures, c.if-first_row-rows.false)),
+      passed_next t c.loop-check.check c.loop-check.invariant.0 (omega (arith, c.first_row.ensures, c.size-rows.ensures, c.if-first_row-rows.false)),
   let t = rows_of c.args.words.now in
       let k = c.loop-check.check in
       sym (first_next (λ k. ltb (first_row t k) t.size) 12 k c.loop-check-test.true
-      (le-ltb (first_row t k) t.size (omega (arith, c.first_row.ensures, c.size-rows.ensures, c.if-first_row-rows.false)))) ∙ c.loop-check.invariant.3,
+      (le-ltb (first_row t k) t.size (omega (arith, c.first_row.ensures, c.size-rows.ensures, c.if-first_row-rows.false)))) ∙ c.loop-check.invariant.1,
 )
 
 pub returns : goal.returns
 unfolding first_check
 returns c =
     let t = rows_of c.args.words.now in
-    sym (first_end (λ k. ltb (first_row t k) t.size) 12 c.loop-check.check c.loop-check-test.false) ∙ c.loop-check.invariant.3
+    let end : 12 ≡ c.loop-check.check = omega arith in
+    end ∙ sym (first_end (λ k. ltb (first_row t k) t.size) 12 c.loop-check.check c.loop-check-test.false) ∙ c.loop-check.invariant.1

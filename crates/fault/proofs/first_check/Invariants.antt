@@ -1,5 +1,5 @@
 -- The loop's invariant: the checks before have passed, and the search from a check on is the whole search.
-use Prim.Native.Nat.{◌≤◌, ◌-◌}
+use Prim.Native.Nat.{◌-◌}
 use mathlib.Core.Path.{◌≡◌}
 use lib.Dec.{ltb}
 use Rattle.lists.specs.Below.{first}
@@ -9,7 +9,4 @@ use Rattle.fault.proofs.first_check.Given as goal
 
 abbrev pub invariant-loop-check : goal.invariant-loop-check
 invariant-loop-check l =
-    (3 ≤ l.check) × (l.check ≤ 12) × PassedBefore (rows_of l.words) l.check × (first (λ k. ltb (first_row (rows_of l.words) k) (rows_of l.words).size) (12 - l.check) l.check ≡ first_check (rows_of l.words))
-
-abbrev pub decreases-loop-check : goal.decreases-loop-check
-decreases-loop-check l = 12 - l.check
+    PassedBefore (rows_of l.words) l.check × (first (λ k. ltb (first_row (rows_of l.words) k) (rows_of l.words).size) (12 - l.check) l.check ≡ first_check (rows_of l.words))

@@ -1,5 +1,5 @@
 -- The checks of sorts and uses are rule_sorts' own; for the others, the loop's invariant: the search from i on is the whole search.
-use Prim.Native.Nat.{◌≤◌, ◌-◌}
+use Prim.Native.Nat.{◌-◌}
 use mathlib.Core.Path.{◌≡◌}
 use Rattle.lists.specs.Below.{first}
 use Rattle.table.specs.Rows.{rows_of}
@@ -9,7 +9,4 @@ use Rattle.fault.proofs.first_row.Given as goal
 
 abbrev pub invariant-loop-i : goal.invariant-loop-i
 invariant-loop-i l =
-    (l.i ≤ l.rows) × (first (offends (rows_of l.words) l.check) (l.rows - l.i) l.i ≡ first_row (rows_of l.words) l.check)
-
-abbrev pub decreases-loop-i : goal.decreases-loop-i
-decreases-loop-i l = l.rows - l.i
+    first (offends (rows_of l.words) l.check) (l.rows - l.i) l.i ≡ first_row (rows_of l.words) l.check

@@ -1,52 +1,39 @@
-use Prim.Native.Nat.{ℕ, ◌+◌, ◌≤◌, ◌<◌}
+-- The numbers from where the notes start on are filled with 0.
+use Prim.Native.Nat.{ℕ, zero, suc, ◌-◌, ◌≤◌, ◌<◌}
 use mathlib.Core.Path.{◌≡◌, refl, ap, ◌∙◌}
-use mathlib.Core.Bool.{Bool, true, false}
-use mathlib.Core.List.{List}
-use mathlib.Core.Logic.{⊎_elim}
+use mathlib.Core.List.{List, [], ◌++◌, append-nil}
 use native.Mathlib.Omega.{arith}
-use native.Mathlib.Nat.{eq-or-lt_of_le}
-use borrow.Author.Tests.{ltb-true, ltb-false}
-use lib.Dec.{ltb}
-use lib.ListN.{length, get_or, set, length-set, get_or-eq_default}
-use lib.Seq.{get_or-set_same, get_or-set_other}
+use borrow.Author.Rules.{rules}
+use borrow.Rule.Slice.PartMut.{put_mid}
+use lib.ListN.{length, get_or, take, drop, replicate, length-drop, drop_of_length-le}
+use Rattle.std.proofs.lemmas.List.{places, get_or_append_left, get_or-append_right, get_or-take, length-take-le}
 use Rattle.scan.specs.Spans.{nodes_at}
-use Rattle.nodes.proofs.clear_notes.Invariants.{ZeroTo}
 use Rattle.nodes.proofs.clear_notes.Goals as goal
 
-zero_next : (s : List ℕ) (k : ℕ) → k < length s → ZeroTo s k → ZeroTo (set s k 0) (k + 1)
-zero_next s k h zeros j m l =
-    ⊎_elim (λ (e : j ≡ k). ap (λ j. get_or (set s k 0) j 0) e ∙ get_or-set_same s k 0 0 h)
-    (λ (n : j < k). get_or-set_other s k j 0 0 (λ e. omega arith) ∙ zeros j m n) (eq-or-lt_of_le (omega arith))
+zero_at : (n k : ℕ) → ◌≡◌ {A = ℕ} (get_or (replicate n 0) k 0) 0
+zero_at zero k = refl
+zero_at (suc n) zero = refl
+zero_at (suc n) (suc k) = zero_at n k
 
-zero_all : (s : List ℕ) (k : ℕ) → length s ≤ k → ZeroTo s k → (j : ℕ) → nodes_at ≤ j → get_or s j 0 ≡ 0
-zero_all s k h zeros j m = go (ltb j k) refl
-  where
-    go : (b : Bool) → ltb j k ≡ b → get_or s j 0 ≡ 0
-    go true e = zeros j m (ltb-true j k e)
-    go false e = get_or-eq_default s 0 {n = j} (omega (arith, ltb-false j k e))
+module _ (s filled : List ℕ) (a n : ℕ) (h : a ≤ length s) where
+  whole : put_mid a (length s - a) s filled ≡ take a s ++ filled
+  whole =
+      let none : drop (length s - a) (drop a s) ≡ [] = drop_of_length-le (drop a s) (simp length-drop (omega arith)) in
+      rw (none, append-nil)
 
-pub loop-k-init : goal.loop-k-init
-loop-k-init c =
-    (omega arith, refl, λ j h. refl, λ j m h. absurd (omega arith))
+  kept : (k : ℕ) → k < a → get_or (put_mid a (length s - a) s filled) k 0 ≡ get_or s k 0
+  kept k l =
+      ap (λ xs. get_or xs k 0) whole ∙ get_or_append_left (take a s) filled 0 k (omega (arith, length-take-le a s h)) ∙ get_or-take a s k 0 l
 
-pub loop-k-preserved : goal.loop-k-preserved
-loop-k-preserved c =
-    let s = c.loop-k.spans in
-    let k = c.loop-k.k in
-    let inside : k < length s = omega arith in (
-      omega arith,
-      simp length-set c.loop-k.invariant.1,
-      λ j h. get_or-set_other s k j 0 0 (λ e. omega arith) ∙ c.loop-k.invariant.2 j h,
-      zero_next s k inside c.loop-k.invariant.3,
-    )
-
-pub shape_of-spans : goal.shape_of-spans
-shape_of-spans c = c.loop-k.invariant.1
+  zeros : filled ≡ replicate n 0 → (k : ℕ) → a ≤ k → get_or (put_mid a (length s - a) s filled) k 0 ≡ 0
+  zeros e k l =
+      ap (λ xs. get_or xs k 0) whole ∙ get_or-append_right (take a s) filled a k 0 (length-take-le a s h) l ∙ ap (λ xs. get_or xs (k - a) 0) e ∙ zero_at n (k - a)
 
 pub returns : goal.returns
 returns c =
+    let s = c.args.spans.now in
     record {
-      size = c.loop-k.invariant.1;
-      kept = c.loop-k.invariant.2;
-      zeros = zero_all c.loop-k.spans c.loop-k.k (omega arith) c.loop-k.invariant.3;
+      size = search (rules, places);
+      kept = kept s c.fill.new.self nodes_at 0 (omega arith);
+      zeros = zeros s c.fill.new.self nodes_at _ (omega arith) (c.fill.ensures.after (λ y e. e));
     }

@@ -1,11 +1,7 @@
 -- The invariant: the actions of the rows before i are noted. Before the span of the actions and behind it there are none.
-use Prim.Native.Nat.{◌-◌, ◌≤◌}
 use Rattle.table.specs.Rows.{rows_of}
 use Rattle.nodes.specs.Steps.{NotedTo}
 use Rattle.nodes.proofs.note_actions.Given as goal
 
 abbrev pub invariant-loop-i : goal.invariant-loop-i
-invariant-loop-i l = (l.i ≤ l.actions.to) × NotedTo (rows_of l.words) 1 l.i l.spans
-
-abbrev pub decreases-loop-i : goal.decreases-loop-i
-decreases-loop-i l = l.actions.to - l.i
+invariant-loop-i l = NotedTo (rows_of l.words) 1 l.i l.spans

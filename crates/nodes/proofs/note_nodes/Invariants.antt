@@ -1,13 +1,9 @@
 -- The invariant: the nodes below n are noted, and n is at most one more than the last, which is up to the limit.
-use Prim.Native.Nat.{◌+◌, ◌-◌, ◌≤◌}
+use Prim.Native.Nat.{◌+◌, ◌≤◌}
 use Rattle.table.specs.Rows.{rows_of}
-use Rattle.nodes.specs.Notes.{node_limit}
 use Rattle.nodes.specs.Steps.{NotedTo}
 use Rattle.nodes.proofs.note_nodes.Given as goal
 
 abbrev pub invariant-loop-n : goal.invariant-loop-n
 invariant-loop-n l =
-    (l.last ≤ node_limit) × (1 ≤ l.n) × (l.n ≤ l.last + 1) × NotedTo (rows_of l.words) l.n (rows_of l.words).size l.spans
-
-abbrev pub decreases-loop-n : goal.decreases-loop-n
-decreases-loop-n l = l.last + 1 - l.n
+    (l.n ≤ l.last + 1) × NotedTo (rows_of l.words) l.n (rows_of l.words).size l.spans

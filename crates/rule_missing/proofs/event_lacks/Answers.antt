@@ -1,20 +1,14 @@
 use mathlib.Core.Path.{sym, ◌∙◌}
 use native.Mathlib.Omega.{arith}
-use borrow.Author.Tests.{eq-eqb, ne_eqb}
+use borrow.Author.Tests.{eq-eqb}
 use Rattle.lists.specs.Below.{some_below}
 use Rattle.lists.proofs.Below.{some_passes, some_fails}
 use Rattle.lists.proofs.First.{none_next}
 use Rattle.table.specs.Rows.{rows_of, tagged}
 use Rattle.rules.specs.Rules.{lacks_for}
 use Rattle.scan.proofs.Within.{spans_none}
-use Rattle.rule_missing.proofs.Tests.{and_passed, and_failed, identifiers_span}
+use Rattle.rule_missing.proofs.Tests.{and_passed, identifiers_span}
 use Rattle.rule_missing.proofs.event_lacks.Goals as goal
-
-pub returns-then-tag_at-ne-EVENT : goal.returns-then-tag_at-ne-EVENT
-returns-then-tag_at-ne-EVENT c =
-    let a = c.args in
-    let t = rows_of a.words.now in
-    sym (and_failed (tagged t 40 a.i) (some_below (lacks_for t a.i) t.size) (ne_eqb (t.tag a.i) 40 (λ e. c.if-tag_at-ne-EVENT.true (c.tag_at.ensures ∙ e))))
 
 pub loop-j-init : goal.loop-j-init
 loop-j-init c =

@@ -1,5 +1,4 @@
 -- The loop's invariant: of no row before j the event lacks something; and past the identifiers there is none.
-use Prim.Native.Nat.{◌-◌}
 use Rattle.lists.specs.Below.{NoneBelow}
 use Rattle.table.specs.Rows.{rows_of}
 use Rattle.rules.specs.Rules.{lacks_for}
@@ -7,6 +6,3 @@ use Rattle.rule_missing.proofs.event_lacks.Given as goal
 
 abbrev pub invariant-loop-j : goal.invariant-loop-j
 invariant-loop-j l = NoneBelow (lacks_for (rows_of l.words) l.i) l.j
-
-abbrev pub decreases-loop-j : goal.decreases-loop-j
-decreases-loop-j l = l.identifiers.to - l.j

@@ -1,7 +1,6 @@
 use mathlib.Core.Path.{sym, ◌∙◌}
 use native.Mathlib.Omega.{arith}
 use Rattle.lists.proofs.Below.{some_passes, some_fails}
-use Rattle.lists.proofs.First.{none_next}
 use Rattle.table.specs.Rows.{rows_of}
 use Rattle.rules.specs.Rules.{event_lacks}
 use Rattle.scan.proofs.Within.{spans_none}
@@ -20,11 +19,6 @@ pub returns-then-event_lacks : goal.returns-then-event_lacks
 returns-then-event_lacks c =
     let t = rows_of c.args.words.now in
     sym (some_passes (event_lacks t) t.size c.loop-i.i (omega (arith, c.loop-i-test.true, (events_span t c.span_at-events.ensures).within)) (sym c.event_lacks.ensures ∙ c.if-event_lacks.true))
-
-pub loop-i-preserved : goal.loop-i-preserved
-loop-i-preserved c =
-    let t = rows_of c.args.words.now in
-    none_next (event_lacks t) c.loop-i.i c.loop-i.invariant (sym c.event_lacks.ensures ∙ c.if-event_lacks.false)
 
 pub returns : goal.returns
 returns c =

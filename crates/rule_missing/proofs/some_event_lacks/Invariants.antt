@@ -1,5 +1,4 @@
 -- The loop's invariant: no row before i is an event that lacks something; and past the events there is none.
-use Prim.Native.Nat.{◌-◌}
 use Rattle.lists.specs.Below.{NoneBelow}
 use Rattle.table.specs.Rows.{rows_of}
 use Rattle.rules.specs.Rules.{event_lacks}
@@ -7,6 +6,3 @@ use Rattle.rule_missing.proofs.some_event_lacks.Given as goal
 
 abbrev pub invariant-loop-i : goal.invariant-loop-i
 invariant-loop-i l = NoneBelow (event_lacks (rows_of l.words)) l.i
-
-abbrev pub decreases-loop-i : goal.decreases-loop-i
-decreases-loop-i l = l.events.to - l.i

@@ -1,25 +1,16 @@
 use mathlib.Core.Path.{◌≡◌, sym, ◌∙◌}
 use native.Mathlib.Omega.{arith}
-use Rattle.lists.proofs.First.{none_next, first_at, first_none}
+use Rattle.lists.proofs.First.{first_at, first_none}
 use Rattle.table.specs.Rows.{rows_of}
 use Rattle.scan.specs.Query.{passes_of}
 use Rattle.scan.proofs.Within.{spans_none}
 use Rattle.scan.proofs.find_within.Goals as goal
-
-pub loop-i-init : goal.loop-i-init
-loop-i-init c = c.requires.below
 
 pub returns-then-passes : goal.returns-then-passes
 returns-then-passes c =
     let t = rows_of c.args.words.now in
     let passes : c.passes.result ≡ passes_of t c.args.query c.loop-i.i = simp (c.passes.ensures, c.b_at.ensures, c.a_at.ensures, c.tag_at.ensures) in
     first_at (passes_of t c.args.query) t.size c.loop-i.i c.loop-i.invariant (omega (arith, c.requires.within, c.loop-i-test.true)) (sym passes ∙ c.if-passes.true)
-
-pub loop-i-preserved : goal.loop-i-preserved
-loop-i-preserved c =
-    let t = rows_of c.args.words.now in
-    let passes : c.passes.result ≡ passes_of t c.args.query c.loop-i.i = simp (c.passes.ensures, c.b_at.ensures, c.a_at.ensures, c.tag_at.ensures) in
-    none_next (passes_of t c.args.query) c.loop-i.i c.loop-i.invariant (sym passes ∙ c.if-passes.false)
 
 pub returns : goal.returns
 returns c =

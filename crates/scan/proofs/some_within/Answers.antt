@@ -6,9 +6,6 @@ use Rattle.table.specs.Rows.{rows_of}
 use Rattle.scan.specs.Query.{passes_of}
 use Rattle.scan.proofs.some_within.Goals as goal
 
-pub loop-i-init : goal.loop-i-init
-loop-i-init c = c.requires
-
 pub returns-then-passes : goal.returns-then-passes
 returns-then-passes c =
     let t = rows_of c.args.words.now in
