@@ -20,7 +20,7 @@ ghost use Rattle.bench.specs.Press.{answered, after_by, completed};
 use evaluate::{evaluate_expression, value_at};
 use scan::action_row;
 use signed::Found;
-use state::copy_values;
+use state::copy_list;
 use table::{Table, c_at, size, tag, tag_at};
 use values::{is_state_variable, move_values, put};
 
@@ -129,7 +129,7 @@ pub fn update_values(words: &[u64], table: Table, after: &[i64], values: &mut [i
     ensures { values.new ≡ updated (rows_of words.now) after.now values.old }
 {
     let mut left = [0i64; Table::IDENTIFIERS as usize + 1];
-    copy_values(values, &mut left[1..]);
+    copy_list(values, &mut left[1..]);
     move_values(words, table, &mut left, after);
-    copy_values(&left[1..], values);
+    copy_list(&left[1..], values);
 }
