@@ -109,9 +109,8 @@ fn press_event(
     ensures values_after { values.new ≡ kept_or (λ zs. zs) values.old (press_choice (rows_of words.now) values.old (chosen e (values_of present.now after.old))) }
 {
     complete_values(words, table, spans, e, present, after);
-    let fault = press_fault(words, table, spans, present, after, e);
-    if fault != 0 {
-        return Press::Refused(fault, 0);
+    if let Err(fault) = press_fault(words, table, spans, present, after, e) {
+        return Press::Refused(fault.number(), 0);
     }
     update_values(words, table, after, values);
     Press::Performed
