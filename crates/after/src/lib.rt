@@ -1,9 +1,8 @@
 // 02, request 6: the after values of a step that is pressed, and the values of the state that it leaves.
 #![tactic(auto)]
 
-ghost use Rattle.std.specs.Prelude.{◌≡◌, ◌+◌, ◌≤◌, ◌<◌, pos, length, set, []};
+ghost use Rattle.std.specs.Prelude.{◌≡◌, ◌+◌, ◌≤◌, ◌<◌, length, set, []};
 ghost use Rattle.lists.specs.Choice.{pick};
-ghost use Rattle.lists.specs.Below.{one_if};
 ghost use Rattle.table.specs.Names.{identifier_tag};
 ghost use Rattle.table.specs.Rows.{rows_of, count};
 ghost use Rattle.table.specs.Counts.{counts_of};
@@ -19,30 +18,19 @@ ghost use Rattle.bench.specs.Press.{answered, after_by, completed};
 
 use evaluate::{evaluate_expression, value_at};
 use scan::action_row;
-use signed::Found;
-use state::copy_values;
+use signed::{Found, Value};
+use state::copy_list;
 use table::{Table, c_at, size, tag, tag_at};
 use values::{is_state_variable, move_values, put};
-
-// A truth value as a number.
-fn of_truth(truth: bool) -> i64
-    ensures { result ≡ pos (one_if truth) }
-{
-    if truth {
-        return 1;
-    }
-    0
-}
 
 // The number of a formula's value; where it has none, the step has a fault.
 fn answered(found: Found) -> i64
     ensures { result ≡ answered (answer_of found) }
 {
     match found {
-        Found::Number(value) => value,
-        Found::Truth(truth) => of_truth(truth),
-        Found::Outside => 0,
-        Found::Undefined => 0,
+        Ok(Value::Number(value)) => value,
+        Ok(Value::Truth(truth)) => i64::from(truth),
+        Err(_) => 0,
     }
 }
 
@@ -116,10 +104,8 @@ pub fn complete_values(
     requires { (table ≡ counts_of (rows_of words.now)) × Spanned (rows_of words.now) spans.now }
     ensures { values_of present.now after.new ≡ completed (rows_of words.now) e (values_of present.now after.old) }
 {
-    let mut x = 0;
-    while x < table.identifiers {
-        x += 1;
-        complete_value(words, table, spans, e, x, present, after);
+    for x in 0..table.identifiers {
+        complete_value(words, table, spans, e, x + 1, present, after);
     }
 }
 
@@ -129,7 +115,7 @@ pub fn update_values(words: &[u64], table: Table, after: &[i64], values: &mut [i
     ensures { values.new ≡ updated (rows_of words.now) after.now values.old }
 {
     let mut left = [0i64; Table::IDENTIFIERS as usize + 1];
-    copy_values(values, &mut left[1..]);
+    copy_list(values, &mut left[1..]);
     move_values(words, table, &mut left, after);
-    copy_values(&left[1..], values);
+    copy_list(&left[1..], values);
 }

@@ -15,10 +15,11 @@ use Rattle.machine.specs.Operator.{Operator, literalOf, identifierOf, after_of, 
 use Rattle.machine.specs.Described.{node, tree_to, tree_of}
 use Rattle.machine.proofs.Described.{operand_falls, tree_step}
 use Rattle.answer.specs.Answer.{Answer, answer, right_of as right_answer, operands, binary_answer, connective_answer}
-use Rattle.signed.specs.Found.{found_of, answer_of}
+use Rattle.std.specs.Prelude.{Ok, Err}
+use Rattle.signed.specs.Found.{Found, found_of, answer_of}
 use Rattle.signed.proofs.Answers.{answer_found}
-use Rattle.signed.specs.declared.Found.{Found}
-use Rattle.signed.specs.declared.Found.TheVariants.{Number, Truth, Outside, Undefined}
+use Rattle.signed.specs.declared.Value.TheVariants.{Number, Truth}
+use Rattle.signed.specs.declared.Fault.TheVariants.{Outside, Undefined}
 use Rattle.evaluate.specs.Evaluate.{bottom_number, operator_at, is_leaf, leaf_answer, combined, reads_right_of}
 
 -- a right side that is not read
@@ -38,15 +39,15 @@ right_unread (binary_of times) l e r s = absurd (true≢false e)
 right_unread (binary_of equal) l e r s = absurd (true≢false e)
 right_unread (binary_of less) l e r s = absurd (true≢false e)
 right_unread (binary_of at_most) l e r s = absurd (true≢false e)
-right_unread (binary_of iff) (Number z) e r s = absurd (true≢false e)
-right_unread (binary_of iff) (Truth b) e r s = absurd (true≢false e)
-right_unread (binary_of iff) Outside e r s = refl
-right_unread (binary_of iff) Undefined e r s = refl
+right_unread (binary_of iff) (Ok (Number z)) e r s = absurd (true≢false e)
+right_unread (binary_of iff) (Ok (Truth b)) e r s = absurd (true≢false e)
+right_unread (binary_of iff) (Err Outside) e r s = refl
+right_unread (binary_of iff) (Err Undefined) e r s = refl
 right_unread (division_of o) l e r s = absurd (true≢false e)
-right_unread (connective_of o) (Number z) e r s = unread o (number z) e r s
-right_unread (connective_of o) (Truth b) e r s = unread o (truth b) e r s
-right_unread (connective_of o) Outside e r s = refl
-right_unread (connective_of o) Undefined e r s = refl
+right_unread (connective_of o) (Ok (Number z)) e r s = unread o (number z) e r s
+right_unread (connective_of o) (Ok (Truth b)) e r s = unread o (truth b) e r s
+right_unread (connective_of o) (Err Outside) e r s = refl
+right_unread (connective_of o) (Err Undefined) e r s = refl
 right_unread unknown l e r s = refl
 
 module _ {type : ℕ → ValueType} (ρ : Env type) where

@@ -1,14 +1,16 @@
 -- What the code asks of a node's operator: whether it takes operands, what a leaf's answer is, whether the right operand is read, and what the operands' answers give.
-use Rattle.std.specs.Prelude.{Bool, true, false, ◌&&◌, ℕ, eqb}
+use Rattle.std.specs.Prelude.{Bool, true, false, ℕ, eqb, Ok, Err}
+use Rattle.std.specs.Bool.{beq}
+use Rattle.std.specs.Result.{is_ok}
 use Rattle.lists.specs.Choice.{pick}
 use Rattle.table.specs.Rows.{Rows, operator_of}
 use Rattle.formula.specs.Values.{ValueType, truth, as_truth}
-use Rattle.formula.specs.Tree.{literal, bottom, Binary, plus, minus, times, equal, less, at_most, iff, constant, identifier, after}
+use Rattle.formula.specs.Tree.{literal, bottom, Binary, plus, minus, times, equal, less, at_most, iff, Connective, constant, identifier, after}
 use Rattle.formula.specs.Evaluate.{Env, reads_right}
 use Rattle.machine.specs.Operator.{Operator, literalOf, identifierOf, after_of, constant_of, unary_of, binary_of, division_of, connective_of, unknown}
 use Rattle.answer.specs.Answer.{Answer, value, answer, unary_answer, binary_answer, division_answer, connective_answer}
-use Rattle.signed.specs.declared.Found.{Found}
-use Rattle.operands.specs.Operands.{is_value, value_of}
+use Rattle.signed.specs.Found.{Found}
+use Rattle.operands.specs.Operands.{value_of}
 
 -- "31 ⊥"
 abbrev pub bottom_number : ℕ
@@ -61,7 +63,16 @@ binary_reads_right times l = true
 binary_reads_right equal l = true
 binary_reads_right less l = true
 binary_reads_right at_most l = true
-binary_reads_right iff l = is_value l
+binary_reads_right iff l = is_ok l
+
+-- a value where a truth value is wanted, of this truth
+abbrev pub has_truth : Found → Bool → Bool
+has_truth (Ok v) b = beq (as_truth (value_of v)) b
+has_truth (Err e) b = false
+
+abbrev pub connective_reads_right : Connective → Found → Bool
+connective_reads_right o (Ok v) = reads_right o (as_truth (value_of v))
+connective_reads_right o (Err e) = false
 
 -- whether the right operand is read, by the answer of the left one
 abbrev pub reads_right_of : Operator → Found → Bool
@@ -72,5 +83,5 @@ reads_right_of (constant_of c) l = false
 reads_right_of (unary_of o) l = false
 reads_right_of (binary_of o) l = binary_reads_right o l
 reads_right_of (division_of o) l = true
-reads_right_of (connective_of o) l = is_value l && reads_right o (as_truth (value_of l))
+reads_right_of (connective_of o) l = connective_reads_right o l
 reads_right_of unknown l = false

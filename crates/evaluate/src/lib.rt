@@ -1,7 +1,7 @@
 // 02, request 5: what evaluating a formula in signed 64 bits gives, at values of the identifiers. Expressions and predicates call each other, with the node number falling.
 #![tactic(auto)]
 
-ghost use Rattle.std.specs.Prelude.{◌≡◌, ◌+◌, ◌*◌, ◌<◌, pos, get_or};
+ghost use Rattle.std.specs.Prelude.{◌≡◌, ◌+◌, ◌*◌, ◌<◌, pos, get_or, Ok};
 ghost use Rattle.table.specs.Names.{identifier_tag, node_tag};
 ghost use Rattle.table.specs.Rows.{rows_of, start, row_of, type_of};
 ghost use Rattle.formula.specs.Values.{wrap};
@@ -10,15 +10,15 @@ ghost use Rattle.machine.specs.Described.{type_numbered, tree_of, machine_of};
 ghost use Rattle.answer.specs.Answer.{within, answer};
 ghost use Rattle.answer.specs.Stored.{stored_value, stored_env};
 ghost use Rattle.signed.specs.Found.{found_of, answer_of};
-ghost use Rattle.evaluate.specs.Evaluate.{operator_at, is_leaf, leaf_answer, combined, reads_right_of};
+ghost use Rattle.evaluate.specs.Evaluate.{operator_at, is_leaf, leaf_answer, combined, has_truth, reads_right_of};
 
 use operands::{
     and_answer, as_truth, at_most_answer, bool_answer, equal_answer, iff_answer, implies_answer,
-    is_value, less_answer, minus_answer, negation_answer, not_answer, or_answer, plus_answer,
+    less_answer, minus_answer, negation_answer, not_answer, or_answer, plus_answer,
     quotient_answer, remainder_answer, times_answer,
 };
 use operators::find_operator;
-use signed::{Found, equal, of_word};
+use signed::{Found, Value, of_word};
 use table::{Table, field, operand, operator, sort};
 
 // What an operator gives of its operands' answers, one by one in 01's order.
@@ -41,7 +41,7 @@ fn combine(operator: u64, left: Found, right: Found) -> Found
         operator::OR => or_answer(left, right),
         operator::IMPLIES => implies_answer(left, right),
         operator::IFF => iff_answer(left, right),
-        _ => Found::Truth(false), // a leaf, or unknown
+        _ => Ok(Value::Truth(false)), // a leaf, or unknown
     }
 }
 
@@ -69,39 +69,46 @@ fn is_leaf(operator: u64) -> bool
     }
 }
 
+// Whether a side has a value of this truth.
+fn has_truth(side: Found, truth: bool) -> bool
+    ensures { result ≡ has_truth side truth }
+{
+    match side {
+        Ok(v) => as_truth(v) == truth,
+        Err(_) => false,
+    }
+}
+
 // Whether an operator reads its right operand, by the answer of its left one: "∧ and ⇒ read their right side only where the left is true, ∨ only where it is
 // false"; "∧, ∨, ⇒ and ⇔ stop at a faulty left side".
 fn reads_right(operator: u64, left: Found) -> bool
     ensures { result ≡ reads_right_of (operator_numbered operator) left }
 {
     match operator {
-        operator::BOOL => false,
         operator::PLUS => true,
         operator::MINUS => true,
         operator::TIMES => true,
         operator::QUOTIENT => true,
         operator::REMAINDER => true,
-        operator::NEGATION => false,
         operator::EQUAL => true,
         operator::LESS => true,
         operator::AT_MOST => true,
-        operator::NOT => false,
-        operator::AND => is_value(left) & as_truth(left),
-        operator::OR => is_value(left) & !as_truth(left),
-        operator::IMPLIES => is_value(left) & as_truth(left),
-        operator::IFF => is_value(left),
-        _ => false, // a leaf, or unknown
+        operator::AND => has_truth(left, true),
+        operator::OR => has_truth(left, false),
+        operator::IMPLIES => has_truth(left, true),
+        operator::IFF => left.is_ok(),
+        _ => false, // one operand, a leaf, or unknown
     }
 }
 
 // The value of an identifier of a type, as it is stored.
-pub fn stored_value(sort: u64, value: i64) -> Found
-    ensures { result ≡ found_of (within (wrap (type_numbered sort) (stored_value (type_numbered sort) value))) }
+pub fn stored_value(sort: u64, value: i64) -> Value
+    ensures { Ok result ≡ found_of (within (wrap (type_numbered sort) (stored_value (type_numbered sort) value))) }
 {
     if sort == sort::BOOLEAN {
-        return Found::Truth(equal(value, 1));
+        return Value::Truth(value == 1);
     }
-    Found::Number(value)
+    Value::Number(value)
 }
 
 // The value in a place of a list; 0 past its end.
@@ -141,17 +148,17 @@ fn leaf(
     ensures { result ≡ found_of (leaf_answer (stored_env (machine_of (rows_of words.now)).type present.now after.now) (operator_numbered operator) b) }
 {
     match operator {
-        operator::LITERAL => Found::Number(of_word(b)),
-        operator::IDENTIFIER => stored_value(
-            identifier_type(words, identifiers, b),
-            value_at(present, b),
-        ),
-        operator::AFTER => stored_value(identifier_type(words, identifiers, b), value_at(after, b)),
-        operator::TRUE => Found::Truth(true),
-        operator::FALSE => Found::Truth(false),
-        operator::TOP => Found::Truth(true),
-        operator::BOTTOM => Found::Truth(false),
-        _ => Found::Truth(false), // unknown, or no leaf
+        operator::LITERAL => Ok(Value::Number(of_word(b))),
+        operator::IDENTIFIER => {
+            let sort = identifier_type(words, identifiers, b);
+            Ok(stored_value(sort, value_at(present, b)))
+        }
+        operator::AFTER => {
+            let sort = identifier_type(words, identifiers, b);
+            Ok(stored_value(sort, value_at(after, b)))
+        }
+        operator::TRUE | operator::TOP => Ok(Value::Truth(true)),
+        _ => Ok(Value::Truth(false)), // FALSE, ⊥, unknown, or no leaf
     }
 }
 

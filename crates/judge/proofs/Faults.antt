@@ -10,7 +10,22 @@ use lib.Dec.{eqb}
 use Rattle.lists.specs.Choice.{pick}
 use Rattle.lists.specs.Below.{numbers, keep}
 use Rattle.recording.specs.Faults.{no_fault, first_fault}
-use Rattle.judge.specs.Judge.{fault_or}
+use Rattle.std.specs.Prelude.{Result}
+use Rattle.std.specs.Result.{IsErrAnd}
+use Rattle.std.proofs.lemmas.Result.{err_from_is_err_and}
+use Rattle.judge.specs.declared.StepFault.{StepFault}
+use Rattle.judge.specs.declared.StepFault.TheVariants.{Outside, Undefined, NotAllowed}
+use Rattle.judge.specs.Judge.{number_of, fault_number, fault_or}
+
+-- a fault's number is that of a fault
+pub is_fault : (e : StepFault) {a : ℕ} → number_of e ≡ a → a ≡ 0 → ⊥
+is_fault Outside p q = omega (arith, p, q)
+is_fault Undefined p q = omega (arith, p, q)
+is_fault NotAllowed p q = omega (arith, p, q)
+
+-- the fault that is handed on
+pub handed_on : (k : Result Unit StepFault) (e : StepFault) {a : ℕ} → IsErrAnd k (λ y. y ≡ e) → number_of e ≡ a → fault_number k ≡ a
+handed_on k e h p = let q = err_from_is_err_and k h in rw (q.1, q.2) p
 
 pub first_join : (xs ys : List ℕ) → first_fault (xs ++ ys) ≡ fault_or (first_fault xs) (first_fault ys)
 unfolding first_fault

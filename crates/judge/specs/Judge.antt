@@ -1,13 +1,32 @@
 -- How the code goes through what a step is judged by: the rows of axioms and guards, then the identifiers; what isn't to be judged has no fault.
-use Rattle.std.specs.Prelude.{Bool, ◌&&◌, ◌||◌, List, [], map, ℕ, eqb, ℤ}
+use Rattle.std.specs.Prelude.{Result, Ok, Err, Bool, ◌&&◌, ◌||◌, List, [], map, ℕ, eqb, ℤ}
 use Rattle.lists.specs.Choice.{pick}
 use Rattle.lists.specs.Below.{numbers}
 use Rattle.answer.specs.Stored.{stored_env}
+use Rattle.signed.specs.declared.Fault.{Fault}
+use Rattle.signed.specs.declared.Fault.TheVariants as evaluation
+use Rattle.judge.specs.declared.StepFault.{StepFault}
+use Rattle.judge.specs.declared.StepFault.TheVariants.{Outside, Undefined, NotAllowed}
 use Rattle.table.specs.Names.{axiom_tag, identifier_tag}
 use Rattle.table.specs.Rows.{Rows, tagged, count}
 use Rattle.machine.specs.Described.{action_of, machine_of}
 use Rattle.recording.specs.Rows.{is_state_variable}
-use Rattle.recording.specs.Faults.{no_fault, first_fault, untrue, not_allowed}
+use Rattle.recording.specs.Faults.{no_fault, outside_fault, undefined_fault, log_fault, first_fault, untrue, not_allowed}
+
+-- the number of a fault in a refusal, and of what the code hands up
+abbrev pub number_of : StepFault → ℕ
+number_of Outside = outside_fault
+number_of Undefined = undefined_fault
+number_of NotAllowed = log_fault
+
+abbrev pub fault_number : Result Unit StepFault → ℕ
+fault_number (Ok u) = no_fault
+fault_number (Err e) = number_of e
+
+-- the fault of a formula that has no value
+abbrev pub step_fault_of : Fault → StepFault
+step_fault_of evaluation.Outside = Outside
+step_fault_of evaluation.Undefined = Undefined
 
 -- a fault, or the next one
 abbrev pub fault_or : ℕ → ℕ → ℕ

@@ -1,5 +1,5 @@
 // 02, request 5: what is wrong with a step whose values are stored: "axioms at the initialisation, then guards, then each variable (assigned or not) in order,
-// stopping at the first fault". A fault is 16, 17 or 18; 0 is none.
+// stopping at the first fault".
 #![tactic(auto)]
 
 ghost use Rattle.std.specs.Prelude.{◌≡◌, ◌≤◌};
@@ -12,44 +12,71 @@ ghost use Rattle.operands.specs.Operands.{value_of};
 ghost use Rattle.recording.specs.Rows.{is_initial};
 ghost use Rattle.recording.specs.Faults.{differs, fault_of, step_fault};
 ghost use Rattle.bench.specs.Press.{press_fault};
-ghost use Rattle.judge.specs.Judge.{is_judged, judged_root, root_fault, row_fault, first_untrue, action_fault, variable_fault, first_not_allowed};
+ghost use Rattle.judge.specs.Judge.{number_of, fault_number, step_fault_of, is_judged, judged_root, root_fault, row_fault, first_untrue, action_fault, variable_fault, first_not_allowed};
 
 use evaluate::{evaluate_expression, evaluate_predicate, stored_value, value_at};
 use events::is_initial;
 use operands::equal_values;
 use recording::Replay;
 use scan::{action_row, span_at};
-use signed::Found;
+use signed::{Fault, Found, Value};
 use table::{
     Table, a_at, b_at, c_at, identifier, identifier_field, is_variable_of, size, tag, tag_at,
 };
 
+// What is wrong with a step: "16 marks an evaluated term outside 64 bits and 17 an undefined one"; 18 "a step that isn't allowed".
+#[derive(Clone, Copy, PartialEq, Eq)]
+pub enum StepFault {
+    Outside,
+    Undefined,
+    NotAllowed,
+}
+
+impl StepFault {
+    // Its number in a refusal.
+    pub fn number(self) -> u64
+        ensures { result ≡ number_of self }
+    {
+        match self {
+            StepFault::Outside => Replay::OUTSIDE,
+            StepFault::Undefined => Replay::UNDEFINED,
+            StepFault::NotAllowed => Replay::LOG,
+        }
+    }
+}
+
+impl From<Fault> for StepFault {
+    ghost from_gives = { λ fault made. made ≡ step_fault_of fault };
+
+    fn from(fault: Fault) -> StepFault {
+        match fault {
+            Fault::Outside => StepFault::Outside,
+            Fault::Undefined => StepFault::Undefined,
+        }
+    }
+}
+
 // Values that have to be equal.
-fn differs(expected: Found, found: Found) -> u64
-    ensures { result ≡ differs (value_of expected) (value_of found) }
+fn differs(expected: Value, found: Value) -> Result<(), StepFault>
+    ensures { fault_number result ≡ differs (value_of expected) (value_of found) }
 {
     if equal_values(expected, found) {
-        return 0;
+        return Ok(());
     }
-    Replay::LOG
+    Err(StepFault::NotAllowed)
 }
 
 // A formula that has to have a value.
-fn fault_of(expected: Found, found: Found) -> u64
-    ensures { result ≡ fault_of (value_of expected) (answer_of found) }
+fn fault_of(expected: Value, found: Found) -> Result<(), StepFault>
+    ensures { fault_number result ≡ fault_of (value_of expected) (answer_of found) }
 {
-    match found {
-        Found::Number(_) => differs(expected, found),
-        Found::Truth(_) => differs(expected, found),
-        Found::Outside => Replay::OUTSIDE,
-        Found::Undefined => Replay::UNDEFINED,
-    }
+    differs(expected, found?)
 }
 
 // An axiom's or a guard's formula, which has to be true; it reads no after value.
-fn root_fault(words: &[u64], table: Table, present: &[i64], root: u64) -> u64
+fn root_fault(words: &[u64], table: Table, present: &[i64], root: u64) -> Result<(), StepFault>
     requires { table ≡ counts_of (rows_of words.now) }
-    ensures { result ≡ root_fault (rows_of words.now) present.now root }
+    ensures { fault_number result ≡ root_fault (rows_of words.now) present.now root }
 {
     let found = evaluate_predicate(
         words,
@@ -59,7 +86,7 @@ fn root_fault(words: &[u64], table: Table, present: &[i64], root: u64) -> u64
         &present[..0],
         root,
     );
-    fault_of(Found::Truth(true), found)
+    fault_of(Value::Truth(true), found)
 }
 
 // Whether row i is an axiom, or a guard of the event e.
@@ -80,14 +107,21 @@ fn judged_root(words: &[u64], tag: u64, i: usize) -> u64
 }
 
 // What is wrong with row i.
-fn row_fault(words: &[u64], table: Table, present: &[i64], tag: u64, e: u64, i: usize) -> u64
+fn row_fault(
+    words: &[u64],
+    table: Table,
+    present: &[i64],
+    tag: u64,
+    e: u64,
+    i: usize,
+) -> Result<(), StepFault>
     requires { table ≡ counts_of (rows_of words.now) }
-    ensures { result ≡ row_fault (rows_of words.now) present.now tag e i }
+    ensures { fault_number result ≡ row_fault (rows_of words.now) present.now tag e i }
 {
     if is_judged(words, tag, e, i) {
         return root_fault(words, table, present, judged_root(words, tag, i));
     }
-    0
+    Ok(())
 }
 
 // The first fault of the axioms, or of the guards of the event e. Only the rows are read between which those of the tag stand.
@@ -98,20 +132,15 @@ fn first_untrue(
     present: &[i64],
     tag: u64,
     e: u64,
-) -> u64
+) -> Result<(), StepFault>
     requires { (table ≡ counts_of (rows_of words.now)) × Spanned (rows_of words.now) spans.now × (tag ≤ 50) }
-    ensures { result ≡ first_untrue (rows_of words.now) present.now tag e }
+    ensures { fault_number result ≡ first_untrue (rows_of words.now) present.now tag e }
 {
     let span = span_at(words, spans, tag);
-    let mut i = span.from;
-    while i < span.to {
-        let fault = row_fault(words, table, present, tag, e, i);
-        if fault != 0 {
-            return fault;
-        }
-        i += 1;
+    for i in span.from..span.to {
+        row_fault(words, table, present, tag, e, i)?;
     }
-    0
+    Ok(())
 }
 
 // What is wrong with the after value of the variable x: "51: the root in the state before against the logged value; 52: the predicate with the logged after value;
@@ -124,15 +153,15 @@ fn action_fault(
     after: &[i64],
     e: u64,
     x: u64,
-) -> u64
+) -> Result<(), StepFault>
     requires { (table ≡ counts_of (rows_of words.now)) × Spanned (rows_of words.now) spans.now }
-    ensures { result ≡ action_fault (rows_of words.now) present.now after.now e x }
+    ensures { fault_number result ≡ action_fault (rows_of words.now) present.now after.now e x }
 {
     let i = action_row(words, spans, e, x);
     let sort = identifier_field(words, table, x, Table::TYPE);
     let moved = stored_value(sort, value_at(after, x));
     if size(words) <= i {
-        return fault_of(moved, stored_value(sort, value_at(present, x)));
+        return differs(moved, stored_value(sort, value_at(present, x)));
     }
     let root = c_at(words, i);
     if tag_at(words, i) == tag::BECOMES_EQUAL {
@@ -154,7 +183,7 @@ fn action_fault(
         after,
         root,
     );
-    fault_of(Found::Truth(true), met)
+    fault_of(Value::Truth(true), met)
 }
 
 // The same of the identifier x, where it is a variable of the concrete machine.
@@ -166,15 +195,15 @@ fn variable_fault(
     after: &[i64],
     e: u64,
     x: u64,
-) -> u64
+) -> Result<(), StepFault>
     requires { (table ≡ counts_of (rows_of words.now)) × Spanned (rows_of words.now) spans.now }
-    ensures { result ≡ variable_fault (rows_of words.now) present.now after.now e x }
+    ensures { fault_number result ≡ variable_fault (rows_of words.now) present.now after.now e x }
 {
     let kind = identifier_field(words, table, x, Table::KIND);
     if is_variable_of(identifier::CONCRETE_VARIABLE, kind) {
         return action_fault(words, table, spans, present, after, e, x);
     }
-    0
+    Ok(())
 }
 
 // The first fault of the variables, in identifier order.
@@ -185,30 +214,31 @@ fn first_not_allowed(
     present: &[i64],
     after: &[i64],
     e: u64,
-) -> u64
+) -> Result<(), StepFault>
     requires { (table ≡ counts_of (rows_of words.now)) × Spanned (rows_of words.now) spans.now }
-    ensures { result ≡ first_not_allowed (rows_of words.now) present.now after.now e }
+    ensures { fault_number result ≡ first_not_allowed (rows_of words.now) present.now after.now e }
 {
-    let mut x = 0;
-    while x < table.identifiers {
-        x += 1;
-        let fault = variable_fault(words, table, spans, present, after, e, x);
-        if fault != 0 {
-            return fault;
-        }
+    for x in 0..table.identifiers {
+        variable_fault(words, table, spans, present, after, e, x + 1)?;
     }
-    0
+    Ok(())
 }
 
 // The first fault of the axioms, where the event is an initialisation.
-fn axiom_fault(words: &[u64], table: Table, spans: &[usize], present: &[i64], e: u64) -> u64
+fn axiom_fault(
+    words: &[u64],
+    table: Table,
+    spans: &[usize],
+    present: &[i64],
+    e: u64,
+) -> Result<(), StepFault>
     requires { (table ≡ counts_of (rows_of words.now)) × Spanned (rows_of words.now) spans.now }
-    ensures { result ≡ pick (is_initial (rows_of words.now) e) (first_untrue (rows_of words.now) present.now 30 e) 0 }
+    ensures { fault_number result ≡ pick (is_initial (rows_of words.now) e) (first_untrue (rows_of words.now) present.now 30 e) 0 }
 {
     if is_initial(words, table, e) {
         return first_untrue(words, table, spans, present, tag::AXIOM, e);
     }
-    0
+    Ok(())
 }
 
 // The first fault of a step of the event e.
@@ -219,18 +249,12 @@ pub fn step_fault(
     present: &[i64],
     after: &[i64],
     e: u64,
-) -> u64
+) -> Result<(), StepFault>
     requires { (table ≡ counts_of (rows_of words.now)) × Spanned (rows_of words.now) spans.now }
-    ensures { result ≡ step_fault (rows_of words.now) e present.now after.now }
+    ensures { fault_number result ≡ step_fault (rows_of words.now) e present.now after.now }
 {
-    let axiom = axiom_fault(words, table, spans, present, e);
-    if axiom != 0 {
-        return axiom;
-    }
-    let guard = first_untrue(words, table, spans, present, tag::GUARD, e);
-    if guard != 0 {
-        return guard;
-    }
+    axiom_fault(words, table, spans, present, e)?;
+    first_untrue(words, table, spans, present, tag::GUARD, e)?;
     first_not_allowed(words, table, spans, present, after, e)
 }
 
@@ -242,13 +266,10 @@ pub fn press_fault(
     present: &[i64],
     after: &[i64],
     e: u64,
-) -> u64
+) -> Result<(), StepFault>
     requires { (table ≡ counts_of (rows_of words.now)) × Spanned (rows_of words.now) spans.now }
-    ensures { result ≡ press_fault (rows_of words.now) e present.now after.now }
+    ensures { fault_number result ≡ press_fault (rows_of words.now) e present.now after.now }
 {
-    let axiom = first_untrue(words, table, spans, present, tag::AXIOM, e);
-    if axiom != 0 {
-        return axiom;
-    }
+    first_untrue(words, table, spans, present, tag::AXIOM, e)?;
     step_fault(words, table, spans, present, after, e)
 }

@@ -1,141 +1,182 @@
--- How the code combines answers is how the definition has it, by cases of the operands' answers.
-use mathlib.Core.Path.{◌≡◌, refl, sym, ap, ap₂, ◌∙◌}
-use mathlib.Core.Bool.{Bool, true, false, not, ◌&&◌, true≢false, beq}
-use lib.IntN.{neg_ℤ}
+-- How the code combines answers is how the definition has it: a faulty operand is the answer, of two the left one, and values are combined.
+use mathlib.Core.Path.{◌≡◌, refl, sym, ap, ◌∙◌}
+use mathlib.Core.Bool.{Bool, true, false, true≢false}
+use Rattle.std.specs.Prelude.{Ok, Err}
+use Rattle.std.specs.Result.{IsErrAnd}
+use Rattle.std.proofs.lemmas.Result.{err_from_is_err_and}
 use Rattle.lists.specs.Choice.{pick}
-use Rattle.formula.specs.Values.{AnyValue, number, truth, as_number, as_truth, equalℤ, equal_value}
-use Rattle.formula.specs.Tree.{Unary, bool, negation, logicalNot, Binary, Division, and, or, implies}
+use Rattle.formula.specs.Values.{AnyValue, truth, as_truth}
+use Rattle.formula.specs.Tree.{Unary, bool, Binary, Division, Connective, and, or, implies}
 use Rattle.formula.specs.Evaluate.{unary_value, binary_value, division_defined, division_value}
-use Rattle.answer.specs.Answer.{Answer, value, undefined, within, value_then, operands, always, unary_answer, binary_answer, division_answer, connective_answer}
-use Rattle.signed.specs.Found.{found_of, answer_of}
-use Rattle.operands.specs.Operands.{value_of, is_truth, fault_or, both_operands, if_defined}
-use Rattle.signed.specs.declared.Found.{Found}
-use Rattle.signed.specs.declared.Found.TheVariants.{Number, Truth, Outside, Undefined}
+use Rattle.answer.specs.Answer.{value, undefined, within, always, value_then, operands, unary_answer, binary_answer, division_answer, connective_answer}
+use Rattle.signed.specs.Found.{Found, found_of, answer_of}
+use Rattle.signed.specs.declared.Value.{Value}
+use Rattle.signed.specs.declared.Value.TheVariants.{Number, Truth}
+use Rattle.signed.specs.declared.Fault.{Fault}
+use Rattle.signed.specs.declared.Fault.TheVariants.{Outside, Undefined}
+use Rattle.operands.specs.Operands.{value_of}
 
 -- a truth value is in range
-truth_found : {a b : Bool} → a ≡ b → Truth a ≡ found_of (within (truth b))
+truth_within : (b : Bool) → Ok (Truth b) ≡ found_of (within (truth b))
 unfolding within
-truth_found e = ap Truth e
+truth_within b = refl
 
--- two values are equal where they are of one type and equal as truth values and as numbers
-pub equal_parts : (v w : AnyValue) → (beq (is_truth v) (is_truth w) && beq (as_truth v) (as_truth w)) && equalℤ (as_number v) (as_number w) ≡ equal_value v w
-equal_parts (number a) (number b) = refl
-equal_parts (number a) (truth b) = refl
-equal_parts (truth a) (number b) = refl
-equal_parts (truth true) (truth true) = refl
-equal_parts (truth true) (truth false) = refl
-equal_parts (truth false) (truth true) = refl
-equal_parts (truth false) (truth false) = refl
+-- the fault that is handed on
+handed_on : {k : Found} {e : Fault} → IsErrAnd k (λ y. y ≡ e) → k ≡ Err e
+handed_on {k} h = let p = err_from_is_err_and k h in p.1 ∙ ap (λ e. Err e) p.2
 
--- ---- operators that read both operands
+-- ---- two operands
+module _ (defined : AnyValue → AnyValue → Bool) (f : AnyValue → AnyValue → AnyValue) where
+  left_decides : (e : Fault) (r : Found) → Err e ≡ found_of (operands defined f (answer_of (Err e)) (answer_of r))
+  unfolding operands
+  left_decides Outside r = refl
+  left_decides Undefined r = refl
 
-found_defined : (b : Bool) (a : Answer) → if_defined b (found_of a) ≡ found_of (pick b a undefined)
-found_defined true a = refl
-found_defined false a = refl
+  right_decides : (v : Value) (e : Fault) → Err e ≡ found_of (operands defined f (answer_of (Ok v)) (answer_of (Err e)))
+  unfolding operands
+  right_decides (Number z) Outside = refl
+  right_decides (Number z) Undefined = refl
+  right_decides (Truth b) Outside = refl
+  right_decides (Truth b) Undefined = refl
 
--- what the operator gives of two values is worked out beforehand, from what stands for a fault's value too
-both_operands_lem : (defined : AnyValue → AnyValue → Bool) (f : AnyValue → AnyValue → AnyValue) (l r : Found)
-    → both_operands l r (if_defined (defined (value_of l) (value_of r)) (found_of (within (f (value_of l) (value_of r))))) ≡ found_of (operands defined f (answer_of l) (answer_of r))
-unfolding operands
-both_operands_lem defined f (Number a) (Number b) = found_defined (defined (number a) (number b)) _
-both_operands_lem defined f (Number a) (Truth b) = found_defined (defined (number a) (truth b)) _
-both_operands_lem defined f (Number a) Outside = refl
-both_operands_lem defined f (Number a) Undefined = refl
-both_operands_lem defined f (Truth a) (Number b) = found_defined (defined (truth a) (number b)) _
-both_operands_lem defined f (Truth a) (Truth b) = found_defined (defined (truth a) (truth b)) _
-both_operands_lem defined f (Truth a) Outside = refl
-both_operands_lem defined f (Truth a) Undefined = refl
-both_operands_lem defined f Outside r = refl
-both_operands_lem defined f Undefined r = refl
+  of_values : (v w : Value) → found_of (pick (defined (value_of v) (value_of w)) (within (f (value_of v) (value_of w))) undefined) ≡ found_of (operands defined f (answer_of (Ok v)) (answer_of (Ok w)))
+  unfolding operands
+  of_values (Number a) (Number b) = refl
+  of_values (Number a) (Truth b) = refl
+  of_values (Truth a) (Number b) = refl
+  of_values (Truth a) (Truth b) = refl
 
-module _ (l r : Found) where
-  pub binary_is : (o : Binary) {k : Found} → k ≡ found_of (within (binary_value o (value_of l) (value_of r)))
-      → both_operands l r k ≡ found_of (binary_answer o (answer_of l) (answer_of r))
+module _ {l : Found} (r : Found) {e : Fault} (h : l ≡ Err e) {k : Found} (p : IsErrAnd k (λ y. y ≡ e)) where
+  pub left_fault : (o : Binary) → k ≡ found_of (binary_answer o (answer_of l) (answer_of r))
   unfolding binary_answer
-  binary_is o e = ap (both_operands l r) e ∙ both_operands_lem always (binary_value o) l r
+  left_fault o = handed_on p ∙ rw h (left_decides always (binary_value o) e r)
 
-  -- of = < ≤ ⇔
-  pub truth_is : (o : Binary) {b c : Bool} → binary_value o (value_of l) (value_of r) ≡ truth c → b ≡ c → both_operands l r (Truth b) ≡ found_of (binary_answer o (answer_of l) (answer_of r))
-  truth_is o is e = binary_is o (truth_found e ∙ ap (λ v. found_of (within v)) (sym is))
-
-  pub division_is : (o : Division) {d : Bool} {k : Found} → d ≡ division_defined o (value_of l) (value_of r) → k ≡ found_of (within (division_value o (value_of l) (value_of r)))
-      → both_operands l r (if_defined d k) ≡ found_of (division_answer o (answer_of l) (answer_of r))
+  pub dividend_fault : (o : Division) → k ≡ found_of (division_answer o (answer_of l) (answer_of r))
   unfolding division_answer
-  division_is o h e = ap₂ (λ d k. both_operands l r (if_defined d k)) h e ∙ both_operands_lem (division_defined o) (division_value o) l r
+  dividend_fault o = handed_on p ∙ rw h (left_decides (division_defined o) (division_value o) e r)
+
+module _ {l r : Found} {v : Value} (g : l ≡ Ok v) where
+  module _ {e : Fault} (h : r ≡ Err e) {k : Found} (p : IsErrAnd k (λ y. y ≡ e)) where
+    pub right_fault : (o : Binary) → k ≡ found_of (binary_answer o (answer_of l) (answer_of r))
+    unfolding binary_answer
+    right_fault o = handed_on p ∙ rw (g, h) (right_decides always (binary_value o) v e)
+
+    pub divisor_fault : (o : Division) → k ≡ found_of (division_answer o (answer_of l) (answer_of r))
+    unfolding division_answer
+    divisor_fault o = handed_on p ∙ rw (g, h) (right_decides (division_defined o) (division_value o) v e)
+
+  module _ {w : Value} (h : r ≡ Ok w) where
+    pub both_values : (o : Binary) {k : Found} → k ≡ found_of (within (binary_value o (value_of v) (value_of w))) → k ≡ found_of (binary_answer o (answer_of l) (answer_of r))
+    unfolding binary_answer
+    both_values o e = e ∙ rw (g, h) (of_values always (binary_value o) v w)
+
+    -- of = < ≤ ⇔
+    pub both_truths : (o : Binary) {b c : Bool} → binary_value o (value_of v) (value_of w) ≡ truth c → b ≡ c → Ok (Truth b) ≡ found_of (binary_answer o (answer_of l) (answer_of r))
+    both_truths o {b} is e = both_values o (truth_within b ∙ ap (λ v. found_of (within v)) (ap truth e ∙ sym is))
+
+    pub divided : (o : Division) {k : Found} → division_defined o (value_of v) (value_of w) ≡ true → k ≡ found_of (within (division_value o (value_of v) (value_of w))) → k ≡ found_of (division_answer o (answer_of l) (answer_of r))
+    unfolding division_answer
+    divided o d e =
+        e ∙ sym (ap (λ b. found_of (pick b (within (division_value o (value_of v) (value_of w))) undefined)) d)
+        ∙ rw (g, h) (of_values (division_defined o) (division_value o) v w)
+
+    pub not_divided : (o : Division) → division_defined o (value_of v) (value_of w) ≡ false → Err Undefined ≡ found_of (division_answer o (answer_of l) (answer_of r))
+    unfolding division_answer
+    not_divided o d =
+        sym (ap (λ b. found_of (pick b (within (division_value o (value_of v) (value_of w))) undefined)) d)
+        ∙ rw (g, h) (of_values (division_defined o) (division_value o) v w)
 
 -- ---- one operand
-
-one_operand : (o : Unary) (l : Found) → fault_or l (found_of (within (unary_value o (value_of l)))) ≡ found_of (unary_answer o (answer_of l))
+fault_stays : (o : Unary) (e : Fault) → Err e ≡ found_of (unary_answer o (answer_of (Err e)))
 unfolding unary_answer
-one_operand o (Number z) = refl
-one_operand o (Truth b) = refl
-one_operand o Outside = refl
-one_operand o Undefined = refl
+fault_stays o Outside = refl
+fault_stays o Undefined = refl
 
-module _ (l : Found) where
-  pub negation_is : {k : Found} → k ≡ found_of (within (number (neg_ℤ (as_number (value_of l))))) → fault_or l k ≡ found_of (unary_answer negation (answer_of l))
-  negation_is e = ap (fault_or l) e ∙ one_operand negation l
+of_value : (o : Unary) (v : Value) → found_of (within (unary_value o (value_of v))) ≡ found_of (unary_answer o (answer_of (Ok v)))
+unfolding unary_answer
+of_value o (Number z) = refl
+of_value o (Truth b) = refl
 
-  pub bool_is : {b : Bool} → b ≡ as_truth (value_of l) → fault_or l (Truth b) ≡ found_of (unary_answer bool (answer_of l))
-  bool_is e = ap (fault_or l) (truth_found e) ∙ one_operand bool l
+module _ {l : Found} where
+  pub operand_fault : (o : Unary) {e : Fault} → l ≡ Err e → {k : Found} → IsErrAnd k (λ y. y ≡ e) → k ≡ found_of (unary_answer o (answer_of l))
+  operand_fault o {e} h p = handed_on p ∙ rw h (fault_stays o e)
 
-  pub not_is : {b : Bool} → b ≡ as_truth (value_of l) → fault_or l (Truth (not b)) ≡ found_of (unary_answer logicalNot (answer_of l))
-  not_is e = ap (fault_or l) (truth_found (ap not e)) ∙ one_operand logicalNot l
+  pub one_value : (o : Unary) {v : Value} → l ≡ Ok v → {k : Found} → k ≡ found_of (within (unary_value o (value_of v))) → k ≡ found_of (unary_answer o (answer_of l))
+  one_value o {v} h e = e ∙ rw h (of_value o v)
+
+  pub one_truth : (o : Unary) {v : Value} → l ≡ Ok v → {b c : Bool} → unary_value o (value_of v) ≡ truth c → b ≡ c → Ok (Truth b) ≡ found_of (unary_answer o (answer_of l))
+  one_truth o h {b} is e = one_value o h (truth_within b ∙ ap (λ v. found_of (within v)) (ap truth e ∙ sym is))
 
 -- ---- operators that stop at a faulty left side
+
+stops : (o : Connective) (e : Fault) (r : Found) → Err e ≡ found_of (connective_answer o (answer_of (Err e)) (answer_of r))
+unfolding connective_answer
+stops o Outside r = refl
+stops o Undefined r = refl
 
 -- a right side that is read
 right_read : (r : Found) → found_of (unary_answer bool (answer_of r)) ≡ found_of (value_then (answer_of r) (λ w. value (truth (as_truth w))))
 unfolding unary_answer within
-right_read (Number z) = refl
-right_read (Truth b) = refl
-right_read Outside = refl
-right_read Undefined = refl
+right_read (Ok (Number z)) = refl
+right_read (Ok (Truth b)) = refl
+right_read (Err Outside) = refl
+right_read (Err Undefined) = refl
 
-pub and_true : (l r : Found) → as_truth (value_of l) ≡ true → found_of (unary_answer bool (answer_of r)) ≡ found_of (connective_answer and (answer_of l) (answer_of r))
+and_reads : (v : Value) (r : Found) → as_truth (value_of v) ≡ true → found_of (unary_answer bool (answer_of r)) ≡ found_of (connective_answer and (answer_of (Ok v)) (answer_of r))
 unfolding connective_answer
-and_true (Number z) r e = absurd (true≢false (sym e))
-and_true (Truth true) r e = right_read r
-and_true (Truth false) r e = absurd (true≢false (sym e))
-and_true Outside r e = absurd (true≢false (sym e))
-and_true Undefined r e = absurd (true≢false (sym e))
+and_reads (Number z) r e = absurd (true≢false (sym e))
+and_reads (Truth true) r e = right_read r
+and_reads (Truth false) r e = absurd (true≢false (sym e))
 
-pub and_false : (l r : Found) → as_truth (value_of l) ≡ false → fault_or l (Truth false) ≡ found_of (connective_answer and (answer_of l) (answer_of r))
+and_is_false : (v : Value) (r : Found) → as_truth (value_of v) ≡ false → Ok (Truth false) ≡ found_of (connective_answer and (answer_of (Ok v)) (answer_of r))
 unfolding connective_answer
-and_false (Number z) r e = refl
-and_false (Truth true) r e = absurd (true≢false e)
-and_false (Truth false) r e = refl
-and_false Outside r e = refl
-and_false Undefined r e = refl
+and_is_false (Number z) r e = refl
+and_is_false (Truth true) r e = absurd (true≢false e)
+and_is_false (Truth false) r e = refl
 
-pub or_true : (l r : Found) → as_truth (value_of l) ≡ true → Truth true ≡ found_of (connective_answer or (answer_of l) (answer_of r))
+or_is_true : (v : Value) (r : Found) → as_truth (value_of v) ≡ true → Ok (Truth true) ≡ found_of (connective_answer or (answer_of (Ok v)) (answer_of r))
 unfolding connective_answer
-or_true (Number z) r e = absurd (true≢false (sym e))
-or_true (Truth true) r e = refl
-or_true (Truth false) r e = absurd (true≢false (sym e))
-or_true Outside r e = absurd (true≢false (sym e))
-or_true Undefined r e = absurd (true≢false (sym e))
+or_is_true (Number z) r e = absurd (true≢false (sym e))
+or_is_true (Truth true) r e = refl
+or_is_true (Truth false) r e = absurd (true≢false (sym e))
 
-pub or_false : (l r : Found) → as_truth (value_of l) ≡ false → fault_or l (found_of (unary_answer bool (answer_of r))) ≡ found_of (connective_answer or (answer_of l) (answer_of r))
+or_reads : (v : Value) (r : Found) → as_truth (value_of v) ≡ false → found_of (unary_answer bool (answer_of r)) ≡ found_of (connective_answer or (answer_of (Ok v)) (answer_of r))
 unfolding connective_answer
-or_false (Number z) r e = right_read r
-or_false (Truth true) r e = absurd (true≢false e)
-or_false (Truth false) r e = right_read r
-or_false Outside r e = refl
-or_false Undefined r e = refl
+or_reads (Number z) r e = right_read r
+or_reads (Truth true) r e = absurd (true≢false e)
+or_reads (Truth false) r e = right_read r
 
-pub implies_true : (l r : Found) → as_truth (value_of l) ≡ true → found_of (unary_answer bool (answer_of r)) ≡ found_of (connective_answer implies (answer_of l) (answer_of r))
+implies_reads : (v : Value) (r : Found) → as_truth (value_of v) ≡ true → found_of (unary_answer bool (answer_of r)) ≡ found_of (connective_answer implies (answer_of (Ok v)) (answer_of r))
 unfolding connective_answer
-implies_true (Number z) r e = absurd (true≢false (sym e))
-implies_true (Truth true) r e = right_read r
-implies_true (Truth false) r e = absurd (true≢false (sym e))
-implies_true Outside r e = absurd (true≢false (sym e))
-implies_true Undefined r e = absurd (true≢false (sym e))
+implies_reads (Number z) r e = absurd (true≢false (sym e))
+implies_reads (Truth true) r e = right_read r
+implies_reads (Truth false) r e = absurd (true≢false (sym e))
 
-pub implies_false : (l r : Found) → as_truth (value_of l) ≡ false → fault_or l (Truth true) ≡ found_of (connective_answer implies (answer_of l) (answer_of r))
+implies_is_true : (v : Value) (r : Found) → as_truth (value_of v) ≡ false → Ok (Truth true) ≡ found_of (connective_answer implies (answer_of (Ok v)) (answer_of r))
 unfolding connective_answer
-implies_false (Number z) r e = refl
-implies_false (Truth true) r e = absurd (true≢false e)
-implies_false (Truth false) r e = refl
-implies_false Outside r e = refl
-implies_false Undefined r e = refl
+implies_is_true (Number z) r e = refl
+implies_is_true (Truth true) r e = absurd (true≢false e)
+implies_is_true (Truth false) r e = refl
+
+module _ {l : Found} (r : Found) where
+  pub side_fault : (o : Connective) {e : Fault} → l ≡ Err e → {k : Found} → IsErrAnd k (λ y. y ≡ e) → k ≡ found_of (connective_answer o (answer_of l) (answer_of r))
+  side_fault o {e} h p = handed_on p ∙ rw h (stops o e r)
+
+  module _ {v : Value} (h : l ≡ Ok v) {b : Bool} (t : b ≡ as_truth (value_of v)) where
+    pub and_true : b ≡ true → found_of (unary_answer bool (answer_of r)) ≡ found_of (connective_answer and (answer_of l) (answer_of r))
+    and_true e = rw h (and_reads v r (sym t ∙ e))
+
+    pub and_false : b ≡ false → Ok (Truth false) ≡ found_of (connective_answer and (answer_of l) (answer_of r))
+    and_false e = rw h (and_is_false v r (sym t ∙ e))
+
+    pub or_true : b ≡ true → Ok (Truth true) ≡ found_of (connective_answer or (answer_of l) (answer_of r))
+    or_true e = rw h (or_is_true v r (sym t ∙ e))
+
+    pub or_false : b ≡ false → found_of (unary_answer bool (answer_of r)) ≡ found_of (connective_answer or (answer_of l) (answer_of r))
+    or_false e = rw h (or_reads v r (sym t ∙ e))
+
+    pub implies_true : b ≡ true → found_of (unary_answer bool (answer_of r)) ≡ found_of (connective_answer implies (answer_of l) (answer_of r))
+    implies_true e = rw h (implies_reads v r (sym t ∙ e))
+
+    pub implies_false : b ≡ false → Ok (Truth true) ≡ found_of (connective_answer implies (answer_of l) (answer_of r))
+    implies_false e = rw h (implies_is_true v r (sym t ∙ e))

@@ -7,220 +7,160 @@ ghost use Rattle.formula.specs.Tree.{bool, negation, logicalNot, plus, minus, ti
 ghost use Rattle.formula.specs.Evaluate.{division_defined};
 ghost use Rattle.answer.specs.Answer.{unary_answer, binary_answer, division_answer, connective_answer};
 ghost use Rattle.signed.specs.Found.{found_of, answer_of};
-ghost use Rattle.operands.specs.Operands.{value_of, is_value, is_truth, fault_or, both_operands, if_defined};
+ghost use Rattle.operands.specs.Operands.{value_of};
 
-use signed::{Found, add, at_most, divide, equal, less, multiply, negate, remainder, subtract};
+use signed::{Fault, Found, Value, add, divide, multiply, negate, remainder, subtract};
 
-// An answer where a number is wanted; 0 of one that has none.
-pub fn as_number(f: Found) -> i64
-    ensures { result ≡ as_number (value_of f) }
+// A value where a number is wanted; 0 of a truth value, which no sorted formula puts there.
+fn as_number(v: Value) -> i64
+    ensures { result ≡ as_number (value_of v) }
 {
-    match f {
-        Found::Number(z) => z,
-        Found::Truth(_) => 0,
-        Found::Outside => 0,
-        Found::Undefined => 0,
+    match v {
+        Value::Number(z) => z,
+        Value::Truth(_) => 0,
     }
 }
 
-// An answer where a truth value is wanted; false of one that has none.
-pub fn as_truth(f: Found) -> bool
-    ensures { result ≡ as_truth (value_of f) }
+// A value where a truth value is wanted; false of a number, which no sorted formula puts there.
+pub fn as_truth(v: Value) -> bool
+    ensures { result ≡ as_truth (value_of v) }
 {
-    match f {
-        Found::Number(_) => false,
-        Found::Truth(b) => b,
-        Found::Outside => false,
-        Found::Undefined => false,
+    match v {
+        Value::Number(_) => false,
+        Value::Truth(b) => b,
     }
-}
-
-fn is_truth(f: Found) -> bool
-    ensures { result ≡ is_truth (value_of f) }
-{
-    match f {
-        Found::Number(_) => false,
-        Found::Truth(_) => true,
-        Found::Outside => false,
-        Found::Undefined => false,
-    }
-}
-
-// Whether an answer is no fault.
-pub fn is_value(f: Found) -> bool
-    ensures { result ≡ is_value f }
-{
-    match f {
-        Found::Number(_) => true,
-        Found::Truth(_) => true,
-        Found::Outside => false,
-        Found::Undefined => false,
-    }
-}
-
-// A fault, or what follows.
-fn fault_or(f: Found, next: Found) -> Found
-    ensures { result ≡ fault_or f next }
-{
-    match f {
-        Found::Number(_) => next,
-        Found::Truth(_) => next,
-        Found::Outside => Found::Outside,
-        Found::Undefined => Found::Undefined,
-    }
-}
-
-// 02, request 8: "the leftmost operand now decides, operands before their operator". Own is what the operator gives of two values.
-fn both_operands(left: Found, right: Found, own: Found) -> Found
-    ensures { result ≡ both_operands left right own }
-{
-    fault_or(left, fault_or(right, own))
-}
-
-// What an operator gives where it is defined.
-fn if_defined(defined: bool, res: Found) -> Found
-    ensures { result ≡ if_defined defined res }
-{
-    if defined {
-        return res;
-    }
-    Found::Undefined
-}
-
-// 01, Rows: ÷ is "undefined for b = 0".
-fn quotient_defined(left: Found, right: Found) -> bool
-    ensures { result ≡ division_defined quotient (value_of left) (value_of right) }
-{
-    !equal_values(right, Found::Number(0))
 }
 
 // 02, request 7: "a mod b only for 0 ≤ a and 0 < b".
-fn remainder_defined(left: Found, right: Found) -> bool
+fn remainder_defined(left: Value, right: Value) -> bool
     ensures { result ≡ division_defined remainder (value_of left) (value_of right) }
 {
-    let from_zero = at_most(0, as_number(left));
-    from_zero & less(0, as_number(right))
+    let from_zero = 0 <= as_number(left);
+    from_zero & (0 < as_number(right))
 }
 
 // 01, Rows: "20 = (both integer or both boolean)".
-pub fn equal_values(left: Found, right: Found) -> bool
+pub fn equal_values(left: Value, right: Value) -> bool
     ensures { result ≡ equal_value (value_of left) (value_of right) }
 {
-    let same_type = is_truth(left) == is_truth(right);
-    let same_truth = as_truth(left) == as_truth(right);
-    same_type & same_truth & equal(as_number(left), as_number(right))
+    left == right
 }
 
 // The truth of an operand, or its fault.
 pub fn bool_answer(operand: Found) -> Found
     ensures { result ≡ found_of (unary_answer bool (answer_of operand)) }
 {
-    fault_or(operand, Found::Truth(as_truth(operand)))
+    Ok(Value::Truth(as_truth(operand?)))
 }
 
+// 02, request 8: "the leftmost operand now decides, operands before their operator": here and below.
 pub fn plus_answer(left: Found, right: Found) -> Found
     ensures { result ≡ found_of (binary_answer plus (answer_of left) (answer_of right)) }
 {
-    both_operands(left, right, add(as_number(left), as_number(right)))
+    let a = left?;
+    let b = right?;
+    add(as_number(a), as_number(b))
 }
 
 pub fn minus_answer(left: Found, right: Found) -> Found
     ensures { result ≡ found_of (binary_answer minus (answer_of left) (answer_of right)) }
 {
-    both_operands(left, right, subtract(as_number(left), as_number(right)))
+    subtract(as_number(left?), as_number(right?))
 }
 
 pub fn times_answer(left: Found, right: Found) -> Found
     ensures { result ≡ found_of (binary_answer times (answer_of left) (answer_of right)) }
 {
-    both_operands(left, right, multiply(as_number(left), as_number(right)))
+    multiply(as_number(left?), as_number(right?))
 }
 
+// 01, Rows: ÷ is "undefined for b = 0".
 pub fn quotient_answer(left: Found, right: Found) -> Found
     ensures { result ≡ found_of (division_answer quotient (answer_of left) (answer_of right)) }
 {
-    let defined = quotient_defined(left, right);
-    let quotient = divide(as_number(left), as_number(right));
-    both_operands(left, right, if_defined(defined, quotient))
+    let dividend = left?;
+    let divisor = right?;
+    if equal_values(divisor, Value::Number(0)) {
+        return Err(Fault::Undefined);
+    }
+    divide(as_number(dividend), as_number(divisor))
 }
 
 pub fn remainder_answer(left: Found, right: Found) -> Found
     ensures { result ≡ found_of (division_answer remainder (answer_of left) (answer_of right)) }
 {
-    let defined = remainder_defined(left, right);
-    let rest = remainder(as_number(left), as_number(right));
-    both_operands(left, right, if_defined(defined, rest))
+    let m = left?;
+    let n = right?;
+    if remainder_defined(m, n) {
+        return remainder(as_number(m), as_number(n));
+    }
+    Err(Fault::Undefined)
 }
 
 pub fn negation_answer(operand: Found) -> Found
     ensures { result ≡ found_of (unary_answer negation (answer_of operand)) }
 {
-    fault_or(operand, negate(as_number(operand)))
+    negate(as_number(operand?))
 }
 
 pub fn equal_answer(left: Found, right: Found) -> Found
     ensures { result ≡ found_of (binary_answer equal (answer_of left) (answer_of right)) }
 {
-    both_operands(left, right, Found::Truth(equal_values(left, right)))
+    let v = left?;
+    let w = right?;
+    Ok(Value::Truth(equal_values(v, w)))
 }
 
 pub fn less_answer(left: Found, right: Found) -> Found
     ensures { result ≡ found_of (binary_answer less (answer_of left) (answer_of right)) }
 {
-    both_operands(
-        left,
-        right,
-        Found::Truth(less(as_number(left), as_number(right))),
-    )
+    Ok(Value::Truth(as_number(left?) < as_number(right?)))
 }
 
 pub fn at_most_answer(left: Found, right: Found) -> Found
     ensures { result ≡ found_of (binary_answer at_most (answer_of left) (answer_of right)) }
 {
-    both_operands(
-        left,
-        right,
-        Found::Truth(at_most(as_number(left), as_number(right))),
-    )
+    Ok(Value::Truth(as_number(left?) <= as_number(right?)))
 }
 
 pub fn not_answer(operand: Found) -> Found
     ensures { result ≡ found_of (unary_answer logicalNot (answer_of operand)) }
 {
-    fault_or(operand, Found::Truth(!as_truth(operand)))
+    Ok(Value::Truth(!as_truth(operand?)))
 }
 
 // 01, The run: "∧ and ⇒ read their right side only where the left is true, ∨ only where it is false"; 02, request 5: "∧, ∨, ⇒ and ⇔ stop at a faulty left side".
 pub fn and_answer(left: Found, right: Found) -> Found
     ensures { result ≡ found_of (connective_answer and (answer_of left) (answer_of right)) }
 {
-    if as_truth(left) {
+    if as_truth(left?) {
         return bool_answer(right);
     }
-    fault_or(left, Found::Truth(false))
+    Ok(Value::Truth(false))
 }
 
 pub fn or_answer(left: Found, right: Found) -> Found
     ensures { result ≡ found_of (connective_answer or (answer_of left) (answer_of right)) }
 {
-    if as_truth(left) {
-        return Found::Truth(true);
+    if as_truth(left?) {
+        return Ok(Value::Truth(true));
     }
-    fault_or(left, bool_answer(right))
+    bool_answer(right)
 }
 
 pub fn implies_answer(left: Found, right: Found) -> Found
     ensures { result ≡ found_of (connective_answer implies (answer_of left) (answer_of right)) }
 {
-    if as_truth(left) {
+    if as_truth(left?) {
         return bool_answer(right);
     }
-    fault_or(left, Found::Truth(true))
+    Ok(Value::Truth(true))
 }
 
 pub fn iff_answer(left: Found, right: Found) -> Found
     ensures { result ≡ found_of (binary_answer iff (answer_of left) (answer_of right)) }
 {
-    let same = as_truth(left) == as_truth(right);
-    both_operands(left, right, Found::Truth(same))
+    let p = left?;
+    let q = right?;
+    Ok(Value::Truth(as_truth(p) == as_truth(q)))
 }

@@ -27,7 +27,7 @@ use recording::Replay;
 use row::{Place, Read};
 use rules::Verdict;
 use scan::{Span, lesser};
-use state::{copy_sorts, copy_values, is_state};
+use state::{copy_list, is_state};
 use table::Table;
 use values::{is_step_row, read_values};
 use verdict::{Loaded, judge_with, load};
@@ -102,9 +102,8 @@ fn press_event(
     ensures values_after { values.new ≡ kept_or (λ zs. zs) values.old (press_choice (rows_of words.now) values.old (chosen e (values_of present.now after.old))) }
 {
     complete_values(words, table, spans, e, present, after);
-    let fault = press_fault(words, table, spans, present, after, e);
-    if fault != 0 {
-        return Press::Refused(fault, 0);
+    if let Err(fault) = press_fault(words, table, spans, present, after, e) {
+        return Press::Refused(fault.number(), 0);
     }
     update_values(words, table, after, values);
     Press::Performed
@@ -144,7 +143,7 @@ fn press_values(
 {
     let mut present = [0i64; Table::IDENTIFIERS as usize + 1];
     let mut after = [0i64; Table::IDENTIFIERS as usize + 1];
-    copy_values(values, &mut present[1..]);
+    copy_list(values, &mut present[1..]);
     press_step(words, table, spans, step, &mut present, &mut after, values)
 }
 
@@ -257,8 +256,8 @@ fn preview_copy(
     let room = room_of(second.len(), types.len());
     let reply = press_to(table, step, copy, sorts, room);
     if is_performed(reply) {
-        copy_values(copy, second);
-        copy_sorts(sorts, types);
+        copy_list(copy, second);
+        copy_list(sorts, types);
     }
     reply
 }
@@ -277,7 +276,7 @@ pub fn preview_numbers(
     ensures types_after { types.new ≡ kept_or (λ zs. sorts.now) types.old (outcome table.now step.now values.now sorts.now (room_for second.old types.old)) }
 {
     let mut copy = [0i64; Table::IDENTIFIERS as usize + 1];
-    copy_values(values, &mut copy);
+    copy_list(values, &mut copy);
     let n = lesser(values.len(), Table::IDENTIFIERS as usize + 1);
     preview_copy(table, step, &mut copy[..n], sorts, second, types)
 }

@@ -2,9 +2,10 @@
 use mathlib.Core.Path.{◌≡◌, refl}
 use Rattle.formula.specs.Values.{number, truth}
 use Rattle.answer.specs.Answer.{Answer, value, outside, undefined}
-use Rattle.signed.specs.Found.{found_of, answer_of}
-use Rattle.signed.specs.declared.Found.{Found}
-use Rattle.signed.specs.declared.Found.TheVariants.{Number, Truth, Outside, Undefined}
+use Rattle.std.specs.Prelude.{Ok, Err}
+use Rattle.signed.specs.Found.{Found, found_of, answer_of}
+use Rattle.signed.specs.declared.Value.TheVariants.{Number, Truth}
+use Rattle.signed.specs.declared.Fault.TheVariants.{Outside, Undefined}
 
 pub answer_found : (a : Answer) → answer_of (found_of a) ≡ a
 answer_found (value (number z)) = refl
@@ -13,7 +14,7 @@ answer_found outside = refl
 answer_found undefined = refl
 
 pub found_answer : (f : Found) → found_of (answer_of f) ≡ f
-found_answer (Number z) = refl
-found_answer (Truth b) = refl
-found_answer Outside = refl
-found_answer Undefined = refl
+found_answer (Ok (Number z)) = refl
+found_answer (Ok (Truth b)) = refl
+found_answer (Err Outside) = refl
+found_answer (Err Undefined) = refl

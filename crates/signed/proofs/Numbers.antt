@@ -12,16 +12,20 @@ use lib.Signed.{lt_z, le_z, non_neg, mag}
 use mir.Syntax.{w64}
 use mir.Val.{Fits, SFits, to_z, of_z}
 use mir.ValLaws.{to_z_pos, to_z-of_z}
-use Rattle.formula.specs.Values.{number, lessℤ, equalℤ, quotientℤ, remainderℤ, whole_number}
+use Rattle.formula.specs.Values.{number, lessℤ, at_mostℤ, equalℤ, quotientℤ, remainderℤ, whole_number}
 use Rattle.answer.specs.Answer.{within}
-use Rattle.signed.specs.Found.{found_of}
+use Rattle.std.specs.Prelude.{Ok, Err}
+use Rattle.signed.specs.Found.{Found, found_of}
 use Rattle.signed.specs.Signed.{signedℤ, negative}
-use Rattle.signed.specs.declared.Found.{Found}
-use Rattle.signed.specs.declared.Found.TheVariants.{Number, Outside}
+use Rattle.signed.specs.declared.Value.TheVariants.{Number}
+use Rattle.signed.specs.declared.Fault.TheVariants.{Outside}
 
 -- a whole number, if it is in range
 abbrev pub number_found : ℤ → Found
 number_found z = found_of (within (number z))
+
+abbrev pub found_number : ℤ → Found
+found_number z = Ok (Number z)
 
 -- a signed argument as a callee has it, read back from its bits
 abbrev pub seen : ℤ → ℤ
@@ -114,39 +118,39 @@ casts_above z f t = let a : Above z = above z f t in rw (to_z-of_z w64 z f, a.is
 
 -- ---- in range
 
-inside_pos : (n : ℕ) → n < 2 ^ 63 → number_found (pos n) ≡ Number (pos n)
+inside_pos : (n : ℕ) → n < 2 ^ 63 → number_found (pos n) ≡ Ok (Number (pos n))
 unfolding within
 inside_pos n h = simp (lt-ltb n (2 ^ 63) h)
 
-inside_neg : (n : ℕ) → n < 2 ^ 63 → number_found (negsuc n) ≡ Number (negsuc n)
+inside_neg : (n : ℕ) → n < 2 ^ 63 → number_found (negsuc n) ≡ Ok (Number (negsuc n))
 unfolding within
 inside_neg n h = simp (lt-ltb n (2 ^ 63) h)
 
-outside_pos : (n : ℕ) → 2 ^ 63 ≤ n → number_found (pos n) ≡ Outside
+outside_pos : (n : ℕ) → 2 ^ 63 ≤ n → number_found (pos n) ≡ Err Outside
 unfolding within
 outside_pos n h = simp (le-ltb n (2 ^ 63) h)
 
-outside_neg : (n : ℕ) → 2 ^ 63 ≤ n → number_found (negsuc n) ≡ Outside
+outside_neg : (n : ℕ) → 2 ^ 63 ≤ n → number_found (negsuc n) ≡ Err Outside
 unfolding within
 outside_neg n h = simp (le-ltb n (2 ^ 63) h)
 
 -- a number of the machine is in range
-pub inside : (z : ℤ) → mag z < 2 ^ 63 → number_found z ≡ Number z
+pub inside : (z : ℤ) → mag z < 2 ^ 63 → number_found z ≡ Ok (Number z)
 inside (pos n) h = inside_pos n h
 inside (negsuc n) h = inside_neg n h
 
 -- a magnitude above that of the least number
-pub outside : (p : Bool) (n : ℕ) → 2 ^ 63 < n → number_found (signedℤ p n) ≡ Outside
+pub outside : (p : Bool) (n : ℕ) → 2 ^ 63 < n → number_found (signedℤ p n) ≡ Err Outside
 outside false n h = outside_pos n (omega arith)
 outside true zero h = absurd (not-suc-le-zero h)
 outside true (suc n) h = outside_neg n (omega arith)
 
 -- ---- the number of a sign and a magnitude
 
-signed_below : (p : Bool) (n : ℕ) → p && ltb 0 n ≡ true → n ≤ 2 ^ 63 → number_found (signedℤ p n) ≡ Number (negsuc (n - 1))
+signed_below : (p : Bool) (n : ℕ) → p && ltb 0 n ≡ true → n ≤ 2 ^ 63 → number_found (signedℤ p n) ≡ Ok (Number (negsuc (n - 1)))
 signed_below false n t h = absurd (true≢false (sym t))
 signed_below true zero t h = absurd (not-suc-le-zero (ltb-true 0 0 t))
-signed_below true (suc n) t h = inside_neg n h ∙ ap (λ (k : ℕ). Number (negsuc k)) (omega arith)
+signed_below true (suc n) t h = inside_neg n h ∙ ap (λ (k : ℕ). found_number (negsuc k)) (omega arith)
 
 signed_above : (p : Bool) (n : ℕ) → p && ltb 0 n ≡ false → signedℤ p n ≡ pos n
 signed_above false n t = refl
@@ -161,19 +165,19 @@ module _ (p : Bool) (n : ℕ) where
       by true t = ltb-true 0 n t
       by false t = absurd (true≢false (sym t))
 
-  pub parts_below : {z : ℤ} → p && ltb 0 n ≡ true → n ≤ 2 ^ 63 → z ≡ negsuc (n - 1) → Number (seen z) ≡ number_found (signedℤ p n)
+  pub parts_below : {z : ℤ} → p && ltb 0 n ≡ true → n ≤ 2 ^ 63 → z ≡ negsuc (n - 1) → Ok (Number (seen z)) ≡ number_found (signedℤ p n)
   parts_below t h e =
       let l : 1 ≤ n = has_magnitude t in
       let k : SFits w64 (negsuc (n - 1)) = record { sfits = omega arith } in
-      ap Number (ap (λ (x : ℤ). seen x) e ∙ to_z-of_z w64 (negsuc (n - 1)) k) ∙ sym (signed_below p n t h)
+      ap found_number (ap (λ (x : ℤ). seen x) e ∙ to_z-of_z w64 (negsuc (n - 1)) k) ∙ sym (signed_below p n t h)
 
-  pub parts_outside : 2 ^ 63 < n → Outside ≡ number_found (signedℤ p n)
+  pub parts_outside : 2 ^ 63 < n → Err Outside ≡ number_found (signedℤ p n)
   parts_outside h = sym (outside p n h)
 
-  pub parts_above : p && ltb 0 n ≡ false → n < 2 ^ 63 → Number (to_z w64 n) ≡ number_found (signedℤ p n)
-  parts_above t h = ap Number (to_z_pos w64 n h) ∙ sym (ap number_found (signed_above p n t) ∙ inside_pos n h)
+  pub parts_above : p && ltb 0 n ≡ false → n < 2 ^ 63 → Ok (Number (to_z w64 n)) ≡ number_found (signedℤ p n)
+  parts_above t h = ap found_number (to_z_pos w64 n h) ∙ sym (ap number_found (signed_above p n t) ∙ inside_pos n h)
 
-  pub parts_great : p && ltb 0 n ≡ false → 2 ^ 63 ≤ n → Outside ≡ number_found (signedℤ p n)
+  pub parts_great : p && ltb 0 n ≡ false → 2 ^ 63 ≤ n → Err Outside ≡ number_found (signedℤ p n)
   parts_great t h = sym (ap number_found (signed_above p n t) ∙ outside_pos n h)
 
 -- ---- the sum of two numbers by sign and magnitude
@@ -283,7 +287,7 @@ module _ (a b : ℤ) (f : SFits w64 a) (g : SFits w64 b) (m n : ℕ) (d : m ≡ 
   pub multiply_is : signedℤ (differ a b) (m * n) ≡ a *ℤ b
   multiply_is = simp (apart_is, left, right) (product_parts a b)
 
-  pub multiply_outside : leb (m * n) 9223372036854775808 ≡ false → number_found (a *ℤ b) ≡ Outside
+  pub multiply_outside : leb (m * n) 9223372036854775808 ≡ false → number_found (a *ℤ b) ≡ Err Outside
   multiply_outside t = ap number_found (sym multiply_is) ∙ outside (differ a b) (m * n) (leb-false (m * n) 9223372036854775808 t)
 
   pub divide_is : {k : ℕ} → k ≡ m / n → signedℤ (differ a b) k ≡ quotientℤ a b
@@ -343,6 +347,15 @@ less_is a b f g = simp (to_z-of_z w64 a f, to_z-of_z w64 b g) (by a b)
     by (pos m) (negsuc n) = refl
     by (negsuc m) (pos n) = refl
     by (negsuc m) (negsuc n) = pairs n m
+
+pub at_most_is : (a b : ℤ) → SFits w64 a → SFits w64 b → le_z (seen a) (seen b) ≡ at_mostℤ a b
+at_most_is a b f g = simp (to_z-of_z w64 a f, to_z-of_z w64 b g) (by a b)
+  where
+    by : (a b : ℤ) → le_z a b ≡ at_mostℤ a b
+    by (pos m) (pos n) = refl
+    by (pos m) (negsuc n) = refl
+    by (negsuc m) (pos n) = refl
+    by (negsuc m) (negsuc n) = refl
 
 -- equal bits are equal numbers
 pub equal_is : (a b : ℤ) → SFits w64 a → SFits w64 b → eqb (of_z w64 a) (of_z w64 b) ≡ equalℤ a b

@@ -2,19 +2,27 @@
 #![tactic(auto)]
 
 ghost use Rattle.std.specs.Prelude.{◌≡◌, ◌*◌, ◌/◌, ◌%◌, ◌^◌, ◌<◌, leb, nat_abs, negsuc, neg_ℤ, ◌+ℤ◌, ◌-ℤ◌, ◌*ℤ◌};
-ghost use Rattle.formula.specs.Values.{number, whole_number, lessℤ, at_mostℤ, equalℤ, quotientℤ, remainderℤ};
+ghost use Rattle.formula.specs.Values.{number, whole_number, quotientℤ, remainderℤ};
 ghost use Rattle.answer.specs.Answer.{within};
 ghost use Rattle.signed.specs.Found.{found_of};
 ghost use Rattle.signed.specs.Signed.{signedℤ};
 
-// What evaluating gives: a value; "16 marks an evaluated term outside 64 bits and 17 an undefined one".
-#[derive(Clone, Copy)]
-pub enum Found {
+// The value of a formula.
+#[derive(Clone, Copy, PartialEq, Eq)]
+pub enum Value {
     Number(i64),
     Truth(bool),
+}
+
+// Why a formula has no value: "16 marks an evaluated term outside 64 bits and 17 an undefined one".
+#[derive(Clone, Copy, PartialEq, Eq)]
+pub enum Fault {
     Outside,
     Undefined,
 }
+
+// What evaluating gives.
+pub type Found = Result<Value, Fault>;
 
 // 2 ^ 63, the magnitude of the least number.
 const HALF: u64 = 9223372036854775808;
@@ -44,14 +52,14 @@ fn of_parts(negative: bool, n: u64) -> Found
 {
     if negative & (0 < n) {
         if n <= HALF {
-            return Found::Number(complement(n - 1));
+            return Ok(Value::Number(complement(n - 1)));
         }
-        return Found::Outside;
+        return Err(Fault::Outside);
     }
     if n < HALF {
-        return Found::Number(n as i64);
+        return Ok(Value::Number(n as i64));
     }
-    Found::Outside
+    Err(Fault::Outside)
 }
 
 // The sum of two numbers given by sign and magnitude.
@@ -60,7 +68,7 @@ fn sum(p: bool, m: u64, q: bool, n: u64) -> Found
 {
     if p == q {
         if GREATEST - m < n {
-            return Found::Outside;
+            return Err(Fault::Outside);
         }
         return of_parts(p, m + n);
     }
@@ -120,7 +128,7 @@ pub fn multiply(a: i64, b: i64) -> Found
     if product_fits(m, n) {
         return of_parts((a < 0) != (b < 0), m * n);
     }
-    Found::Outside
+    Err(Fault::Outside)
 }
 
 pub fn negate(a: i64) -> Found
@@ -154,22 +162,4 @@ pub fn of_word(w: u64) -> i64
         return w as i64;
     }
     complement(GREATEST - w)
-}
-
-pub fn less(a: i64, b: i64) -> bool
-    ensures { result ≡ lessℤ a b }
-{
-    a < b
-}
-
-pub fn at_most(a: i64, b: i64) -> bool
-    ensures { result ≡ at_mostℤ a b }
-{
-    a <= b
-}
-
-pub fn equal(a: i64, b: i64) -> bool
-    ensures { result ≡ equalℤ a b }
-{
-    a == b
 }

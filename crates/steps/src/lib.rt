@@ -60,9 +60,8 @@ fn judge_step(
     ensures value { result ≡ step_progress (rows_of words.now) e row next (values_of present.old after.old) }
     ensures after_after { values_of present.new after.new ≡ step_values (rows_of words.now) e (values_of present.old after.old) }
 {
-    let fault = step_fault(words, table, spans, present, after, e);
-    if fault != 0 {
-        return Progress::Refused(fault, row);
+    if let Err(fault) = step_fault(words, table, spans, present, after, e) {
+        return Progress::Refused(fault.number(), row);
     }
     move_values(words, table, present, after);
     Progress::Going(next)

@@ -1,5 +1,4 @@
 -- The loop's invariant: completing the variables behind x on gives what completing all of them gives.
-use Prim.Native.Nat.{◌-◌}
 use mathlib.Core.Path.{◌≡◌}
 use lib.ListN.{length}
 use Rattle.table.specs.Rows.{rows_of}
@@ -12,6 +11,3 @@ abbrev pub invariant-loop-x : goal.invariant-loop-x
 invariant-loop-x l =
     let t = rows_of l.words in
     (length l.after ≡ length l.initial.after) × (complete t l.e (variables_from t l.x) (values_of l.present l.after) ≡ completed t l.e (values_of l.present l.initial.after))
-
-abbrev pub decreases-loop-x : goal.decreases-loop-x
-decreases-loop-x l = l.table.identifiers - l.x

@@ -5,8 +5,7 @@ use Rattle.table.specs.Rows.{rows_of}
 use Rattle.machine.specs.Operator.{operator_numbered}
 use Rattle.machine.specs.Described.{machine_of}
 use Rattle.answer.specs.Stored.{stored_env}
-use Rattle.signed.specs.declared.Found.{Found}
-use Rattle.signed.specs.Found.{found_of, answer_of}
+use Rattle.signed.specs.Found.{Found, found_of, answer_of}
 use Rattle.evaluate.specs.Evaluate.{combined}
 use Rattle.evaluate.proofs.Nodes.{operand_below, leaf_is, both_read, left_read}
 use Rattle.evaluate.proofs.+evaluate_expression_evaluate_node_evaluate_operand_evaluate_predicate.Goals as goal

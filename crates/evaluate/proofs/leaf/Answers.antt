@@ -6,7 +6,7 @@ use Rattle.signed.specs.Found.{found_of}
 use Rattle.signed.proofs.Numbers.{seen_is}
 use Rattle.evaluate.specs.Evaluate.{leaf_answer}
 use Rattle.evaluate.proofs.Numbered.{numbered_at}
-use Rattle.evaluate.proofs.Leaves.{literal_leaf, identifier_leaf, after_leaf, true_leaf, false_leaf, top_leaf, bottom_leaf, leaf_rest}
+use Rattle.evaluate.proofs.Leaves.{literal_leaf, identifier_leaf, after_leaf, true_leaves, false_leaves}
 use Rattle.evaluate.proofs.leaf.Goals as goal
 
 pub returns-in-1 : goal.returns-in-1
@@ -27,7 +27,7 @@ returns-in-2 c =
     let after = a.after.now in
     let ρ = stored_env (machine_of rows).type present after in
     numbered_at (λ o. found_of (leaf_answer ρ o a.b)) 2 c.in-2.is
-    (identifier_leaf rows present after a.b _ _ c.stored_value.ensures c.identifier_type.ensures
+    (identifier_leaf rows present after a.b _ _ c.stored_value.ensures c.identifier_type-sort.ensures
     (seen_is c.value_at.result c.value_at.type_inv c.value_at.ensures))
 
 pub returns-in-3 : goal.returns-in-3
@@ -38,34 +38,15 @@ returns-in-3 c =
     let after = a.after.now in
     let ρ = stored_env (machine_of rows).type present after in
     numbered_at (λ o. found_of (leaf_answer ρ o a.b)) 3 c.in-3.is
-    (after_leaf rows present after a.b _ _ c.stored_value-in-3.ensures c.identifier_type-in-3.ensures
+    (after_leaf rows present after a.b _ _ c.stored_value-in-3.ensures c.identifier_type-sort-in-3.ensures
     (seen_is c.value_at-in-3.result c.value_at-in-3.type_inv c.value_at-in-3.ensures))
 
 pub returns-in-4 : goal.returns-in-4
 returns-in-4 c =
     let a = c.args in
-    let ρ = stored_env (machine_of (rows_of a.words.now)).type a.present.now a.after.now in
-    numbered_at (λ o. found_of (leaf_answer ρ o a.b)) 4 c.in-4.is (true_leaf ρ)
-
-pub returns-in-5 : goal.returns-in-5
-returns-in-5 c =
-    let a = c.args in
-    let ρ = stored_env (machine_of (rows_of a.words.now)).type a.present.now a.after.now in
-    numbered_at (λ o. found_of (leaf_answer ρ o a.b)) 5 c.in-5.is (false_leaf ρ)
-
-pub returns-in-30 : goal.returns-in-30
-returns-in-30 c =
-    let a = c.args in
-    let ρ = stored_env (machine_of (rows_of a.words.now)).type a.present.now a.after.now in
-    numbered_at (λ o. found_of (leaf_answer ρ o a.b)) 30 c.in-30.is (top_leaf ρ)
-
-pub returns-in-31 : goal.returns-in-31
-returns-in-31 c =
-    let a = c.args in
-    let ρ = stored_env (machine_of (rows_of a.words.now)).type a.present.now a.after.now in
-    numbered_at (λ o. found_of (leaf_answer ρ o a.b)) 31 c.in-31.is (bottom_leaf ρ)
+    true_leaves (stored_env (machine_of (rows_of a.words.now)).type a.present.now a.after.now) a.operator a.b c.in-4.is
 
 pub returns-in_default : goal.returns-in_default
 returns-in_default c =
     let a = c.args in
-    leaf_rest (stored_env (machine_of (rows_of a.words.now)).type a.present.now a.after.now) a.operator a.b c.in_default.in_default-own.rest
+    false_leaves (stored_env (machine_of (rows_of a.words.now)).type a.present.now a.after.now) a.operator a.b c.in_default.in_default-own.rest

@@ -1,13 +1,8 @@
 -- By the row of each operator.
-use mathlib.Core.Path.{refl, ap, ap₂}
-use mathlib.Core.Bool.{not, ◌&&◌}
+use mathlib.Core.Path.{refl, ◌∙◌}
 use Rattle.evaluate.specs.Evaluate.{reads_right_of}
-use Rattle.evaluate.proofs.Numbered.{numbered_at, reads_behind}
+use Rattle.evaluate.proofs.Numbered.{numbered_at, reads_and, reads_or, reads_implies, reads_behind}
 use Rattle.evaluate.proofs.reads_right.Goals as goal
-
-pub returns-in-6 : goal.returns-in-6
-returns-in-6 c =
-    numbered_at (λ o. reads_right_of o c.args.left) 6 c.in-6.is refl
 
 pub returns-in-10 : goal.returns-in-10
 returns-in-10 c =
@@ -29,10 +24,6 @@ pub returns-in-14 : goal.returns-in-14
 returns-in-14 c =
     numbered_at (λ o. reads_right_of o c.args.left) 14 c.in-14.is refl
 
-pub returns-in-15 : goal.returns-in-15
-returns-in-15 c =
-    numbered_at (λ o. reads_right_of o c.args.left) 15 c.in-15.is refl
-
 pub returns-in-20 : goal.returns-in-20
 returns-in-20 c =
     numbered_at (λ o. reads_right_of o c.args.left) 20 c.in-20.is refl
@@ -45,28 +36,21 @@ pub returns-in-22 : goal.returns-in-22
 returns-in-22 c =
     numbered_at (λ o. reads_right_of o c.args.left) 22 c.in-22.is refl
 
-pub returns-in-32 : goal.returns-in-32
-returns-in-32 c =
-    numbered_at (λ o. reads_right_of o c.args.left) 32 c.in-32.is refl
-
 pub returns-in-33 : goal.returns-in-33
 returns-in-33 c =
-    let a = c.args in
-    numbered_at (λ o. reads_right_of o a.left) 33 c.in-33.is (ap₂ (λ p q. p && q) c.is_value.ensures c.as_truth.ensures)
+    numbered_at (λ o. reads_right_of o c.args.left) 33 c.in-33.is (c.has_truth.ensures ∙ reads_and c.args.left)
 
 pub returns-in-34 : goal.returns-in-34
 returns-in-34 c =
-    let a = c.args in
-    numbered_at (λ o. reads_right_of o a.left) 34 c.in-34.is (ap₂ (λ p q. p && q) c.is_value-in-34.ensures (ap not c.as_truth-in-34.ensures))
+    numbered_at (λ o. reads_right_of o c.args.left) 34 c.in-34.is (c.has_truth-in-34.ensures ∙ reads_or c.args.left)
 
 pub returns-in-35 : goal.returns-in-35
 returns-in-35 c =
-    let a = c.args in
-    numbered_at (λ o. reads_right_of o a.left) 35 c.in-35.is (ap₂ (λ p q. p && q) c.is_value-in-35.ensures c.as_truth-in-35.ensures)
+    numbered_at (λ o. reads_right_of o c.args.left) 35 c.in-35.is (c.has_truth-in-35.ensures ∙ reads_implies c.args.left)
 
 pub returns-in-36 : goal.returns-in-36
 returns-in-36 c =
-    numbered_at (λ o. reads_right_of o c.args.left) 36 c.in-36.is c.is_value-in-36.ensures
+    numbered_at (λ o. reads_right_of o c.args.left) 36 c.in-36.is c.is_ok.ensures.value
 
 pub returns-in_default : goal.returns-in_default
 returns-in_default c =

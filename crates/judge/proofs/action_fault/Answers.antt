@@ -10,8 +10,8 @@ use Rattle.table.proofs.Counts.{starts_nodes, starts_identifiers}
 use Rattle.machine.specs.Described.{tree_of, machine_of}
 use Rattle.signed.specs.Found.{answer_of}
 use Rattle.signed.proofs.Answers.{answer_found}
-use Rattle.recording.specs.Faults.{fault_of}
-use Rattle.judge.proofs.Stored.{stored_value_is, stored_answer_is}
+use Rattle.recording.specs.Faults.{differs, fault_of}
+use Rattle.judge.proofs.Stored.{stored_value_is}
 use Rattle.judge.proofs.Steps.{unassigned_fault, equal_fault, such_fault}
 use Rattle.judge.proofs.action_fault.Goals as goal
 
@@ -19,8 +19,8 @@ pub returns-then-size-i : goal.returns-then-size-i
 returns-then-size-i c =
     let t = rows_of c.args.words.now in
     let v = stored_value_is c.identifier_field-sort.ensures c.value_at.result c.value_at.type_inv c.value_at.ensures c.stored_value-moved.ensures in
-    let w = stored_answer_is c.identifier_field-sort.ensures c.value_at-then-size-i.result c.value_at-then-size-i.type_inv c.value_at-then-size-i.ensures c.stored_value.ensures in
-    c.fault_of.ensures ∙ ap₂ fault_of v w
+    let w = stored_value_is c.identifier_field-sort.ensures c.value_at-then-size-i.result c.value_at-then-size-i.type_inv c.value_at-then-size-i.ensures c.stored_value.ensures in
+    c.differs.ensures ∙ ap₂ differs v w
     ∙ unassigned_fault t c.args.e c.args.present.now c.args.after.now c.args.x c.action_row-i.result c.action_row-i.ensures (omega (arith, c.size.ensures, c.if-size-i.true))
 
 pub evaluate_expression-found-requires : goal.evaluate_expression-found-requires
@@ -34,7 +34,7 @@ returns-then-tag_at-eq-BECOMES_EQUAL c =
     let ρ = stored_env (machine_of t).type c.args.present.now c.args.after.now in
     let v = stored_value_is c.identifier_field-sort.ensures c.value_at.result c.value_at.type_inv c.value_at.ensures c.stored_value-moved.ensures in
     let w = ap answer_of c.evaluate_expression-found.ensures ∙ answer_found (answer ρ (tree_of t c.c_at-root.result)) ∙ ap (λ n. answer ρ (tree_of t n)) c.c_at-root.ensures in
-    c.fault_of-then-tag_at-eq-BECOMES_EQUAL.ensures ∙ ap₂ fault_of v w
+    c.fault_of.ensures ∙ ap₂ fault_of v w
     ∙ equal_fault t c.args.e c.args.present.now c.args.after.now c.args.x c.action_row-i.result c.action_row-i.ensures (omega (arith, c.size.ensures, c.if-size-i.false)) (sym c.tag_at.ensures ∙ c.if-tag_at-eq-BECOMES_EQUAL.true)
 
 pub evaluate_predicate-met-requires : goal.evaluate_predicate-met-requires

@@ -1,5 +1,5 @@
 -- The loop's invariant: no identifier up to x has a fault.
-use Prim.Native.Nat.{◌+◌, ◌-◌}
+use Prim.Native.Nat.{◌+◌}
 use Rattle.table.specs.Rows.{rows_of}
 use Rattle.judge.specs.Judge.{variable_fault}
 use Rattle.judge.proofs.Faults.{NoneFrom}
@@ -7,6 +7,3 @@ use Rattle.judge.proofs.first_not_allowed.Given as goal
 
 abbrev pub invariant-loop-x : goal.invariant-loop-x
 invariant-loop-x l = NoneFrom (variable_fault (rows_of l.words) l.present l.after l.e) 1 (l.x + 1)
-
-abbrev pub decreases-loop-x : goal.decreases-loop-x
-decreases-loop-x l = l.table.identifiers - l.x

@@ -1,5 +1,4 @@
 -- The loop's invariant: no row before i has a fault; and no row outside the span of the tag has one.
-use Prim.Native.Nat.{◌-◌}
 use Rattle.table.specs.Rows.{rows_of}
 use Rattle.judge.specs.Judge.{row_fault}
 use Rattle.judge.proofs.Faults.{NoneFrom}
@@ -7,6 +6,3 @@ use Rattle.judge.proofs.first_untrue.Given as goal
 
 abbrev pub invariant-loop-i : goal.invariant-loop-i
 invariant-loop-i l = NoneFrom (row_fault (rows_of l.words) l.present l.tag l.e) 0 l.i
-
-abbrev pub decreases-loop-i : goal.decreases-loop-i
-decreases-loop-i l = l.span.to - l.i

@@ -1,22 +1,20 @@
 -- The first fault of the axioms, else of the step.
-use mathlib.Core.Path.{sym, ◌∙◌}
-use native.Mathlib.Omega.{arith}
+use mathlib.Core.Path.{refl, sym, ◌∙◌}
 use Rattle.table.specs.Rows.{rows_of}
 use Rattle.recording.specs.Faults.{step_fault}
+use Rattle.judge.proofs.Faults.{is_fault, handed_on}
 use Rattle.judge.proofs.Steps.{press_faults, former, latter}
 use Rattle.judge.proofs.press_fault.Goals as goal
 
-pub first_untrue-axiom-requires : goal.first_untrue-axiom-requires
-first_untrue-axiom-requires c = (c.requires.0, c.requires.1, omega arith)
-
-pub returns-then-axiom-ne0 : goal.returns-then-axiom-ne0
-returns-then-axiom-ne0 c =
+pub returns-in_err-first_untrue : goal.returns-in_err-first_untrue
+returns-in_err-first_untrue c =
     let t = rows_of c.args.words.now in
-    former (step_fault t c.args.e c.args.present.now c.args.after.now) c.first_untrue-axiom.ensures c.if-axiom-ne0.true
-    ∙ sym (press_faults t c.args.e c.args.present.now c.args.after.now)
+    handed_on c.from_residual.result _ c.from_residual.ensures.1
+    (former (step_fault t c.args.e c.args.present.now c.args.after.now) c.in_err-first_untrue.ensures (is_fault _ refl)
+    ∙ sym (press_faults t c.args.e c.args.present.now c.args.after.now))
 
 pub returns : goal.returns
 returns c =
     let t = rows_of c.args.words.now in
-    c.step_fault.ensures ∙ latter (step_fault t c.args.e c.args.present.now c.args.after.now) c.first_untrue-axiom.ensures c.if-axiom-ne0.false
+    c.step_fault.ensures ∙ latter (step_fault t c.args.e c.args.present.now c.args.after.now) c.in_ok-first_untrue.ensures refl
     ∙ sym (press_faults t c.args.e c.args.present.now c.args.after.now)

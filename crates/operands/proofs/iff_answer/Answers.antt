@@ -1,11 +1,15 @@
--- From both sides' truth.
-use mathlib.Core.Path.{refl, ap₂, ◌∙◌}
+-- A faulty operand is the answer; else whether both sides have the same truth.
+use mathlib.Core.Path.{refl, ap₂}
 use mathlib.Core.Bool.{beq}
 use Rattle.formula.specs.Tree.{iff}
-use Rattle.operands.proofs.Operands.{truth_is}
+use Rattle.operands.proofs.Operands.{left_fault, right_fault, both_truths}
 use Rattle.operands.proofs.iff_answer.Goals as goal
 
+pub returns-in_err-p : goal.returns-in_err-p
+returns-in_err-p c = left_fault c.args.right c.in_err-p.was c.from_residual.ensures.1 iff
+
+pub returns-in_err-q : goal.returns-in_err-q
+returns-in_err-q c = right_fault c.in_ok-p.was c.in_err-q.was c.from_residual-in_err-q.ensures.1 iff
+
 pub returns : goal.returns
-returns c =
-    let a = c.args in
-    c.both_operands.ensures ∙ truth_is a.left a.right iff refl (ap₂ beq c.as_truth.ensures c.as_truth-2.ensures)
+returns c = both_truths c.in_ok-p.was c.in_ok-q.was iff refl (ap₂ beq c.as_truth.ensures c.as_truth-2.ensures)

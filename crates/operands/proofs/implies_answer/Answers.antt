@@ -1,12 +1,14 @@
--- By the left side's truth.
-use mathlib.Core.Path.{sym, ◌∙◌}
-use Rattle.operands.proofs.Operands.{implies_true, implies_false}
+-- A faulty left side is the answer; else by its truth.
+use mathlib.Core.Path.{◌∙◌}
+use Rattle.formula.specs.Tree.{implies}
+use Rattle.operands.proofs.Operands.{side_fault, implies_true, implies_false}
 use Rattle.operands.proofs.implies_answer.Goals as goal
 
+pub returns-in_err-left : goal.returns-in_err-left
+returns-in_err-left c = side_fault c.args.right implies c.in_err-left.was c.from_residual.ensures.1
+
 pub returns-then-as_truth : goal.returns-then-as_truth
-returns-then-as_truth c =
-    c.bool_answer.ensures ∙ implies_true c.args.left c.args.right (sym c.as_truth.ensures ∙ c.if-as_truth.true)
+returns-then-as_truth c = c.bool_answer.ensures ∙ implies_true c.args.right c.in_ok-left.was c.as_truth.ensures c.if-as_truth.true
 
 pub returns : goal.returns
-returns c =
-    c.fault_or.ensures ∙ implies_false c.args.left c.args.right (sym c.as_truth.ensures ∙ c.if-as_truth.false)
+returns c = implies_false c.args.right c.in_ok-left.was c.as_truth.ensures c.if-as_truth.false

@@ -1,16 +1,24 @@
--- From the operands' numbers, and whether the division is defined on them.
-use mathlib.Core.Path.{ap, ap₂, ◌∙◌}
+-- A faulty operand is the answer; else the quotient of the operands' numbers, where the divisor is not 0.
+use mathlib.Core.Path.{sym, ap, ap₂, ◌∙◌}
+use mathlib.Core.Bool.{not}
 use Rattle.formula.specs.Values.{quotientℤ}
 use Rattle.formula.specs.Tree.{quotient}
 use Rattle.signed.proofs.Numbers.{number_found, seen_is}
-use Rattle.operands.specs.Operands.{both_operands}
-use Rattle.operands.proofs.Operands.{division_is}
+use Rattle.operands.proofs.Operands.{dividend_fault, divisor_fault, divided, not_divided}
 use Rattle.operands.proofs.quotient_answer.Goals as goal
+
+pub returns-in_err-dividend : goal.returns-in_err-dividend
+returns-in_err-dividend c = dividend_fault c.args.right c.in_err-dividend.was c.from_residual.ensures.1 quotient
+
+pub returns-in_err-divisor : goal.returns-in_err-divisor
+returns-in_err-divisor c = divisor_fault c.in_ok-dividend.was c.in_err-divisor.was c.from_residual-in_err-divisor.ensures.1 quotient
+
+pub returns-then-equal_values : goal.returns-then-equal_values
+returns-then-equal_values c =
+    not_divided c.in_ok-dividend.was c.in_ok-divisor.was quotient (ap not (sym c.equal_values.ensures ∙ c.if-equal_values.true))
 
 pub returns : goal.returns
 returns c =
-    let a = c.args in
     let m = seen_is c.as_number.result c.as_number.type_inv c.as_number.ensures in
     let n = seen_is c.as_number-2.result c.as_number-2.type_inv c.as_number-2.ensures in
-    c.both_operands.ensures ∙ ap (both_operands a.left a.right) c.if_defined.ensures
-    ∙ division_is a.left a.right quotient c.quotient_defined-defined.ensures (c.divide-quotient.ensures ∙ ap₂ (λ m n. number_found (quotientℤ m n)) m n)
+    divided c.in_ok-dividend.was c.in_ok-divisor.was quotient (ap not (sym c.equal_values.ensures ∙ c.if-equal_values.false)) (c.divide.ensures ∙ ap₂ (λ m n. number_found (quotientℤ m n)) m n)

@@ -16,12 +16,12 @@ use Rattle.press.proofs.press_values.Goals as goal
 
 pub slice_bounds-press_step-end : goal.slice_bounds-press_step-end
 slice_bounds-press_step-end c =
-    sym (ap (λ zs. suc (length zs)) (append-nil c.copy_values.new.to ∙ c.copy_values.ensures) ∙ ap suc (laid_size _ _))
+    sym (ap (λ zs. suc (length zs)) (append-nil c.copy_list.new.to ∙ c.copy_list.ensures) ∙ ap suc (laid_size _ _))
 
 pub returns : goal.returns
 returns c =
     let a = c.args in
     let t = rows_of a.words.now in
-    let present = placed_is a.values.now (pos 0 ∷ (c.copy_values.new.to ++ [])) (ap (λ zs. pos 0 ∷ zs) (append-nil c.copy_values.new.to ∙ c.copy_values.ensures)) in
+    let present = placed_is a.values.now (pos 0 ∷ (c.copy_list.new.to ++ [])) (ap (λ zs. pos 0 ∷ zs) (append-nil c.copy_list.new.to ∙ c.copy_list.ensures)) in
     let both = as_answers a.values.now (ap (λ ps. press_choice t a.values.now (choice t (lines a.step.now) (values_of ps (replicate 65 (pos 0))))) (sym present)) (c.press_step.ensures.value, c.press_step.ensures.values_after) in
     record { value = both.0; values_after = both.1 }

@@ -8,7 +8,7 @@ returns-then-is_performed c =
     let a = c.args in
     let room = c.room_of-room.ensures in
     let both = preview_made a.table.now a.step.now a.copy.now a.sorts.now a.second.now a.types.now (room ∙ room_is a.second.now a.types.now) c.press_to-reply.ensures.value c.press_to-reply.ensures.values_after c.is_performed.ensures
-    c.if-is_performed.true c.copy_values.ensures c.copy_sorts.ensures in
+    c.if-is_performed.true c.copy_list.ensures c.copy_list-then-is_performed.ensures in
     record { value = both.0; second_after = both.1.0; types_after = both.1.1 }
 
 pub returns-else-is_performed : goal.returns-else-is_performed

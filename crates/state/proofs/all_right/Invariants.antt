@@ -11,6 +11,3 @@ abbrev pub invariant-loop-x : goal.invariant-loop-x
 invariant-loop-x l =
     let t = rows_of l.words in
     some_of (is_wrong t l.values l.sorts) (numbers (count t 10 - l.x) (l.x + 1)) ≡ some_of (is_wrong t l.values l.sorts) (numbers (count t 10) 1)
-
-abbrev pub decreases-loop-x : goal.decreases-loop-x
-decreases-loop-x l = l.table.identifiers - l.x
