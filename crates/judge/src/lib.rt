@@ -17,7 +17,7 @@ ghost use Rattle.judge.specs.Judge.{is_judged, judged_root, root_fault, row_faul
 use evaluate::{evaluate_expression, evaluate_predicate, stored_value, value_at};
 use events::is_initial;
 use operands::equal_values;
-use recording::Replay;
+use rules::Refusal;
 use scan::{action_row, span_at};
 use signed::Found;
 use table::{
@@ -31,7 +31,7 @@ fn differs(expected: Found, found: Found) -> u64
     if equal_values(expected, found) {
         return 0;
     }
-    Replay::LOG
+    Refusal::LOG
 }
 
 // A formula that has to have a value.
@@ -41,8 +41,8 @@ fn fault_of(expected: Found, found: Found) -> u64
     match found {
         Found::Number(_) => differs(expected, found),
         Found::Truth(_) => differs(expected, found),
-        Found::Outside => Replay::OUTSIDE,
-        Found::Undefined => Replay::UNDEFINED,
+        Found::Outside => Refusal::OUTSIDE,
+        Found::Undefined => Refusal::UNDEFINED,
     }
 }
 

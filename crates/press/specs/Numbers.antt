@@ -1,10 +1,8 @@
 -- How the code presses on the values and the types of a state, two lists of numbers.
-use Rattle.std.specs.Prelude.{Bool, true, false, List, ℕ, eqb, ℤ, length}
+use Rattle.std.specs.Prelude.{List, ℕ, eqb, ℤ, length}
 use Rattle.lists.specs.Choice.{pick}
 use Rattle.recording.specs.Replay.{Values}
 use Rattle.bench.specs.Choice.{Choice, chosen, none}
-use Rattle.bench.specs.declared.Press.{Press}
-use Rattle.bench.specs.declared.Press.TheVariants.{Performed, Refused}
 use Rattle.press.specs.declared.Chosen.{Chosen}
 use Rattle.press.specs.declared.Chosen.TheVariants.{Event, Nothing}
 
@@ -16,7 +14,3 @@ room_for zs types = pick (eqb (length zs) (length types)) (length zs) 65
 abbrev pub choice_of : Chosen → Values → Choice
 choice_of (Event e) vs = chosen e vs
 choice_of Nothing vs = none
-
-abbrev pub is_performed : Press → Bool
-is_performed Performed = true
-is_performed (Refused number row) = false
