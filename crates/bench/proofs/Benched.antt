@@ -8,6 +8,7 @@ use mathlib.Core.Logic.{◌↔◌}
 use lib.Dec.{T}
 use lib.IntN.{ℤ}
 use lib.ListN.{length}
+use Rattle.std.specs.Prelude.{Ok}
 use Rattle.lists.specs.Choice.{pick}
 use Rattle.lists.specs.All.{All, all_nil, all_cons, In}
 use Rattle.lists.proofs.All.{all_head, all_tail, all_at, all_in, all_left, all_right, all_join, all_map, all_unmap}
@@ -21,12 +22,10 @@ use Rattle.table.specs.Rows.{Rows, count, named}
 use Rattle.machine.specs.Machine.{Machine}
 use Rattle.machine.specs.Described.{machine_of}
 use Rattle.machine.proofs.Described.{variable_named}
-use Rattle.rules.specs.declared.Verdict.TheVariants as verdict
 use Rattle.rules.specs.Decoded.{decoded}
 use Rattle.rules.specs.Verdict.{verdict as verdict_of}
 use Rattle.rules.proofs.Obeys.{Obeys}
 use Rattle.run.specs.Run.{State, blank, AllReadTrue, Step, Taken, of_run, Follows}
-use Rattle.recording.specs.declared.Replay.TheVariants.{Steps}
 use Rattle.recording.specs.Rows.{is_initial, is_given, is_state_variable, is_step_row, logged}
 use Rattle.recording.specs.Lines.{lines}
 use Rattle.recording.specs.Faults.{no_fault}
@@ -116,7 +115,7 @@ module _ (t : Rows) where
         p.leaves ∙ left_same t j k zs types right (λ x n v.
         sym ((left_shows t j zs types right c s shows).variables x n v) ∙ ap (λ ys. state_of t ys x) (sym p.leaves) ∙ all_at afters (of_variable t x n v))
 
-module _ (table : List ℕ) (n : ℕ) (accepted : verdict_of table ≡ verdict.Accepted n) where
+module _ (table : List ℕ) (n : ℕ) (accepted : verdict_of table ≡ Ok n) where
   abbrev t : Rows
   t = decoded table
 
@@ -185,7 +184,7 @@ module _ (table : List ℕ) (n : ℕ) (accepted : verdict_of table ≡ verdict.A
   abbrev run_bytes : ℕ → State m → State m → List (Taken m) → List ℕ
   run_bytes e c k ss = flat_map (row_bytes width) (run_rows t e c k ss)
 
-  pub replay_benched : (run : List ℕ) (total : ℕ) → replay table run ≡ Steps total → Benched table run total
+  pub replay_benched : (run : List ℕ) (total : ℕ) → replay table run ≡ Ok total → Benched table run total
   unfolding flat_map
   replay_benched run total h =
       let (count, accepts, (r, inside, number)) = (replay_exact table run total).0 h in
@@ -220,7 +219,7 @@ module _ (table : List ℕ) (n : ℕ) (accepted : verdict_of table ≡ verdict.A
         count = number;
       }
 
-  pub benched_replay : (run : List ℕ) (total : ℕ) → Benched table run total → replay table run ≡ Steps total
+  pub benched_replay : (run : List ℕ) (total : ℕ) → Benched table run total → replay table run ≡ Ok total
   unfolding flat_map
   benched_replay run total b =
       let r = b.start in
@@ -249,5 +248,5 @@ module _ (table : List ℕ) (n : ℕ) (accepted : verdict_of table ≡ verdict.A
       (replay_exact table run total).1 (n, accepted, (whole, record { axioms = b.inside.axioms; start = b.inside.start; steps = rest.inside }, b.count))
 
 -- press after press is replay, both ways
-pub press_replay : (table run : List ℕ) (n : ℕ) → verdict_of table ≡ verdict.Accepted n → (total : ℕ) → (replay table run ≡ Steps total) ↔ Benched table run total
+pub press_replay : (table run : List ℕ) (n : ℕ) → verdict_of table ≡ Ok n → (total : ℕ) → (replay table run ≡ Ok total) ↔ Benched table run total
 press_replay table run n accepted total = (replay_benched table n accepted run total, benched_replay table n accepted run total)

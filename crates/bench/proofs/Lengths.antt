@@ -8,11 +8,11 @@ use lib.Dec.{T, eqb, eqb→eq}
 use lib.IntN.{ℤ}
 use lib.ListN.{length}
 use borrow.Author.Tests.{eq-eqb, ne_eqb}
+use Rattle.std.specs.Prelude.{Result, Ok, Err}
 use Rattle.lists.specs.Choice.{pick}
 use Rattle.formula.proofs.Truth.{and_split, and_join, true_test, test_true, eq→eqb}
 use Rattle.table.specs.Rows.{Rows, count}
-use Rattle.rules.specs.declared.Verdict.{Verdict}
-use Rattle.rules.specs.declared.Verdict.TheVariants as verdict
+use Rattle.rules.specs.declared.Refusal.{Refusal}
 use Rattle.rules.specs.Decoded.{decoded}
 use Rattle.rules.specs.Verdict.{verdict as verdict_of}
 use Rattle.rules.proofs.Full.{few_identifiers}
@@ -102,19 +102,19 @@ module _ (t : Rows) (step : List ℕ) (zs : List ℤ) (types : List ℕ) (room :
       and_false false = refl
 
 -- ---- over bytes
-accepted_few : (table : List ℕ) (n : ℕ) → verdict_of table ≡ verdict.Accepted n → count (decoded table) 10 ≤ 64
+accepted_few : (table : List ℕ) (n : ℕ) → verdict_of table ≡ Ok n → count (decoded table) 10 ≤ 64
 accepted_few table n a = few_identifiers (decoded table) (none_obeys table (accepted_none table n a).0).full
 
 module _ (table step : List ℕ) where
   -- a made state is one of an accepted table
   pub outcome_made : (zs : List ℤ) (types : List ℕ) (room : ℕ) (ys : List ℤ) → outcome table step zs types room ≡ made ys
-      → (n : ℕ) × (verdict_of table ≡ verdict.Accepted n) × (press_on (decoded table) step zs types room ≡ made ys)
+      → (n : ℕ) × (verdict_of table ≡ Ok n) × (press_on (decoded table) step zs types room ≡ made ys)
   unfolding outcome
   outcome_made zs types room ys h = go (verdict_of table) refl h
     where
-      go : (v : Verdict) → verdict_of table ≡ v → outcome_by v (press_on (decoded table) step zs types room) ≡ made ys → (n : ℕ) × (verdict_of table ≡ verdict.Accepted n) × (press_on (decoded table) step zs types room ≡ made ys)
-      go (verdict.Accepted n) a h = (n, a, h)
-      go (verdict.Refused n row) a h = absurd (made_never h)
+      go : (v : Result ℕ Refusal) → verdict_of table ≡ v → outcome_by v (press_on (decoded table) step zs types room) ≡ made ys → (n : ℕ) × (verdict_of table ≡ Ok n) × (press_on (decoded table) step zs types room ≡ made ys)
+      go (Ok n) a h = (n, a, h)
+      go (Err r) a h = absurd (made_never h)
 
   pub outcome_length : (zs : List ℤ) (types : List ℕ) (room : ℕ) (ys : List ℤ) → outcome table step zs types room ≡ made ys
       → (length ys ≡ length zs) × (length types ≡ length zs) × (room ≡ length zs) × (length zs ≤ 64)
@@ -126,9 +126,9 @@ module _ (table step : List ℕ) where
       let size = p.right.size in
       (ap length p.makes ∙ updated_size t (completed t p.event p.values).after zs, p.right.sorts ∙ sym size, p.roomy ∙ sym size, omega (arith, size, few))
 
-  either : (v : Verdict) → verdict_of table ≡ v → (o p : Outcome) → ((n : ℕ) → verdict_of table ≡ verdict.Accepted n → (o ≡ refused log_fault 0) × (p ≡ refused log_fault 0)) → outcome_by v o ≡ outcome_by v p
-  either (verdict.Accepted n) a o p f = (f n a).0 ∙ sym (f n a).1
-  either (verdict.Refused n row) a o p f = refl
+  either : (v : Result ℕ Refusal) → verdict_of table ≡ v → (o p : Outcome) → ((n : ℕ) → verdict_of table ≡ Ok n → (o ≡ refused log_fault 0) × (p ≡ refused log_fault 0)) → outcome_by v o ≡ outcome_by v p
+  either (Ok n) a o p f = (f n a).0 ∙ sym (f n a).1
+  either (Err r) a o p f = refl
 
   -- beyond 64 members a list is of another length whatever it holds
   pub outcome_long : (zs zs' : List ℤ) (types types' : List ℕ) (room room' : ℕ) → 64 < length zs → 64 < length zs' → outcome table step zs types room ≡ outcome table step zs' types' room'

@@ -9,6 +9,7 @@ use lib.Dec.{T, eqb, eqb→eq}
 use lib.IntN.{ℤ}
 use lib.ListN.{length}
 use borrow.Author.Tests.{eq-eqb, ne_eqb}
+use Rattle.std.specs.Prelude.{Result, Ok, Err}
 use Rattle.lists.specs.Choice.{pick}
 use Rattle.lists.specs.All.{All, First, fault_here, fault_later}
 use Rattle.lists.proofs.All.{all_in, all_at, first_left, first_right, first_either}
@@ -20,8 +21,8 @@ use Rattle.table.specs.Rows.{Rows, count, machine_number}
 use Rattle.machine.specs.Machine.{Role, abstract_initialisation, abstract_ordinary, concrete_initialisation, refining, convergent, anticipated}
 use Rattle.machine.specs.Machine.{Action, unassigned, becomes_equal, becomes_such_that, Machine}
 use Rattle.machine.specs.Described.{machine_of}
-use Rattle.rules.specs.declared.Verdict.{Verdict}
-use Rattle.rules.specs.declared.Verdict.TheVariants as verdict
+use Rattle.rules.specs.declared.Refusal.{Refusal}
+use Rattle.rules.specs.Refusal.{refused as refusal}
 use Rattle.rules.specs.Decoded.{decoded}
 use Rattle.rules.specs.Verdict.{verdict as verdict_of}
 use Rattle.rules.proofs.Obeys.{Obeys}
@@ -39,8 +40,6 @@ use Rattle.recording.proofs.Lines.{written_lines}
 use Rattle.recording.proofs.Steps.{of_variable, variable_of_lem}
 use Rattle.recording.proofs.Runs.{of_event_lem, role_later}
 use Rattle.bench.specs.declared.Record.{Record}
-use Rattle.bench.specs.declared.Press.{Press}
-use Rattle.bench.specs.declared.Press.TheVariants.{Performed, Refused}
 use Rattle.bench.specs.State.{values_in, types_in, is_state, IsState, updated}
 use Rattle.bench.specs.Choice.{Choice, chosen, none, choice}
 use Rattle.bench.specs.Press.{Outcome, made, refused, answered, completed, press_fault, press_choice, at_hand, press_on, outcome_by, outcome, reply_of, records_outcome, press, preview}
@@ -275,36 +274,36 @@ module _ (t : Rows) where
 -- the table's own refusal, or that of a press whose new state goes to a list of so many records, with row 0
 abbrev pub Refuses : List ℕ → List ℕ → List Record → ℕ → ℕ → ℕ → Type 0
 Refuses table step state room n row =
-    (verdict_of table ≡ verdict.Refused n row)
-    ⊎ ((count : ℕ) × (verdict_of table ≡ verdict.Accepted count) × (row ≡ 0) × PressRefusal (decoded table) step (values_in state) (types_in state) room n)
+    (verdict_of table ≡ Err (refusal n row))
+    ⊎ ((count : ℕ) × (verdict_of table ≡ Ok count) × (row ≡ 0) × PressRefusal (decoded table) step (values_in state) (types_in state) room n)
 
-pub outcome_refused : (o : Outcome) (n row : ℕ) → reply_of o ≡ Refused n row → o ≡ refused n row
+pub outcome_refused : (o : Outcome) (n row : ℕ) → reply_of o ≡ Err (refusal n row) → o ≡ refused n row
 outcome_refused (made zs) n row h = absurd (performed_never (sym h))
 outcome_refused (refused m i) n row h =
-    ap₂ refused (ap (λ (p : Press). elim p [ Performed ↦ m | Refused n row ↦ n ]) h) (ap (λ (p : Press). elim p [ Performed ↦ i | Refused n row ↦ row ]) h)
+    ap₂ refused (ap (λ (p : Result (Unit {0}) Refusal). elim p [ Ok done ↦ m | Err r ↦ r.number ]) h) (ap (λ (p : Result (Unit {0}) Refusal). elim p [ Ok done ↦ i | Err r ↦ r.row ]) h)
 
-pub records_refused : (table step : List ℕ) (state : List Record) (room n row : ℕ) → (reply_of (records_outcome table step state room) ≡ Refused n row) ↔ Refuses table step state room n row
+pub records_refused : (table step : List ℕ) (state : List Record) (room n row : ℕ) → (reply_of (records_outcome table step state room) ≡ Err (refusal n row)) ↔ Refuses table step state room n row
 unfolding records_outcome outcome
 records_refused table step state room n row = (λ h. by (verdict_of table) refl (outcome_refused (outcome_by (verdict_of table) on) n row h), back)
   where
     on : Outcome
     on = press_on (decoded table) step (values_in state) (types_in state) room
 
-    by : (v : Verdict) → verdict_of table ≡ v → outcome_by v on ≡ refused n row → Refuses table step state room n row
-    by (verdict.Accepted count) a h =
+    by : (v : Result ℕ Refusal) → verdict_of table ≡ v → outcome_by v on ≡ refused n row → Refuses table step state room n row
+    by (Ok count) a h =
         let p = refused_cause (decoded table) (accepted_obeys table count a) step (values_in state) (types_in state) room n row h in
         inr (count, a, p.0, p.1)
-    by (verdict.Refused m i) a h = inl (a ∙ ap₂ verdict.Refused (refused_number h) (refused_row h))
+    by (Err r) a h = inl (a ∙ ap₂ (λ m i. Err (refusal m i)) (refused_number h) (refused_row h))
 
-    back : Refuses table step state room n row → reply_of (outcome_by (verdict_of table) on) ≡ Refused n row
+    back : Refuses table step state room n row → reply_of (outcome_by (verdict_of table) on) ≡ Err (refusal n row)
     back (inl a) = ap (λ v. reply_of (outcome_by v on)) a
     back (inr (count, a, z, p)) =
-        ap (λ v. reply_of (outcome_by v on)) a ∙ ap reply_of (cause_refused (decoded table) (accepted_obeys table count a) step (values_in state) (types_in state) room n p) ∙ ap (Refused n) (sym z)
+        ap (λ v. reply_of (outcome_by v on)) a ∙ ap reply_of (cause_refused (decoded table) (accepted_obeys table count a) step (values_in state) (types_in state) room n p) ∙ ap (λ r. Err (refusal n r)) (sym z)
 
-pub press_refused_lem : (table step : List ℕ) (state : List Record) (n row : ℕ) → ((press table step state).reply ≡ Refused n row) ↔ Refuses table step state (length state) n row
+pub press_refused_lem : (table step : List ℕ) (state : List Record) (n row : ℕ) → ((press table step state).reply ≡ Err (refusal n row)) ↔ Refuses table step state (length state) n row
 unfolding press
 press_refused_lem table step state n row = records_refused table step state (length state) n row
 
-pub preview_refused_lem : (table step : List ℕ) (first second : List Record) (n row : ℕ) → ((preview table step first second).reply ≡ Refused n row) ↔ Refuses table step first (length second) n row
+pub preview_refused_lem : (table step : List ℕ) (first second : List Record) (n row : ℕ) → ((preview table step first second).reply ≡ Err (refusal n row)) ↔ Refuses table step first (length second) n row
 unfolding preview
 preview_refused_lem table step first second n row = records_refused table step first (length second) n row

@@ -1,5 +1,5 @@
 -- 02, request 6, press after press: a log whose initialisation is a run of no steps, and whose other steps are pressed one after another.
-use Rattle.std.specs.Prelude.{◌≡◌, ℕ, length}
+use Rattle.std.specs.Prelude.{◌≡◌, ℕ, length, Ok}
 use mathlib.Core.List.{List, [], ◌∷◌, ◌++◌, flat_map}
 use Rattle.lists.specs.All.{All}
 use Rattle.row.specs.Row.{greatest, width, row_bytes, Writable}
@@ -10,7 +10,6 @@ use Rattle.rules.specs.Decoded.{decoded}
 use Rattle.run.specs.Run.{Taken}
 use Rattle.recording.specs.Recorded.{steps_rows, Recorded, Inside}
 use Rattle.bench.specs.declared.Record.{Record}
-use Rattle.bench.specs.declared.Press.TheVariants.{Performed}
 use Rattle.bench.specs.State.{values_in}
 use Rattle.bench.specs.Press.{press}
 use Rattle.bench.specs.Pressed.{state_of, choice_rows, records_of}
@@ -26,7 +25,7 @@ module _ (table : List ℕ) where
   pub data PressedAll : List Record → List (Taken machine) → Type 0 where
     pressed_none : {state : List Record} → PressedAll state []
     pressed_next : {state state' : List Record} {s : Taken machine} {ss : List (Taken machine)} → All (Writable greatest width) (choice_rows rows s.event s.parameters s.result)
-        → press table (flat_map (row_bytes width) (choice_rows rows s.event s.parameters s.result)) state ≡ record { reply = Performed; state = state' }
+        → press table (flat_map (row_bytes width) (choice_rows rows s.event s.parameters s.result)) state ≡ record { reply = Ok tt; state = state' }
         → All (λ x. state_of rows (values_in state') x ≡ s.result x) machine.concrete_variables → PressedAll state' ss → PressedAll state (s ∷ ss)
 
   pub record Benched (run : List ℕ) (n : ℕ) : Type 0 where

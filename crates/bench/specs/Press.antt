@@ -1,6 +1,6 @@
 -- 02, request 6: "Pressing performs one concrete step and updates the variables' records. A preview writes into a second lent list what pressing would make of the first,
 -- which keeps its records."
-use Rattle.std.specs.Prelude.{◌&&◌, List, [], ◌∷◌, ◌++◌, map, ℕ, eqb, ℤ, pos, length, get_or, set, replicate}
+use Rattle.std.specs.Prelude.{◌&&◌, List, [], ◌∷◌, ◌++◌, map, ℕ, eqb, ℤ, pos, length, get_or, set, replicate, Result, Ok, Err}
 use Rattle.lists.specs.Choice.{pick}
 use Rattle.lists.specs.Below.{one_if}
 use Rattle.formula.specs.Values.{AnyValue, number, truth}
@@ -10,16 +10,14 @@ use Rattle.table.specs.Names.{identifier_tag}
 use Rattle.table.specs.Rows.{Rows, count}
 use Rattle.machine.specs.Machine.{Action, unassigned, becomes_equal, becomes_such_that, Machine}
 use Rattle.machine.specs.Described.{machine_of}
-use Rattle.rules.specs.declared.Verdict.{Verdict}
-use Rattle.rules.specs.declared.Verdict.TheVariants as verdict
+use Rattle.rules.specs.declared.Refusal.{Refusal}
+use Rattle.rules.specs.Refusal.{refused as refusal}
 use Rattle.rules.specs.Decoded.{decoded}
 use Rattle.rules.specs.Verdict.{verdict as verdict_of}
 use Rattle.recording.specs.Lines.{lines}
 use Rattle.recording.specs.Faults.{no_fault, log_fault, first_fault, untrue, step_fault}
 use Rattle.recording.specs.Replay.{Values}
 use Rattle.bench.specs.declared.Record.{Record}
-use Rattle.bench.specs.declared.Press.{Press}
-use Rattle.bench.specs.declared.Press.TheVariants.{Performed, Refused}
 use Rattle.bench.specs.State.{values_in, types_in, placed, is_state, updated, with_values_of}
 use Rattle.bench.specs.Choice.{Choice, chosen, none, choice}
 
@@ -80,17 +78,17 @@ module _ (t : Rows) where
       pick (is_state t zs types && eqb room (count t identifier_tag)) (press_choice zs (choice t (lines step) (at_hand zs))) (refused log_fault 0)
 
 -- a refused table has its own number and row
-abbrev pub outcome_by : Verdict → Outcome → Outcome
-outcome_by (verdict.Accepted n) o = o
-outcome_by (verdict.Refused n row) o = refused n row
+abbrev pub outcome_by : Result ℕ Refusal → Outcome → Outcome
+outcome_by (Ok n) o = o
+outcome_by (Err r) o = refused r.number r.row
 
 unfoldable pub outcome : List ℕ → List ℕ → List ℤ → List ℕ → ℕ → Outcome
 outcome table step zs types room = outcome_by (verdict_of table) (press_on (decoded table) step zs types room)
 
 -- the answer, and what a list holds then: "no record changes on a refusal"
-abbrev pub reply_of : Outcome → Press
-reply_of (made zs) = Performed
-reply_of (refused n row) = Refused n row
+abbrev pub reply_of : Outcome → Result (Unit {0}) Refusal
+reply_of (made zs) = Ok tt
+reply_of (refused n row) = Err (refusal n row)
 
 module _ {A : Type 0} where
   abbrev pub kept_or : (List ℤ → List A) → List A → Outcome → List A
@@ -102,7 +100,7 @@ records_outcome table step rs room = outcome table step (values_in rs) (types_in
 
 -- the reply, and the records of the state after it
 pub record Pressed : Type 0 where
-  pub reply : Press
+  pub reply : Result (Unit {0}) Refusal
   pub state : List Record
 
 unfoldable pub press : List ℕ → List ℕ → List Record → Pressed
@@ -112,7 +110,7 @@ press table step state =
 
 -- the same of both lists; a preview writes the whole second list, types too
 pub record Previewed : Type 0 where
-  pub reply : Press
+  pub reply : Result (Unit {0}) Refusal
   pub first : List Record
   pub second : List Record
 

@@ -1,5 +1,5 @@
 -- 02, request 6: the step that pressing performs, by 01's definition: from the state's values, with the chosen parameters and after values.
-use Rattle.std.specs.Prelude.{◌≡◌, ℕ, T, ℤ, length}
+use Rattle.std.specs.Prelude.{◌≡◌, ℕ, T, ℤ, length, Ok}
 use mathlib.Core.List.{List, ◌∷◌, map, flat_map}
 use Rattle.lists.specs.Choice.{pick}
 use Rattle.lists.specs.All.{All, In}
@@ -12,7 +12,6 @@ use Rattle.table.specs.Names.{identifier_tag}
 use Rattle.table.specs.Rows.{Rows, count, type_of}
 use Rattle.machine.specs.Machine.{Machine}
 use Rattle.machine.specs.Described.{machine_of}
-use Rattle.rules.specs.declared.Verdict.TheVariants as verdict
 use Rattle.rules.specs.Decoded.{decoded}
 use Rattle.rules.specs.Verdict.{verdict as verdict_of}
 use Rattle.run.specs.Run.{State, blank, AllReadTrue, Step, Taken, of_run}
@@ -60,7 +59,7 @@ module _ (t : Rows) where
 -- the table is accepted, the records are a state of it, and the new ones are what a step leaves of them
 pub record Presses (table step : List ℕ) (state state' : List Record) : Type 0 where
   pub count : ℕ
-  pub accepted : verdict_of table ≡ verdict.Accepted count
+  pub accepted : verdict_of table ≡ Ok count
   pub is_state : IsState (decoded table) (values_in state) (types_in state)
   pub values : List ℤ
   pub pressed : PressedBy (decoded table) step (values_in state) values

@@ -8,10 +8,3 @@ pub struct Record {
     pub value: i64,
     pub sort: u64,
 }
-
-// The step was performed, or a refusal's number and row.
-#[derive(Clone, Copy)]
-pub enum Press {
-    Performed,
-    Refused(u64, u64),
-}

@@ -14,7 +14,7 @@ use rule_references::reference_offends;
 use rule_sight::sight_offends;
 use rule_sorts::{first_unsorted, first_unused};
 use rule_tags::{full_offends, tag_offends, twice_offends};
-use rules::Verdict;
+use rules::Refusal;
 use table::{Table, size};
 
 // Whether the row at i offends against a check that judges each row by itself, which 8 and 9 do not. Those before it have passed.
@@ -24,13 +24,13 @@ fn row_offends(words: &[u64], table: Table, spans: &[usize], check: u64, i: usiz
     ensures { result ≡ offends (rows_of words.now) check i }
 {
     match check {
-        Verdict::TAG => tag_offends(words, i),
-        Verdict::FULL => full_offends(words, spans, i),
-        Verdict::EVENT => event_offends(words, table, spans, i),
-        Verdict::IDENTIFIER => identifier_offends(words, table, i),
-        Verdict::REFERENCE => reference_offends(words, table, i),
-        Verdict::SIGHT => sight_offends(words, table, i),
-        Verdict::TWICE => twice_offends(words, spans, i),
+        Refusal::TAG => tag_offends(words, i),
+        Refusal::FULL => full_offends(words, spans, i),
+        Refusal::EVENT => event_offends(words, table, spans, i),
+        Refusal::IDENTIFIER => identifier_offends(words, table, i),
+        Refusal::REFERENCE => reference_offends(words, table, i),
+        Refusal::SIGHT => sight_offends(words, table, i),
+        Refusal::TWICE => twice_offends(words, spans, i),
         _ => false,
     }
 }
@@ -42,10 +42,10 @@ pub fn first_row(words: &[u64], table: Table, spans: &[usize], check: u64) -> us
     requires passed_before { PassedBefore (rows_of words.now) check }
     ensures { result ≡ first_row (rows_of words.now) check }
 {
-    if check == Verdict::SORT {
+    if check == Refusal::SORT {
         return first_unsorted(words, table);
     }
-    if check == Verdict::USE {
+    if check == Refusal::USE {
         return first_unused(words, table);
     }
     let rows = size(words);
@@ -63,10 +63,10 @@ pub fn first_check(words: &[u64], table: Table, spans: &[usize]) -> u64
     ensures { result ≡ first_check (rows_of words.now) }
 {
     let rows = size(words);
-    for check in Verdict::TAG..Verdict::MISSING {
+    for check in Refusal::TAG..Refusal::MISSING {
         if first_row(words, table, spans, check) < rows {
             return check;
         }
     }
-    Verdict::MISSING
+    Refusal::MISSING
 }

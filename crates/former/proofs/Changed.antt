@@ -6,29 +6,28 @@ use mathlib.Core.List.{List}
 use mathlib.Core.Logic.{◌⊎◌, inl, inr}
 use native.Mathlib.Omega.{arith}
 use lib.ListN.{length}
+use Rattle.std.specs.Prelude.{Result, Ok, Err}
 use Rattle.formula.specs.Values.{ValueType}
 use Rattle.formula.specs.Tree.{Tree}
 use Rattle.formula.specs.Evaluate.{Env}
 use Rattle.answer.specs.Answer.{Answer, value, outside, undefined, answer}
 use Rattle.answer.proofs.Answer.{answer_exact}
-use Rattle.rules.specs.declared.Verdict.TheVariants as verdict
+use Rattle.rules.specs.declared.Refusal.{Refusal}
+use Rattle.rules.specs.Refusal.{refused as refusal_of}
 use Rattle.rules.specs.Decoded.{decoded}
 use Rattle.rules.specs.Verdict.{verdict as verdict_of}
 use Rattle.recording.specs.Faults.{outside_fault, undefined_fault}
 use Rattle.recording.specs.Replay.{replay_by, replay}
-use Rattle.recording.specs.declared.Replay.{Replay}
-use Rattle.recording.specs.declared.Replay.TheVariants.{Steps, Refused}
 use Rattle.recording.proofs.Refusals.{refused_number}
 use Rattle.recording.proofs.Exact.{replay_refused}
 use Rattle.bench.specs.State.{values_in, types_in}
 use Rattle.bench.specs.Press.{Outcome, made, refused, outcome_by, reply_of, records_outcome, Pressed, press, Previewed, preview}
 use Rattle.bench.specs.declared.Record.{Record}
-use Rattle.bench.specs.declared.Press.{Press}
 use Rattle.bench.proofs.Refused.{outcome_refused, records_refused}
 use Rattle.former.specs.Former.{former_answer}
 use Rattle.former.specs.Evaluated.{pressed_of, previewed_of, replay_log_by, replay_with, press_on_by, outcome_with, press_with, preview_with}
 use Rattle.former.specs.Changed.{Changed, becomes_outside, stays, AnswerChanged, formerly, former_replay, former_press, former_preview, press_refused, preview_refused}
-use Rattle.former.specs.Changed.{LogOutside, PressOutside}
+use Rattle.former.specs.Changed.{log_refused, LogOutside, PressOutside}
 use Rattle.former.proofs.Answers.{answer_now}
 use Rattle.former.proofs.Evaluated.{Reply, replay_reply, outcome_reply}
 
@@ -56,21 +55,21 @@ module _ {A : Type 0} (refusal : ℕ → ℕ → A) (number : A → ℕ) (number
   changes (inr (p, row, u, o)) back forth = becomes_outside row u (forth row u o) o
 
 -- ---- a log
-replay_number : Replay → ℕ
-replay_number r = elim r [ Steps n ↦ 0 | Refused n row ↦ n ]
+replay_number : Result ℕ Refusal → ℕ
+replay_number r = elim r [ Ok n ↦ 0 | Err x ↦ x.number ]
 
-table_refused : (table run : List ℕ) (n row : ℕ) → verdict_of table ≡ verdict.Refused n row → former_replay table run ≡ Refused n row
+table_refused : (table run : List ℕ) (n row : ℕ) → verdict_of table ≡ Err (refusal_of n row) → former_replay table run ≡ Err (refusal_of n row)
 unfolding replay_with
 table_refused table run n row v = ap (λ v. replay_by v (replay_log_by formerly (decoded table) run)) v
 
-pub replay_changes : (table run : List ℕ) → Changed Refused (LogOutside table run) (former_replay table run) (replay table run)
+pub replay_changes : (table run : List ℕ) → Changed log_refused (LogOutside table run) (former_replay table run) (replay table run)
 unfolding replay_number
 replay_changes table run =
-    changes Refused replay_number (λ n row. refl) (LogOutside table run) (former_replay table run) (replay table run) (replay_reply (Unit {0}) formerly (λ type ρ u. answer_now ρ u) table run)
+    changes log_refused replay_number (λ n row. refl) (LogOutside table run) (former_replay table run) (replay table run) (replay_reply (Unit {0}) formerly (λ type ρ u. answer_now ρ u) table run)
     (λ row f. (replay_refused table run outside_fault row).1 (inr f))
     (λ row u o. go row u ((replay_refused table run outside_fault row).0 o))
   where
-    go : (row : ℕ) → former_replay table run ≡ Refused undefined_fault row → (verdict_of table ≡ verdict.Refused outside_fault row) ⊎ LogOutside table run row → LogOutside table run row
+    go : (row : ℕ) → former_replay table run ≡ Err (refusal_of undefined_fault row) → (verdict_of table ≡ Err (refusal_of outside_fault row)) ⊎ LogOutside table run row → LogOutside table run row
     go row u (inl v) = absurd (never_both refl refl (refused_number (sym u ∙ table_refused table run outside_fault row v)))
     go row u (inr f) = f
 
@@ -78,7 +77,7 @@ replay_changes table run =
 outcome_number : Outcome → ℕ
 outcome_number o = elim o [ made zs ↦ 0 | refused n row ↦ n ]
 
-outcome_table : (table step : List ℕ) (state : List Record) (room n row : ℕ) → verdict_of table ≡ verdict.Refused n row → outcome_with formerly table step state room ≡ refused n row
+outcome_table : (table step : List ℕ) (state : List Record) (room n row : ℕ) → verdict_of table ≡ Err (refusal_of n row) → outcome_with formerly table step state room ≡ refused n row
 unfolding outcome_with
 outcome_table table step state room n row v = ap (λ v. outcome_by v (press_on_by formerly (decoded table) step (values_in state) (types_in state) room)) v
 
@@ -94,12 +93,12 @@ outcome_changes table step state room =
     former : Outcome
     former = outcome_with formerly table step state room
 
-    go : (row : ℕ) → former ≡ refused undefined_fault row → (verdict_of table ≡ verdict.Refused outside_fault row) ⊎ PressOutside table step state room row → PressOutside table step state room row
+    go : (row : ℕ) → former ≡ refused undefined_fault row → (verdict_of table ≡ Err (refusal_of outside_fault row)) ⊎ PressOutside table step state room row → PressOutside table step state room row
     go row u (inl v) = absurd (never_both refl refl (ap outcome_number (sym u ∙ outcome_table table step state room outside_fault row v)))
     go row u (inr f) = f
 
 -- what is given of an outcome, its reply among it
-given_changes : {A : Type 0} (give : Outcome → A) (replyIn : A → Press) → ((o : Outcome) → replyIn (give o) ≡ reply_of o) → (FirstOutside : ℕ → Type 0) (former now : Outcome)
+given_changes : {A : Type 0} (give : Outcome → A) (replyIn : A → Result (Unit {0}) Refusal) → ((o : Outcome) → replyIn (give o) ≡ reply_of o) → (FirstOutside : ℕ → Type 0) (former now : Outcome)
     → Changed refused FirstOutside former now → Changed (λ n row. give (refused n row)) FirstOutside (give former) (give now)
 given_changes give replyIn is FirstOutside former now (becomes_outside row u f o) = becomes_outside row (ap give u) f (ap give o)
 given_changes give replyIn is FirstOutside former now (stays h e) =

@@ -9,6 +9,7 @@ use mathlib.Core.Logic.{◌⊎◌, inl, inr}
 use lib.Dec.{eqb}
 use lib.IntN.{ℤ}
 use lib.ListN.{length, set}
+use Rattle.std.specs.Prelude.{Result, Ok, Err}
 use Rattle.lists.specs.Choice.{pick}
 use Rattle.row.specs.declared.Line.{Line}
 use Rattle.row.specs.declared.Line.TheVariants.{Whole, Malformed}
@@ -21,16 +22,14 @@ use Rattle.table.specs.Names.{identifier_tag}
 use Rattle.table.specs.Rows.{Rows, count}
 use Rattle.machine.specs.Machine.{Action, unassigned, becomes_equal, becomes_such_that, Machine}
 use Rattle.machine.specs.Described.{machine_of}
-use Rattle.rules.specs.declared.Verdict.{Verdict}
-use Rattle.rules.specs.declared.Verdict.TheVariants as verdict
+use Rattle.rules.specs.declared.Refusal.{Refusal}
+use Rattle.rules.specs.Refusal.{refused as refusal_of}
 use Rattle.rules.specs.Decoded.{decoded}
 use Rattle.rules.specs.Verdict.{verdict as verdict_of}
 use Rattle.recording.specs.Rows.{is_initial, logged, is_step_row}
 use Rattle.recording.specs.Lines.{lines}
 use Rattle.recording.specs.Faults.{no_fault, outside_fault, undefined_fault, log_fault, fault_of, first_fault, untrue, not_allowed, step_fault}
 use Rattle.recording.specs.Replay.{Values, Found, found, bad, no_values, read_values, moved, judged, replay_from, replay_log, replay_by, replay}
-use Rattle.recording.specs.declared.Replay.{Replay}
-use Rattle.recording.specs.declared.Replay.TheVariants.{Refused}
 use Rattle.bench.specs.State.{values_in, types_in, is_state, updated}
 use Rattle.bench.specs.Choice.{Choice, chosen, none, choice}
 use Rattle.bench.specs.Press.{Outcome, made, refused, answered, after_by, complete, completed, press_fault, press_choice, at_hand, press_on, outcome_by, outcome}
@@ -38,6 +37,7 @@ use Rattle.bench.specs.Press.{records_outcome, press, preview}
 use Rattle.bench.specs.declared.Record.{Record}
 use Rattle.former.specs.Evaluated.{Evaluation, pressed_of, previewed_of, untrue_by, not_allowed_by, step_fault_by, judged_by, replay_from_by, replay_log_by, replay_with, after_of, complete_by, press_fault_by}
 use Rattle.former.specs.Evaluated.{press_choice_by, press_on_by, outcome_with, press_with, preview_with}
+use Rattle.former.specs.Changed.{log_refused}
 use Rattle.former.proofs.Answers.{Instead}
 
 module _ (possible : Type 0) where
@@ -115,7 +115,7 @@ module _ (possible : Type 0) where
           initially ρ false = numbers_none
 
       -- ---- a log
-      from_reply : (most n i : ℕ) (ls : List Line) (vs : Values) → Reply Refused (replay_from_by evaluation t most n i ls vs) (replay_from t most n i ls vs)
+      from_reply : (most n i : ℕ) (ls : List Line) (vs : Values) → Reply log_refused (replay_from_by evaluation t most n i ls vs) (replay_from t most n i ls vs)
       unfolding replay_from_by replay_from
       from_reply zero n i ls vs = inl refl
       from_reply (suc most) n i [] vs = inl refl
@@ -126,12 +126,12 @@ module _ (possible : Type 0) where
           at : ℕ
           at = i + 1 + length (logged t r.a)
 
-          by_rows : (f : Found) → ((rest : List Line) (ws : Values) → Reply Refused (replay_from_by evaluation t most (n + 1) at rest ws) (replay_from t most (n + 1) at rest ws))
-              → Reply Refused (judged_by evaluation t i r.a f (λ rest ws. replay_from_by evaluation t most (n + 1) at rest ws)) (judged t i r.a f (λ rest ws. replay_from t most (n + 1) at rest ws))
+          by_rows : (f : Found) → ((rest : List Line) (ws : Values) → Reply log_refused (replay_from_by evaluation t most (n + 1) at rest ws) (replay_from t most (n + 1) at rest ws))
+              → Reply log_refused (judged_by evaluation t i r.a f (λ rest ws. replay_from_by evaluation t most (n + 1) at rest ws)) (judged t i r.a f (λ rest ws. replay_from t most (n + 1) at rest ws))
           by_rows (bad j) k = inl refl
-          by_rows (found ws rest) k = refused_or Refused _ _ (step_number r.a ws.present ws.after) _ _ (k rest (moved t ws)) i
+          by_rows (found ws rest) k = refused_or log_refused _ _ (step_number r.a ws.present ws.after) _ _ (k rest (moved t ws)) i
 
-          by_row : (b : Bool) {x y : Replay} → Reply Refused x y → Reply Refused (pick b x (Refused log_fault i)) (pick b y (Refused log_fault i))
+          by_row : (b : Bool) {x y : Result ℕ Refusal} → Reply log_refused x y → Reply log_refused (pick b x (Err (refusal_of log_fault i))) (pick b y (Err (refusal_of log_fault i)))
           by_row true k = k
           by_row false k = inl refl
 
@@ -180,21 +180,21 @@ module _ (possible : Type 0) where
           go false = inl refl
 
     -- ---- over bytes and records
-    pub replay_reply : (table run : List ℕ) → Reply Refused (replay_with evaluation table run) (replay table run)
+    pub replay_reply : (table run : List ℕ) → Reply log_refused (replay_with evaluation table run) (replay table run)
     unfolding replay_with replay replay_log_by replay_log
     replay_reply table run = go (verdict_of table)
       where
-        go : (v : Verdict) → Reply Refused (replay_by v (replay_log_by evaluation (decoded table) run)) (replay_by v (replay_log (decoded table) run))
-        go (verdict.Accepted n) = from_reply (decoded table) (suc (length (lines run))) 0 1 (lines run) no_values
-        go (verdict.Refused n row) = inl refl
+        go : (v : Result ℕ Refusal) → Reply log_refused (replay_by v (replay_log_by evaluation (decoded table) run)) (replay_by v (replay_log (decoded table) run))
+        go (Ok n) = from_reply (decoded table) (suc (length (lines run))) 0 1 (lines run) no_values
+        go (Err r) = inl refl
 
     pub outcome_reply : (table step : List ℕ) (rs : List Record) (room : ℕ) → Reply refused (outcome_with evaluation table step rs room) (records_outcome table step rs room)
     unfolding outcome_with records_outcome outcome
     outcome_reply table step rs room = go (verdict_of table)
       where
-        go : (v : Verdict) → Reply refused (outcome_by v (press_on_by evaluation (decoded table) step (values_in rs) (types_in rs) room)) (outcome_by v (press_on (decoded table) step (values_in rs) (types_in rs) room))
-        go (verdict.Accepted n) = on_reply (decoded table) step (values_in rs) (types_in rs) room
-        go (verdict.Refused n row) = inl refl
+        go : (v : Result ℕ Refusal) → Reply refused (outcome_by v (press_on_by evaluation (decoded table) step (values_in rs) (types_in rs) room)) (outcome_by v (press_on (decoded table) step (values_in rs) (types_in rs) room))
+        go (Ok n) = on_reply (decoded table) step (values_in rs) (types_in rs) room
+        go (Err r) = inl refl
 
 -- ---- with `answer`
 abbrev pub as_now : Evaluation
@@ -205,7 +205,7 @@ never refusal (inl e) = e
 never refusal (inr (p, row, e, h)) = absurd p
 
 pub replay_same : (table run : List ℕ) → replay_with as_now table run ≡ replay table run
-replay_same table run = never Refused (replay_reply ⊥ as_now (λ type ρ u. inl refl) table run)
+replay_same table run = never log_refused (replay_reply ⊥ as_now (λ type ρ u. inl refl) table run)
 
 outcome_same : (table step : List ℕ) (rs : List Record) (room : ℕ) → outcome_with as_now table step rs room ≡ records_outcome table step rs room
 outcome_same table step rs room = never refused (outcome_reply ⊥ as_now (λ type ρ u. inl refl) table step rs room)

@@ -1,6 +1,6 @@
 -- What replaying, pressing and previewing answer with any evaluation of formulas in the place of `answer`: the definitions of crates/log/specs and crates/bench/specs with the
 -- evaluation as an argument. That they are those where it is `answer` is proved (crates/former/proofs/Evaluated.antt).
-use Rattle.std.specs.Prelude.{true, ◌&&◌, List, [], ◌∷◌, ◌++◌, map, ℕ, zero, suc, ◌+◌, ◌-◌, eqb, ℤ, pos, length, get_or, set}
+use Rattle.std.specs.Prelude.{true, ◌&&◌, List, [], ◌∷◌, ◌++◌, map, ℕ, zero, suc, ◌+◌, ◌-◌, eqb, ℤ, pos, length, get_or, set, Result, Ok, Err}
 use Rattle.lists.specs.Choice.{pick}
 use Rattle.row.specs.declared.Line.{Line}
 use Rattle.row.specs.declared.Line.TheVariants.{Whole, Malformed}
@@ -19,8 +19,8 @@ use Rattle.recording.specs.Rows.{is_initial, logged, is_step_row}
 use Rattle.recording.specs.Lines.{lines}
 use Rattle.recording.specs.Faults.{no_fault, log_fault, differs, fault_of, first_fault}
 use Rattle.recording.specs.Replay.{Values, Found, found, bad, no_values, read_values, moved, replay_by}
-use Rattle.recording.specs.declared.Replay.{Replay}
-use Rattle.recording.specs.declared.Replay.TheVariants.{Steps, Refused}
+use Rattle.rules.specs.declared.Refusal.{Refusal}
+use Rattle.rules.specs.Refusal.{refused as refusal}
 use Rattle.bench.specs.State.{values_in, types_in, is_state, updated, with_values_of}
 use Rattle.bench.specs.Choice.{Choice, chosen, none, choice}
 use Rattle.bench.specs.Press.{Outcome, made, refused, answered, at_hand, outcome_by, reply_of, kept_or, Pressed, Previewed}
@@ -63,23 +63,23 @@ module _ (evaluation : Evaluation) where
         ++ map (λ x. not_allowed_by both x (machine.action e x)) machine.concrete_variables))
 
     -- ---- crates/log/specs/Replay.antt
-    abbrev pub judged_by : ℕ → ℕ → Found → (List Line → Values → Replay) → Replay
-    judged_by i e (bad j) next = Refused log_fault j
+    abbrev pub judged_by : ℕ → ℕ → Found → (List Line → Values → Result ℕ Refusal) → Result ℕ Refusal
+    judged_by i e (bad j) next = Err (refusal log_fault j)
     judged_by i e (found vs ls) next =
         let fault = step_fault_by e vs.present vs.after in
-        pick (eqb fault no_fault) (next ls (moved t vs)) (Refused fault i)
+        pick (eqb fault no_fault) (next ls (moved t vs)) (Err (refusal fault i))
 
-    unfoldable pub replay_from_by : ℕ → ℕ → ℕ → List Line → Values → Replay
-    replay_from_by zero n i ls vs = Refused log_fault 0
-    replay_from_by (suc most) n i [] vs = pick (eqb n 0) (Refused log_fault 0) (Steps (n - 1))
-    replay_from_by (suc most) n i (Malformed ∷ ls) vs = Refused log_fault i
+    unfoldable pub replay_from_by : ℕ → ℕ → ℕ → List Line → Values → Result ℕ Refusal
+    replay_from_by zero n i ls vs = Err (refusal log_fault 0)
+    replay_from_by (suc most) n i [] vs = pick (eqb n 0) (Err (refusal log_fault 0)) (Ok (n - 1))
+    replay_from_by (suc most) n i (Malformed ∷ ls) vs = Err (refusal log_fault i)
     replay_from_by (suc most) n i (Whole r ∷ ls) vs =
         let e = r.a in
         pick (is_step_row t (eqb n 0) r)
         (judged_by i e (read_values t e (logged t e) (i + 1) ls vs) (λ rest ws. replay_from_by most (n + 1) (i + 1 + length (logged t e)) rest ws))
-        (Refused log_fault i)
+        (Err (refusal log_fault i))
 
-    unfoldable pub replay_log_by : List ℕ → Replay
+    unfoldable pub replay_log_by : List ℕ → Result ℕ Refusal
     replay_log_by run = replay_from_by (suc (length (lines run))) 0 1 (lines run) no_values
 
     -- ---- crates/bench/specs/Press.antt
@@ -108,7 +108,7 @@ module _ (evaluation : Evaluation) where
         pick (is_state t zs types && eqb room (count t identifier_tag)) (press_choice_by zs (choice t (lines step) (at_hand t zs))) (refused log_fault 0)
 
   -- ---- over bytes and records
-  unfoldable pub replay_with : List ℕ → List ℕ → Replay
+  unfoldable pub replay_with : List ℕ → List ℕ → Result ℕ Refusal
   replay_with table run = replay_by (verdict_of table) (replay_log_by (decoded table) run)
 
   unfoldable pub outcome_with : List ℕ → List ℕ → List Record → ℕ → Outcome

@@ -17,7 +17,7 @@ ghost use Rattle.judge.specs.Judge.{number_of, fault_number, step_fault_of, is_j
 use evaluate::{evaluate_expression, evaluate_predicate, stored_value, value_at};
 use events::is_initial;
 use operands::equal_values;
-use recording::Replay;
+use rules::Refusal;
 use scan::{action_row, span_at};
 use signed::{Fault, Found, Value};
 use table::{
@@ -38,9 +38,9 @@ impl StepFault {
         ensures { result ≡ number_of self }
     {
         match self {
-            StepFault::Outside => Replay::OUTSIDE,
-            StepFault::Undefined => Replay::UNDEFINED,
-            StepFault::NotAllowed => Replay::LOG,
+            StepFault::Outside => Refusal::OUTSIDE,
+            StepFault::Undefined => Refusal::UNDEFINED,
+            StepFault::NotAllowed => Refusal::LOG,
         }
     }
 }

@@ -7,7 +7,7 @@ ghost use Rattle.row.specs.Row.{row_length, width};
 
 use input::read_full;
 use row::{Place, Read, Row};
-use rules::Verdict;
+use rules::Refusal;
 use std::io;
 use table::Table;
 
@@ -25,9 +25,9 @@ struct Layout {
 fn report(rt: &impl Print, n: u64, table: &[u8]) -> io::Result<()> {
     let size = table.len();
     match verdict::check(table) {
-        Verdict::Accepted(count) => println!(rt; "{n}: {size} bytes accepted {count}"),
-        Verdict::Refused(refusal, row) => {
-            println!(rt; "{n}: {size} bytes refused {refusal} row {row}")
+        Ok(count) => println!(rt; "{n}: {size} bytes accepted {count}"),
+        Err(Refusal { number, row }) => {
+            println!(rt; "{n}: {size} bytes refused {number} row {row}")
         }
     }
 }

@@ -1,29 +1,22 @@
 -- 01, Table L and marked cases: P1 to P10 as rows of one table: what the definitions give, and what 01 says, P1 to P3 as 02's request 4 has them; then replays of logs,
 -- and what 02's request 5 says; then presses and previews, and what request 6 says; then remainders, as request 7 has them. One proof computes them all.
-use Rattle.std.specs.Prelude.{ℕ, zero, suc, ◌-◌, Bool, true, false, ◌&&◌, List, [], ◌∷◌, ◌++◌, eqb, ℤ, pos, negsuc, replicate, set, take}
+use Rattle.std.specs.Prelude.{ℕ, zero, suc, ◌-◌, Bool, true, false, ◌&&◌, List, [], ◌∷◌, ◌++◌, eqb, ℤ, pos, negsuc, replicate, set, take, Result, Ok, Err}
 use Rattle.std.proofs.Math.Option.{Option, none, some}
 use Rattle.row.specs.declared.Row.{Row}
 use Rattle.formula.specs.Values.{integer, AnyValue, number, truth, as_value}
 use Rattle.formula.specs.Tree.{literal, logicalNot, equal, quotient, remainder, and, Division, Tree, constant, identifier, unary, binary, division, connective}
 use Rattle.formula.specs.Evaluate.{Env, evaluate, read_tree}
 use Rattle.machine.specs.Machine.{Machine}
-use Rattle.rules.specs.declared.Verdict.{Verdict}
-use Rattle.rules.specs.declared.Verdict.TheVariants as verdict
+use Rattle.rules.specs.declared.Refusal.{Refusal}
 use Rattle.rules.specs.Verdict.{verdict as verdict_of}
 use Rattle.rules.specs.Offence.{machine}
 use Rattle.run.specs.Run.{State, blank, world, Taken}
 use Rattle.run.specs.SafeRun.{within_bound, convergent_steps}
-use Rattle.reply.specs.declared.Reply.{Reply}
-use Rattle.reply.specs.declared.Reply.TheVariants as reply
 use Rattle.reply.specs.Row.{row}
 use Rattle.reply.specs.Printed.{rows_bytes}
 use Rattle.reply.specs.Replies.{Outcome, write_sequent, spell_entry, output}
-use Rattle.recording.specs.declared.Replay.{Replay}
-use Rattle.recording.specs.declared.Replay.TheVariants as replayed
 use Rattle.recording.specs.Replay.{replay}
 use Rattle.bench.specs.declared.Record.{Record}
-use Rattle.bench.specs.declared.Press.{Press}
-use Rattle.bench.specs.declared.Press.TheVariants as pressed
 use Rattle.bench.specs.Press.{press, preview}
 
 -- An answer of any kind as a list of numbers.
@@ -33,21 +26,13 @@ accepted n = 0 ∷ n ∷ []
 abbrev refused : ℕ → ℕ → List ℕ
 refused c r = 1 ∷ c ∷ r ∷ []
 
-abbrev of_verdict : Verdict → List ℕ
-of_verdict (verdict.Accepted n) = accepted n
-of_verdict (verdict.Refused c r) = refused c r
+abbrev of_reply : Result ℕ Refusal → List ℕ
+of_reply (Ok n) = accepted n
+of_reply (Err r) = refused r.number r.row
 
-abbrev of_reply : Reply → List ℕ
-of_reply (reply.Written n) = accepted n
-of_reply (reply.Refused c r) = refused c r
-
-abbrev of_replay : Replay → List ℕ
-of_replay (replayed.Steps n) = accepted n
-of_replay (replayed.Refused c r) = refused c r
-
-abbrev of_press : Press → List ℕ
-of_press pressed.Performed = accepted 0
-of_press (pressed.Refused c r) = refused c r
+abbrev of_press : Result (Unit {0}) Refusal → List ℕ
+of_press (Ok done) = accepted 0
+of_press (Err r) = refused r.number r.row
 
 -- a reply, then the buffer
 abbrev of_outcome : Outcome → List ℕ
@@ -159,11 +144,11 @@ abbrev log_l : List Row
 log_l = row 90 2 0 0 ∷ row 91 2 0 0 ∷ []
 
 abbrev replay_l : List Row → List ℕ
-replay_l rs = of_replay (replay bytes_l (rows_bytes rs))
+replay_l rs = of_reply (replay bytes_l (rows_bytes rs))
 
 -- the first log, ended after so many bytes
 abbrev replay_torn : ℕ → List ℕ
-replay_torn n = of_replay (replay bytes_l (take n (rows_bytes log_l)))
+replay_torn n = of_reply (replay bytes_l (take n (rows_bytes log_l)))
 
 -- 02, request 5: a table with a concrete boolean variable b, a constant c, a shared variable n, a parameter p and a concrete variable k, in this order. The axiom is
 -- 0 < c. Event 3, the concrete initialisation, makes b := FALSE, n := 0 and k := c; event 4 has the guards p ≤ 100 ∧ (p × p) × p ≤ 100 and 0 < c ÷ p, makes
@@ -196,7 +181,7 @@ minus n = 18446744073709551616 - n
 
 -- a log, and bytes after it
 abbrev replay_m : List Row → List ℕ → List ℕ
-replay_m rs torn = of_replay (replay bytes_m (rows_bytes rs ++ torn))
+replay_m rs torn = of_reply (replay bytes_m (rows_bytes rs ++ torn))
 
 -- rows after the initialisation with c = 6
 abbrev after_six : List Row → List ℕ
@@ -262,7 +247,7 @@ defined_r =
 
 -- a log: n at first, then n and p of a step
 abbrev replay_r : ℕ → ℕ → ℕ → List ℕ
-replay_r before after p = of_replay (replay bytes_r (rows_bytes (row 90 2 0 0 ∷ row 91 1 before 0 ∷ row 90 3 0 0 ∷ row 91 1 after 0 ∷ row 91 2 p 0 ∷ [])))
+replay_r before after p = of_reply (replay bytes_r (rows_bytes (row 90 2 0 0 ∷ row 91 1 before 0 ∷ row 90 3 0 0 ∷ row 91 1 after 0 ∷ row 91 2 p 0 ∷ [])))
 
 -- event 3 pressed with p, where n has a value; the record of p has one that no step reads
 abbrev state_r : ℤ → List Record
@@ -287,7 +272,7 @@ bytes_o = rows_bytes rows_o
 
 -- a log: n and p at first, then a step of the event e that leaves them
 abbrev replay_o : ℕ → ℕ → ℕ → List ℕ
-replay_o e n p = of_replay (replay bytes_o (rows_bytes (row 90 2 0 0 ∷ row 91 1 n 0 ∷ row 91 2 p 0 ∷ row 90 e 0 0 ∷ row 91 1 n 0 ∷ row 91 2 p 0 ∷ [])))
+replay_o e n p = of_reply (replay bytes_o (rows_bytes (row 90 2 0 0 ∷ row 91 1 n 0 ∷ row 91 2 p 0 ∷ row 90 e 0 0 ∷ row 91 1 n 0 ∷ row 91 2 p 0 ∷ [])))
 
 abbrev state_o : ℤ → ℤ → List Record
 state_o n p = integer_record n ∷ integer_record p ∷ []
@@ -300,7 +285,7 @@ cases =
     -- P1: the program prints for L
     gives (output bytes_l) (rows_bytes printed_l)
     -- P2: count 2; k 2 accepted, 0 and 3 give 13
-    ∷ gives (of_verdict (verdict_of bytes_l)) (accepted 2)
+    ∷ gives (of_reply (verdict_of bytes_l)) (accepted 2)
     ∷ gives (of_reply (write_sequent bytes_l 2 (room 200)).reply) (accepted 5)
     ∷ gives (of_outcome (write_sequent bytes_l 0 (room 200))) (refused 13 0 ++ room 200)
     ∷ gives (of_outcome (write_sequent bytes_l 3 (room 200))) (refused 13 0 ++ room 200)
@@ -309,13 +294,13 @@ cases =
     ∷ gives (of_outcome (write_sequent bytes_l 2 (room 189))) (refused 15 0 ++ room 189)
     ∷ gives (of_outcome (write_sequent bytes_l 2 (room 193))) (accepted 5 ++ (rows_bytes sequent2 ++ room 3))
     -- P4: L without its last row: 9, row 7
-    ∷ gives (of_verdict (verdict_of (rows_bytes short_l))) (refused 9 7)
+    ∷ gives (of_reply (verdict_of (rows_bytes short_l))) (refused 9 7)
     -- P5: L with node 6 = ⊤ and row 60 2 1 6 added: 11, row 14
-    ∷ gives (of_verdict (verdict_of (rows_bytes twice_l))) (refused 11 14)
+    ∷ gives (of_reply (verdict_of (rows_bytes twice_l))) (refused 11 14)
     -- P6: empty input: 12
-    ∷ gives (of_verdict (verdict_of [])) (refused 12 0)
+    ∷ gives (of_reply (verdict_of [])) (refused 12 0)
     -- P7: 37 bytes: 1
-    ∷ gives (of_verdict (verdict_of (room 37))) (refused 1 0)
+    ∷ gives (of_reply (verdict_of (room 37))) (refused 1 0)
     -- P8: −7 ÷ 2 = −3; 02, request 7: "−7 mod 2 becomes undefined"
     ∷ gives (of_reading (read_tree at (divided quotient))) (whole (negsuc 2))
     ∷ gives (of_reading (read_tree at (divided remainder))) undefined
@@ -323,7 +308,7 @@ cases =
     ∷ gives (of_reading (read_tree at (connective and nonzero quotient_one))) (bit false)
     ∷ gives (of_reading (read_tree at (connective and quotient_one nonzero))) undefined
     -- P10: variant 0, one convergent step to −1: allowed, two are not
-    ∷ gives (of_verdict (verdict_of bytes_p10)) (accepted 2)
+    ∷ gives (of_reply (verdict_of bytes_p10)) (accepted 2)
     ∷ gives (of_reading (read_tree (read_in (pos 0)) (falling.tree 8))) (whole (pos 0))
     ∷ gives (of_reading (read_tree (read_in (negsuc 0)) (falling.tree 8))) (whole (negsuc 0))
     ∷ gives (bit (within_bound (convergent_steps falling (step_to (negsuc 0) ∷ [])) (pos 0))) (bit true)
@@ -348,7 +333,7 @@ cases =
     ∷ gives (replay_l (row 90 1 0 0 ∷ row 91 1 0 0 ∷ [])) (refused 18 1)
     ∷ gives (replay_l (row 90 2 0 0 ∷ row 91 1 0 0 ∷ [])) (refused 18 2)
     -- a refused table
-    ∷ gives (of_replay (replay (rows_bytes short_l) (rows_bytes log_l))) (refused 9 7)
+    ∷ gives (of_reply (replay (rows_bytes short_l) (rows_bytes log_l))) (refused 9 7)
     -- logs of the other table: two steps, constants and parameters standing among the variables in identifier order
     ∷ gives (after_six (step 1 2 2 6 ++ step 0 (minus 5) 2 6)) (accepted 2)
     -- 16: p × p × p leaves 64 bits; 17: c ÷ 0; each with the step's row 90
@@ -409,7 +394,7 @@ cases =
     ∷ gives (of_reading (some (evaluate at (divided remainder)))) (whole (pos 0))
     ∷ gives (of_reading (some (evaluate at (by_minus_two remainder)))) (whole (pos 0))
     -- FIS of the initialisation, and WD of event 3's action, whose goal mentions dividend and divisor
-    ∷ gives (of_verdict (verdict_of bytes_r)) (accepted 2)
+    ∷ gives (of_reply (verdict_of bytes_r)) (accepted 2)
     ∷ gives (of_outcome (write_sequent bytes_r 2 (room 114))) (accepted 3 ++ rows_bytes (row 80 1 3 12 ∷ row 84 2 1 2 ∷ row 82 3 12 0 ∷ []))
     ∷ gives (of_outcome (spell_entry bytes_r 2 1 (room 1026))) (accepted 27 ++ rows_bytes defined_r)
     -- 27 mod 8 = 3, replayed and pressed

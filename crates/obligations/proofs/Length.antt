@@ -6,6 +6,7 @@ use mathlib.Core.List.{List, [], ◌∷◌, flat_map}
 use native.Mathlib.Omega.{arith}
 use native.Mathlib.Nat.{mul-le-mul, suc-mul}
 use lib.ListN.{length, get_or, length-append}
+use Rattle.std.specs.Prelude.{Result, Ok, Err}
 use Rattle.lists.specs.Below.{keep}
 use Rattle.lists.specs.All.{All, all_nil, all_cons}
 use Rattle.lists.proofs.All.{all_in, all_flat}
@@ -17,8 +18,7 @@ use Rattle.machine.specs.Described.{machine_of}
 use Rattle.sequent.specs.Entry.{written}
 use Rattle.sequent.specs.Sequent.{Sequent, sequent}
 use Rattle.sequent.specs.Listed.{needed, sequents}
-use Rattle.rules.specs.declared.Verdict.{Verdict}
-use Rattle.rules.specs.declared.Verdict.TheVariants.{Accepted, Refused}
+use Rattle.rules.specs.declared.Refusal.{Refusal}
 use Rattle.rules.specs.Decoded.{decoded}
 use Rattle.rules.specs.Verdict.{verdict}
 use Rattle.rules.specs.Offence.{machine}
@@ -84,8 +84,8 @@ pub output_short : (bytes : List ℕ) → length (output bytes) < 2 ^ 63
 unfolding output
 output_short bytes = by_verdict (verdict bytes) refl
   where
-    by_verdict : (v : Verdict) → verdict bytes ≡ v → length (output bytes) < 2 ^ 63
-    by_verdict (Refused number at) e = omega (arith, ap length (output_refused bytes number at e), row_length_lem width (row 89 number at 0))
-    by_verdict (Accepted n) e =
+    by_verdict : (v : Result ℕ Refusal) → verdict bytes ≡ v → length (output bytes) < 2 ^ 63
+    by_verdict (Err r) e = omega (arith, ap length (output_refused bytes r.number r.row e), row_length_lem width (row 89 r.number r.row 0))
+    by_verdict (Ok n) e =
         let a = accepted_words bytes n e in
         subst (λ o. length o < 2 ^ 63) (sym (ap (printed (machine bytes)) e)) (rows_short (decoded bytes) (none_obeys bytes (accepted_none bytes n e).0) (omega (arith, a.1)))

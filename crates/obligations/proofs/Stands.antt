@@ -5,13 +5,14 @@ use mathlib.Core.List.{List, [], ◌∷◌, ◌++◌, flat_map, append-nil}
 use native.Mathlib.Omega.{arith}
 use lib.ListN.{length, take, drop, length-append, drop_of_length-le}
 use lib.Seq.{take-append_seam, drop-append_seam, drop-drop, take-add}
+use Rattle.std.specs.Prelude.{Ok, Err}
 use Rattle.lists.specs.Below.{numbers}
 use Rattle.lists.specs.Over.{over}
 use Rattle.lists.proofs.Flat.{flat_join, numbers_join}
 use Rattle.row.specs.declared.Row.{Row}
 use Rattle.row.specs.Row.{row_bytes, width}
 use Rattle.row.proofs.Form.{row_length_lem}
-use Rattle.rules.specs.declared.Verdict.TheVariants.{Accepted, Refused}
+use Rattle.rules.specs.Refusal.{refused}
 use Rattle.rules.specs.Verdict.{verdict}
 use Rattle.rules.specs.Offence.{machine}
 use Rattle.reply.specs.Row.{row}
@@ -44,7 +45,7 @@ module _ (bytes : List ℕ) where
         ∙ sym (ap (λ n. take n (drop at (output bytes))) (length-append front back) ∙ take-add (length front) (length back) (drop at (output bytes)));
   }
 
-  pub refusal_stands : (number at : ℕ) → verdict bytes ≡ Refused number at → StandsAt bytes 0 (row_bytes width (row 89 number at 0))
+  pub refusal_stands : (number at : ℕ) → verdict bytes ≡ Err (refused number at) → StandsAt bytes 0 (row_bytes width (row 89 number at 0))
   refusal_stands number at e =
       stands_behind [] (row_bytes width (row 89 number at 0)) [] (output_refused bytes number at e ∙ sym (append-nil (row_bytes width (row 89 number at 0))))
 
@@ -65,7 +66,7 @@ module _ (bytes : List ℕ) where
       ∙ ap length (flat_join f (numbers k 1) ((k + 1) ∷ []) ∙ ap (λ bs. flat_map f (numbers k 1) ++ bs) (append-nil (f (k + 1))))
       ∙ length-append (flat_map f (numbers k 1)) (f (k + 1))
 
-  module _ (n : ℕ) (accepted : verdict bytes ≡ Accepted n) where
+  module _ (n : ℕ) (accepted : verdict bytes ≡ Ok n) where
     pub rows_all : rows_end_of n ≡ length (output bytes)
     unfolding rows_end_of
     rows_all = sym (ap length (output_accepted bytes n accepted))

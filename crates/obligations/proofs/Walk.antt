@@ -6,10 +6,10 @@ use mathlib.Core.List.{List}
 use mathlib.Core.Logic.{◌⊎◌, inl, inr}
 use native.Mathlib.Omega.{arith}
 use lib.ListN.{length}
+use Rattle.std.specs.Prelude.{Ok}
 use Rattle.table.specs.Rows.{Rows, rows_of}
 use Rattle.machine.specs.Described.{machine_of}
 use Rattle.sequent.specs.Listed.{sequents}
-use Rattle.rules.specs.declared.Verdict.TheVariants.{Accepted}
 use Rattle.rules.specs.Decoded.{words_of}
 use Rattle.rules.specs.Verdict.{Passes, judge, verdict}
 use Rattle.rules.proofs.Cases.{judge_passes, judged_count}
@@ -54,11 +54,11 @@ first_within t q = inl (subst (Within t) (sym q) (start_within t 0))
 pub slot_length : (t : Rows) (s : Slot) → length (slot_bytes t s) ≡ 38 * (3 + hypothesis_count t s)
 slot_length t s = rows_length _ ∙ ap (λ n. 38 * n) (rows_count t s)
 
-module _ (bytes words : List ℕ) (n : ℕ) (read : words ≡ words_of bytes) (accepted : verdict bytes ≡ Accepted n) where
+module _ (bytes words : List ℕ) (n : ℕ) (read : words ≡ words_of bytes) (accepted : verdict bytes ≡ Ok n) where
   abbrev t : Rows
   t = rows_of words
 
-  judged : judge t ≡ Accepted n
+  judged : judge t ≡ Ok n
   judged = ap (λ ws. judge (rows_of ws)) read ∙ (accepted_words bytes n accepted).0
 
   passes : Passes t

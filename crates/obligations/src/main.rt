@@ -3,12 +3,11 @@
 
 mod output;
 
-ghost use Rattle.std.specs.Prelude.{◌≡◌, ◌+◌, ◌≤◌, ◌<◌, length, IfOk};
+ghost use Rattle.std.specs.Prelude.{◌≡◌, ◌+◌, ◌≤◌, ◌<◌, length, Ok, Err, IfOk};
 ghost use Rattle.table.specs.Lookups.{most_rows, most_words};
 ghost use Rattle.table.specs.Rows.{rows_of};
 ghost use Rattle.table.specs.Counts.{counts_of};
 ghost use Rattle.nodes.specs.Notes.{Noted};
-ghost use Rattle.rules.specs.declared.Verdict.TheVariants.{Accepted, Refused};
 ghost use Rattle.rules.specs.Decoded.{words_of};
 ghost use Rattle.rules.specs.Verdict.{judge as judge_of, verdict as verdict_of};
 ghost use Rattle.reply.specs.Replies.{output};
@@ -21,7 +20,7 @@ use nodes::fill_notes;
 use output::Printer;
 use reply::tags;
 use row::Row;
-use rules::Verdict;
+use rules::Refusal;
 use scan::Span;
 use segments::Segment;
 use services::write_slot;
@@ -29,22 +28,22 @@ use std::io;
 use std::io::Stdout;
 use std::process::ExitCode;
 use table::Table;
-use verdict::{Loaded, judge_with, load};
+use verdict::{judge_with, load};
 use walk::{Slot, seek};
 
 // "or one row 89 (refusal, row, 0)"
-fn print_refusal(stdout: Stdout, bytes: &[u8], number: u64, row: u64) -> io::Result<Printer>
-    requires { verdict_of bytes.now ≡ Refused number row }
+fn print_refusal(stdout: Stdout, bytes: &[u8], refusal: Refusal) -> io::Result<Printer>
+    requires { verdict_of bytes.now ≡ Err refusal }
     ensures { IfOk result (λ printer. printer.at ≡ length (output bytes.now)) }
 {
     let mut out = [0u8; Row::LENGTH];
-    let refusal = Row {
+    let row = Row {
         tag: tags::REFUSAL,
-        a: number,
-        b: row,
+        a: refusal.number,
+        b: refusal.row,
         c: 0,
     };
-    refusal.write(&mut out);
+    row.write(&mut out);
     Printer::start(stdout).print(bytes, &out)
 }
 
@@ -124,7 +123,7 @@ fn print_sequents(
     out: &mut [u8],
 ) -> io::Result<Printer>
     requires table_value { (table ≡ counts_of (rows_of words.now)) × Noted (rows_of words.now) spans.now }
-    requires words_value { (words.now ≡ words_of bytes.now) × (verdict_of bytes.now ≡ Accepted count) × (room (rows_of words.now).size ≤ length out.old) }
+    requires words_value { (words.now ≡ words_of bytes.now) × (verdict_of bytes.now ≡ Ok count) × (room (rows_of words.now).size ≤ length out.old) }
     ensures { IfOk result (λ printer. printer.at ≡ length (output bytes.now)) }
 {
     let mut batch = Batch::start(stdout);
@@ -152,8 +151,8 @@ fn print_judged(
     ensures { IfOk result (λ printer. printer.at ≡ length (output bytes.now)) }
 {
     match judge_with(words, table, spans) {
-        Verdict::Refused(number, row) => print_refusal(stdout, bytes, number, row),
-        Verdict::Accepted(count) => print_sequents(stdout, bytes, words, table, spans, count, out),
+        Err(refusal) => print_refusal(stdout, bytes, refusal),
+        Ok(count) => print_sequents(stdout, bytes, words, table, spans, count, out),
     }
 }
 
@@ -176,8 +175,8 @@ fn print_table(stdout: Stdout, bytes: &[u8], out: &mut [u8]) -> io::Result<Print
 {
     let mut words = [0u64; Table::WORDS];
     match load(bytes, &mut words) {
-        Loaded::Refused(number, row) => print_refusal(stdout, bytes, number, row),
-        Loaded::Words(n) => print_rows(stdout, bytes, &words[..n], out),
+        Err(refusal) => print_refusal(stdout, bytes, refusal),
+        Ok(n) => print_rows(stdout, bytes, &words[..n], out),
     }
 }
 

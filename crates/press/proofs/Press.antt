@@ -7,9 +7,11 @@ use borrow.Author.Tests.{eq-eqb, ne_eqb}
 use lib.Dec.{eqb}
 use lib.IntN.{ℤ}
 use lib.ListN.{length}
+use Rattle.std.specs.Prelude.{Result, Ok, Err}
 use Rattle.lists.specs.Choice.{pick}
 use Rattle.table.specs.Rows.{Rows, count}
-use Rattle.rules.specs.declared.Verdict.TheVariants as verdict
+use Rattle.rules.specs.declared.Refusal.{Refusal}
+use Rattle.rules.specs.Refusal.{refused as refusal}
 use Rattle.rules.specs.Decoded.{decoded}
 use Rattle.rules.specs.Verdict.{judge, verdict as verdict_of}
 use Rattle.rules.proofs.Cases.{judge_passes}
@@ -19,24 +21,22 @@ use Rattle.recording.specs.Faults.{no_fault, log_fault}
 use Rattle.recording.specs.Lines.{lines}
 use Rattle.recording.specs.Replay.{Values}
 use Rattle.values.specs.Values.{values_of}
-use Rattle.bench.specs.declared.Press.{Press}
-use Rattle.bench.specs.declared.Press.TheVariants.{Performed, Refused}
 use Rattle.bench.specs.State.{is_state, updated}
 use Rattle.bench.specs.Choice.{chosen, choice}
 use Rattle.bench.proofs.State.{and_true, state_right}
 use Rattle.bench.specs.Press.{Outcome, made, refused, reply_of, kept_or, completed, press_fault, press_choice, at_hand, press_on, outcome_by, outcome}
 
 -- a reply and the values then, by an outcome
-abbrev pub Answers : Outcome → List ℤ → Press → List ℤ → Type 0
+abbrev pub Answers : Outcome → List ℤ → Result (Unit {0}) Refusal → List ℤ → Type 0
 Answers o zs r ys = (r ≡ reply_of o) × (ys ≡ kept_or (λ us. us) zs o)
 
-pub refused_answers : {o : Outcome} {n row : ℕ} (zs : List ℤ) → o ≡ refused n row → Answers o zs (Refused n row) zs
+pub refused_answers : {o : Outcome} {n row : ℕ} (zs : List ℤ) → o ≡ refused n row → Answers o zs (Err (refusal n row)) zs
 refused_answers zs e = (sym (ap reply_of e), sym (ap (kept_or (λ us. us) zs) e))
 
-pub made_answers : {o : Outcome} {us ys : List ℤ} (zs : List ℤ) → o ≡ made us → ys ≡ us → Answers o zs Performed ys
+pub made_answers : {o : Outcome} {us ys : List ℤ} (zs : List ℤ) → o ≡ made us → ys ≡ us → Answers o zs (Ok tt) ys
 made_answers zs e q = (sym (ap reply_of e), q ∙ sym (ap (kept_or (λ us. us) zs) e))
 
-pub as_answers : {o p : Outcome} {ys : List ℤ} {r : Press} (zs : List ℤ) → o ≡ p → Answers p zs r ys → Answers o zs r ys
+pub as_answers : {o p : Outcome} {ys : List ℤ} {r : Result (Unit {0}) Refusal} (zs : List ℤ) → o ≡ p → Answers p zs r ys → Answers o zs r ys
 as_answers zs e (a, b) = (a ∙ sym (ap reply_of e), b ∙ sym (ap (kept_or (λ us. us) zs) e))
 
 -- ---- a step of the event e, by its first fault
@@ -50,10 +50,10 @@ module _ (t : Rows) (e : ℕ) (zs present after us : List ℤ) (done : values_of
   by_fault : (b : Bool) → eqb (press_fault t e present us) no_fault ≡ b → pressed ≡ pick b (made (updated t us zs)) (refused (press_fault t e present us) 0)
   by_fault b h = ap by (sym done) ∙ ap (λ b. pick b (made (updated t us zs)) (refused (press_fault t e present us) 0)) h
 
-  pub event_refused : (f ≡ 0 → ⊥) → Answers pressed zs (Refused f 0) zs
+  pub event_refused : (f ≡ 0 → ⊥) → Answers pressed zs (Err (refusal f 0)) zs
   event_refused h = refused_answers zs (by_fault false (ne_eqb (press_fault t e present us) no_fault (λ z. h (is ∙ z))) ∙ ap (λ n. refused n 0) (sym is))
 
-  pub event_performed : {ys : List ℤ} → f ≡ 0 → ys ≡ updated t us zs → Answers pressed zs Performed ys
+  pub event_performed : {ys : List ℤ} → f ≡ 0 → ys ≡ updated t us zs → Answers pressed zs (Ok tt) ys
   event_performed h q = made_answers zs (by_fault true (eq-eqb (press_fault t e present us) no_fault (sym is ∙ h))) q
 
 -- ---- a state
@@ -62,10 +62,10 @@ module _ (t : Rows) (step : List ℕ) (zs : List ℤ) (types : List ℕ) (room :
   unfolding press_on
   tested b h = ap (λ b. pick b (press_choice t zs (choice t (lines step) (at_hand t zs))) (refused log_fault 0)) (sym (ap₂ (λ good n. good && eqb room n) is counted) ∙ h)
 
-  pub state_pressed : {r : Press} {ys : List ℤ} → (good && eqb room n) ≡ true → Answers (press_choice t zs (choice t (lines step) (at_hand t zs))) zs r ys → Answers (press_on t step zs types room) zs r ys
+  pub state_pressed : {r : Result (Unit {0}) Refusal} {ys : List ℤ} → (good && eqb room n) ≡ true → Answers (press_choice t zs (choice t (lines step) (at_hand t zs))) zs r ys → Answers (press_on t step zs types room) zs r ys
   state_pressed h a = as_answers zs (tested true h) a
 
-  pub state_refused : (good && eqb room n) ≡ false → Answers (press_on t step zs types room) zs (Refused log_fault 0) zs
+  pub state_refused : (good && eqb room n) ≡ false → Answers (press_on t step zs types room) zs (Err (refusal log_fault 0)) zs
   state_refused h = refused_answers zs (tested false h)
 
   -- a state has a value for each identifier
@@ -73,7 +73,7 @@ module _ (t : Rows) (step : List ℕ) (zs : List ℤ) (types : List ℕ) (room :
   state_length h = (state_right t zs types (sym is ∙ and_true good (eqb room n) h)).size
 
 -- an accepted table has at most 64 identifiers
-pub accepted_few : (t : Rows) (n : ℕ) → judge t ≡ verdict.Accepted n → count t 10 ≤ 64
+pub accepted_few : (t : Rows) (n : ℕ) → judge t ≡ Ok n → count t 10 ≤ 64
 accepted_few t n h = few_identifiers t (passes_obeys t (judge_passes t n h)).full
 
 -- the outcome of a table's bytes

@@ -1,6 +1,6 @@
 -- What a preview writes: what pressing makes of a copy of the first list's values, with its types, into lists that are as long; nothing where it is refused.
 use mathlib.Core.Path.{◌≡◌, refl, sym, ap, ◌∙◌}
-use mathlib.Core.Bool.{Bool, true, false, true≢false}
+use mathlib.Core.Bool.{Bool, true, false}
 use mathlib.Core.List.{List}
 use Prim.Native.Nat.{ℕ, ◌≤◌}
 use native.Mathlib.Omega.{arith}
@@ -9,15 +9,17 @@ use lib.Dec.{ltb, eqb, eqb→eq}
 use lib.IntN.{ℤ, pos}
 use lib.ListN.{length, take, drop, replicate, length-replicate}
 use lib.Seq.{take_all, take_at, length-take-le}
+use Rattle.std.specs.Prelude.{Result, Ok, Err}
 use Rattle.lists.specs.Choice.{pick}
 use Rattle.lists.proofs.Choice.{lesser_of_lem}
 use Rattle.formula.proofs.Truth.{true_test}
-use Rattle.bench.specs.declared.Press.{Press}
+use Rattle.rules.specs.declared.Refusal.{Refusal}
 use Rattle.bench.specs.State.{laid}
 use Rattle.bench.specs.Press.{Outcome, made, refused, reply_of, kept_or, outcome}
 use Rattle.bench.proofs.State.{laid_size, laid_same}
 use Rattle.bench.proofs.Lengths.{outcome_length, outcome_long}
-use Rattle.press.specs.Numbers.{room_for, is_performed}
+use Rattle.bench.proofs.Exact.{performed_never}
+use Rattle.press.specs.Numbers.{room_for}
 
 -- there is room for at most 64 records only in lists of that length
 room_says : (ss : List ℤ) (ts : List ℕ) (n : ℕ) → room_for ss ts ≡ n → n ≤ 64 → (length ss ≡ n) × (length ts ≡ n)
@@ -33,38 +35,41 @@ unfolding room_for
 room_is ss ts = refl
 
 -- a reply, and what the second lists hold then
-abbrev pub Writes : Outcome → List ℕ → List ℤ → List ℕ → Press → List ℤ → List ℕ → Type 0
+abbrev pub Writes : Outcome → List ℕ → List ℤ → List ℕ → Result (Unit {0}) Refusal → List ℤ → List ℕ → Type 0
 Writes o sorts ss ts r ss' ts' = (r ≡ reply_of o) × ((ss' ≡ kept_or (λ zs. zs) ss o) × (ts' ≡ kept_or (λ zs. sorts) ts o))
 
-pub as_writes : {o p : Outcome} (sorts : List ℕ) (ss : List ℤ) (ts : List ℕ) {r : Press} {ss' : List ℤ} {ts' : List ℕ} → o ≡ p → Writes p sorts ss ts r ss' ts' → Writes o sorts ss ts r ss' ts'
+pub as_writes : {o p : Outcome} (sorts : List ℕ) (ss : List ℤ) (ts : List ℕ) {r : Result (Unit {0}) Refusal} {ss' : List ℤ} {ts' : List ℕ} → o ≡ p → Writes p sorts ss ts r ss' ts' → Writes o sorts ss ts r ss' ts'
 as_writes sorts ss ts e (a, (b, c)) = (a ∙ sym (ap reply_of e), (b ∙ sym (ap (kept_or (λ zs. zs) ss) e), c ∙ sym (ap (kept_or (λ zs. sorts) ts) e)))
 
-module _ (table step : List ℕ) (copy : List ℤ) (sorts : List ℕ) (ss : List ℤ) (ts : List ℕ) {room : ℕ} (is : room ≡ room_for ss ts) {r : Press} {us : List ℤ}
-    (reply : r ≡ reply_of (outcome table step copy sorts room)) (values : us ≡ kept_or (λ zs. zs) copy (outcome table step copy sorts room)) {b : Bool} (performed : b ≡ is_performed r) where
+module _ (table step : List ℕ) (copy : List ℤ) (sorts : List ℕ) (ss : List ℤ) (ts : List ℕ) {room : ℕ} (is : room ≡ room_for ss ts) {r : Result (Unit {0}) Refusal} {us : List ℤ}
+    (reply : r ≡ reply_of (outcome table step copy sorts room)) (values : us ≡ kept_or (λ zs. zs) copy (outcome table step copy sorts room)) where
   abbrev found : Outcome
   found = outcome table step copy sorts (room_for ss ts)
 
   same : outcome table step copy sorts room ≡ found
   same = ap (outcome table step copy sorts) is
 
-  pub preview_kept : b ≡ false → Writes found sorts ss ts r ss ts
-  preview_kept h = (reply ∙ ap reply_of same, go found refl (sym (performed ∙ ap is_performed (reply ∙ ap reply_of same)) ∙ h))
-    where
-      go : (o : Outcome) → found ≡ o → is_performed (reply_of o) ≡ false → (ss ≡ kept_or (λ zs. zs) ss o) × (ts ≡ kept_or (λ zs. sorts) ts o)
-      go (made zs) e q = absurd (true≢false q)
-      go (refused n row) e q = (refl, refl)
+  replied : {s : Result (Unit {0}) Refusal} → r ≡ s → s ≡ reply_of found
+  replied h = sym h ∙ reply ∙ ap reply_of same
 
-  pub preview_made : {ss' : List ℤ} {ts' : List ℕ} → b ≡ true → ss' ≡ laid us ss → ts' ≡ laid sorts ts → Writes found sorts ss ts r ss' ts'
-  preview_made {ss'} {ts'} h p q =
-      let w = go found refl (sym (performed ∙ ap is_performed (reply ∙ ap reply_of same)) ∙ h) (values ∙ ap (kept_or (λ zs. zs) copy) same) in
-      (reply ∙ ap reply_of same, (p ∙ w.0, q ∙ w.1))
+  pub preview_kept : {x : Refusal} → r ≡ Err x → Writes found sorts ss ts (Err x) ss ts
+  preview_kept {x} h = (replied h, go found (replied h))
     where
-      go : (o : Outcome) → found ≡ o → is_performed (reply_of o) ≡ true → us ≡ kept_or (λ zs. zs) copy o → (laid us ss ≡ kept_or (λ zs. zs) ss o) × (laid sorts ts ≡ kept_or (λ zs. sorts) ts o)
+      go : (o : Outcome) → Err x ≡ reply_of o → (ss ≡ kept_or (λ zs. zs) ss o) × (ts ≡ kept_or (λ zs. sorts) ts o)
+      go (made zs) q = absurd (performed_never q)
+      go (refused n row) q = (refl, refl)
+
+  pub preview_made : {ss' : List ℤ} {ts' : List ℕ} → r ≡ Ok tt → ss' ≡ laid us ss → ts' ≡ laid sorts ts → Writes found sorts ss ts (Ok tt) ss' ts'
+  preview_made {ss'} {ts'} h p q =
+      let w = go found refl (replied h) (values ∙ ap (kept_or (λ zs. zs) copy) same) in
+      (replied h, (p ∙ w.0, q ∙ w.1))
+    where
+      go : (o : Outcome) → found ≡ o → Ok tt ≡ reply_of o → us ≡ kept_or (λ zs. zs) copy o → (laid us ss ≡ kept_or (λ zs. zs) ss o) × (laid sorts ts ≡ kept_or (λ zs. sorts) ts o)
       go (made zs) e t v =
           let (a, s, m, few) = outcome_length table step copy sorts (room_for ss ts) zs e in
           let k = room_says ss ts (length copy) m few in
           (ap (λ us. laid us ss) v ∙ laid_same zs ss (k.0 ∙ sym a), laid_same sorts ts (k.1 ∙ sym s))
-      go (refused n row) e t v = absurd (true≢false (sym t))
+      go (refused n row) e t v = absurd (performed_never (sym t))
 
 -- ---- the copy that is pressed on: the first 65 values
 module _ (zs : List ℤ) {n : ℕ} (is : n ≡ pick (ltb (length zs) 65) (length zs) 65) where

@@ -1,10 +1,8 @@
 -- How the code presses on the values and the types of a state, two lists of numbers.
-use Rattle.std.specs.Prelude.{Bool, true, false, Option, Some, None, List, ℕ, eqb, ℤ, length}
+use Rattle.std.specs.Prelude.{Option, Some, None, List, ℕ, eqb, ℤ, length}
 use Rattle.lists.specs.Choice.{pick}
 use Rattle.recording.specs.Replay.{Values}
 use Rattle.bench.specs.Choice.{Choice, chosen, none}
-use Rattle.bench.specs.declared.Press.{Press}
-use Rattle.bench.specs.declared.Press.TheVariants.{Performed, Refused}
 
 -- how many records two lists have room for: lists of two lengths are no list of records, for which 65 stands, more than a table has identifiers
 unfoldable pub room_for : List ℤ → List ℕ → ℕ
@@ -14,7 +12,3 @@ room_for zs types = pick (eqb (length zs) (length types)) (length zs) 65
 abbrev pub choice_of : Option ℕ → Values → Choice
 choice_of (Some e) vs = chosen e vs
 choice_of None vs = none
-
-abbrev pub is_performed : Press → Bool
-is_performed Performed = true
-is_performed (Refused number row) = false

@@ -16,21 +16,19 @@ ghost use Rattle.recording.specs.Replay.{read_values};
 ghost use Rattle.values.specs.Values.{values_of, lines_at};
 ghost use Rattle.bench.specs.Choice.{asked, chosen, choice, choice_of as choice_found};
 ghost use Rattle.bench.specs.Press.{reply_of, kept_or, press_choice, press_on, at_hand, outcome_by, outcome};
-ghost use Rattle.press.specs.Numbers.{choice_of, room_for, is_performed};
+ghost use Rattle.press.specs.Numbers.{choice_of, room_for};
 
 use after::{complete_values, update_values};
-use bench::Press;
 use judge::press_fault;
 use nodes::fill_notes;
 use reader::next_row;
-use recording::Replay;
 use row::{Place, Read};
-use rules::Verdict;
+use rules::Refusal;
 use scan::{Span, lesser};
 use state::{copy_list, is_state};
 use table::Table;
 use values::{is_step_row, read_values};
-use verdict::{Loaded, judge_with, load};
+use verdict::{judge_with, load};
 
 // What the rows of a step choose: an event, whose values are stored, if they are a choice. The rows of the event e end at a byte, and the step has so many:
 // "a row after the step's last" is none of a choice.
@@ -96,17 +94,20 @@ fn press_event(
     present: &[i64],
     after: &mut [i64],
     values: &mut [i64],
-) -> Press
+) -> Result<(), Refusal>
     requires { (table ≡ counts_of (rows_of words.now)) × Spanned (rows_of words.now) spans.now × (count (rows_of words.now) identifier_tag ≤ 64) × (length values.old ≡ count (rows_of words.now) identifier_tag) × (length after.old ≡ 65) }
     ensures value { result ≡ reply_of (press_choice (rows_of words.now) values.old (chosen e (values_of present.now after.old))) }
     ensures values_after { values.new ≡ kept_or (λ zs. zs) values.old (press_choice (rows_of words.now) values.old (chosen e (values_of present.now after.old))) }
 {
     complete_values(words, table, spans, e, present, after);
     if let Err(fault) = press_fault(words, table, spans, present, after, e) {
-        return Press::Refused(fault.number(), 0);
+        return Err(Refusal {
+            number: fault.number(),
+            row: 0,
+        });
     }
     update_values(words, table, after, values);
-    Press::Performed
+    Ok(())
 }
 
 // The same of the event that the rows of a step choose.
@@ -118,13 +119,16 @@ fn press_step(
     present: &mut [i64],
     after: &mut [i64],
     values: &mut [i64],
-) -> Press
+) -> Result<(), Refusal>
     requires { (table ≡ counts_of (rows_of words.now)) × Spanned (rows_of words.now) spans.now × (count (rows_of words.now) identifier_tag ≤ 64) × (length values.old ≡ count (rows_of words.now) identifier_tag) × (length after.old ≡ 65) }
     ensures value { result ≡ reply_of (press_choice (rows_of words.now) values.old (choice (rows_of words.now) (lines step.now) (values_of present.old after.old))) }
     ensures values_after { values.new ≡ kept_or (λ zs. zs) values.old (press_choice (rows_of words.now) values.old (choice (rows_of words.now) (lines step.now) (values_of present.old after.old))) }
 {
     match choose(words, table, spans, step, present, after) {
-        None => Press::Refused(Replay::LOG, 0),
+        None => Err(Refusal {
+            number: Refusal::LOG,
+            row: 0,
+        }),
         Some(e) => press_event(words, table, spans, e, present, after, values),
     }
 }
@@ -136,7 +140,7 @@ fn press_values(
     spans: &[usize],
     step: &[u8],
     values: &mut [i64],
-) -> Press
+) -> Result<(), Refusal>
     requires { (table ≡ counts_of (rows_of words.now)) × Spanned (rows_of words.now) spans.now × (count (rows_of words.now) identifier_tag ≤ 64) × (length values.old ≡ count (rows_of words.now) identifier_tag) }
     ensures value { result ≡ reply_of (press_choice (rows_of words.now) values.old (choice (rows_of words.now) (lines step.now) (at_hand (rows_of words.now) values.old))) }
     ensures values_after { values.new ≡ kept_or (λ zs. zs) values.old (press_choice (rows_of words.now) values.old (choice (rows_of words.now) (lines step.now) (at_hand (rows_of words.now) values.old))) }
@@ -156,7 +160,7 @@ fn press_state(
     values: &mut [i64],
     sorts: &[u64],
     room: usize,
-) -> Press
+) -> Result<(), Refusal>
     requires { (table ≡ counts_of (rows_of words.now)) × Spanned (rows_of words.now) spans.now × (count (rows_of words.now) identifier_tag ≤ 64) }
     ensures value { result ≡ reply_of (press_on (rows_of words.now) step.now values.old sorts.now room) }
     ensures values_after { values.new ≡ kept_or (λ zs. zs) values.old (press_on (rows_of words.now) step.now values.old sorts.now room) }
@@ -164,7 +168,10 @@ fn press_state(
     if is_state(words, table, values, sorts) & (room as u64 == table.identifiers) {
         return press_values(words, table, spans, step, values);
     }
-    Press::Refused(Replay::LOG, 0)
+    Err(Refusal {
+        number: Refusal::LOG,
+        row: 0,
+    })
 }
 
 // The same of a table that may be refused, which has its own number and row.
@@ -176,19 +183,23 @@ fn press_judged(
     values: &mut [i64],
     sorts: &[u64],
     room: usize,
-) -> Press
+) -> Result<(), Refusal>
     requires { (table ≡ counts_of (rows_of words.now)) × Noted (rows_of words.now) spans.now × (length words.now ≤ most_words) }
     ensures value { result ≡ reply_of (outcome_by (judge_of (rows_of words.now)) (press_on (rows_of words.now) step.now values.old sorts.now room)) }
     ensures values_after { values.new ≡ kept_or (λ zs. zs) values.old (outcome_by (judge_of (rows_of words.now)) (press_on (rows_of words.now) step.now values.old sorts.now room)) }
 {
-    match judge_with(words, table, spans) {
-        Verdict::Refused(number, row) => Press::Refused(number, row),
-        Verdict::Accepted(count) => press_state(words, table, spans, step, values, sorts, room),
-    }
+    judge_with(words, table, spans)?;
+    press_state(words, table, spans, step, values, sorts, room)
 }
 
 // The same of the rows alone.
-fn press_rows(words: &[u64], step: &[u8], values: &mut [i64], sorts: &[u64], room: usize) -> Press
+fn press_rows(
+    words: &[u64],
+    step: &[u8],
+    values: &mut [i64],
+    sorts: &[u64],
+    room: usize,
+) -> Result<(), Refusal>
     requires { length words.now ≤ most_words }
     ensures value { result ≡ reply_of (outcome_by (judge_of (rows_of words.now)) (press_on (rows_of words.now) step.now values.old sorts.now room)) }
     ensures values_after { values.new ≡ kept_or (λ zs. zs) values.old (outcome_by (judge_of (rows_of words.now)) (press_on (rows_of words.now) step.now values.old sorts.now room)) }
@@ -200,34 +211,33 @@ fn press_rows(words: &[u64], step: &[u8], values: &mut [i64], sorts: &[u64], roo
 }
 
 // Presses on a state whose new values go to a list of so many records.
-fn press_to(table: &[u8], step: &[u8], values: &mut [i64], sorts: &[u64], room: usize) -> Press
+fn press_to(
+    table: &[u8],
+    step: &[u8],
+    values: &mut [i64],
+    sorts: &[u64],
+    room: usize,
+) -> Result<(), Refusal>
     ensures value { result ≡ reply_of (outcome table.now step.now values.old sorts.now room) }
     ensures values_after { values.new ≡ kept_or (λ zs. zs) values.old (outcome table.now step.now values.old sorts.now room) }
 {
     let mut words = [0u64; Table::WORDS];
-    match load(table, &mut words) {
-        Loaded::Refused(number, row) => Press::Refused(number, row),
-        Loaded::Words(n) => press_rows(&words[..n], step, values, sorts, room),
-    }
+    let n = load(table, &mut words)?;
+    press_rows(&words[..n], step, values, sorts, room)
 }
 
 // Presses on the values and the types of a state.
-pub fn press_numbers(table: &[u8], step: &[u8], values: &mut [i64], sorts: &[u64]) -> Press
+pub fn press_numbers(
+    table: &[u8],
+    step: &[u8],
+    values: &mut [i64],
+    sorts: &[u64],
+) -> Result<(), Refusal>
     ensures value { result ≡ reply_of (outcome table.now step.now values.old sorts.now (length values.old)) }
     ensures values_after { values.new ≡ kept_or (λ zs. zs) values.old (outcome table.now step.now values.old sorts.now (length values.old)) }
 {
     let room = values.len();
     press_to(table, step, values, sorts, room)
-}
-
-// Whether a press was performed.
-fn is_performed(reply: Press) -> bool
-    ensures { result ≡ is_performed reply }
-{
-    match reply {
-        Press::Performed => true,
-        Press::Refused(number, row) => false,
-    }
 }
 
 // How many records two lists have room for: lists of two lengths are no list of records, for which a number stands that is more than a table has identifiers.
@@ -248,18 +258,16 @@ fn preview_copy(
     sorts: &[u64],
     second: &mut [i64],
     types: &mut [u64],
-) -> Press
+) -> Result<(), Refusal>
     ensures value { result ≡ reply_of (outcome table.now step.now copy.old sorts.now (room_for second.old types.old)) }
     ensures second_after { second.new ≡ kept_or (λ zs. zs) second.old (outcome table.now step.now copy.old sorts.now (room_for second.old types.old)) }
     ensures types_after { types.new ≡ kept_or (λ zs. sorts.now) types.old (outcome table.now step.now copy.old sorts.now (room_for second.old types.old)) }
 {
     let room = room_of(second.len(), types.len());
-    let reply = press_to(table, step, copy, sorts, room);
-    if is_performed(reply) {
-        copy_list(copy, second);
-        copy_list(sorts, types);
-    }
-    reply
+    press_to(table, step, copy, sorts, room)?;
+    copy_list(copy, second);
+    copy_list(sorts, types);
+    Ok(())
 }
 
 // Writes what pressing would make of the values and the types of a state into second ones. No more than 65 values are copied: so many are no table's.
@@ -270,7 +278,7 @@ pub fn preview_numbers(
     sorts: &[u64],
     second: &mut [i64],
     types: &mut [u64],
-) -> Press
+) -> Result<(), Refusal>
     ensures value { result ≡ reply_of (outcome table.now step.now values.now sorts.now (room_for second.old types.old)) }
     ensures second_after { second.new ≡ kept_or (λ zs. zs) second.old (outcome table.now step.now values.now sorts.now (room_for second.old types.old)) }
     ensures types_after { types.new ≡ kept_or (λ zs. sorts.now) types.old (outcome table.now step.now values.now sorts.now (room_for second.old types.old)) }

@@ -6,6 +6,7 @@ use mathlib.Core.List.{List, [], ◌∷◌}
 use native.Mathlib.Omega.{arith}
 use lib.Dec.{ltb, eqb}
 use lib.ListN.{length, take, drop}
+use Rattle.std.specs.Prelude.{Result, Err}
 use Rattle.lists.specs.Choice.{pick}
 use Rattle.row.specs.Row.{greatest, width, row_length}
 use Rattle.row.specs.Reading.{line_at}
@@ -13,8 +14,8 @@ use Rattle.row.specs.declared.Line.{Line}
 use Rattle.row.specs.declared.Line.TheVariants.{Whole, Malformed}
 use Rattle.formula.specs.Values.{whole_number}
 use Rattle.table.specs.Rows.{Rows}
-use Rattle.recording.specs.declared.Replay.{Replay}
-use Rattle.recording.specs.declared.Replay.TheVariants.{Refused}
+use Rattle.rules.specs.declared.Refusal.{Refusal}
+use Rattle.rules.specs.Refusal.{refused}
 use Rattle.recording.specs.Rows.{logged, is_step_row}
 use Rattle.recording.specs.Lines.{lines_to, lines}
 use Rattle.recording.specs.Faults.{no_fault, log_fault, step_fault}
@@ -50,11 +51,11 @@ module _ (t : Rows) where
       let l = ap length f.lines in
       omega (arith, k, l)
 
-  judged_same : (i e : ℕ) (f : Found) (next next' : List Line → Values → Replay) → ((ws : Values) (rest : List Line) → f ≡ found ws rest → next rest (moved t ws) ≡ next' rest (moved t ws))
+  judged_same : (i e : ℕ) (f : Found) (next next' : List Line → Values → Result ℕ Refusal) → ((ws : Values) (rest : List Line) → f ≡ found ws rest → next rest (moved t ws) ≡ next' rest (moved t ws))
       → judged t i e f next ≡ judged t i e f next'
   judged_same i e (bad j) next next' h = refl
   judged_same i e (found ws rest) next next' h =
-      ap (λ r. pick (eqb (step_fault t e ws.present ws.after) no_fault) r (Refused (step_fault t e ws.present ws.after) i)) (h ws rest refl)
+      ap (λ r. pick (eqb (step_fault t e ws.present ws.after) no_fault) r (Err (refused (step_fault t e ws.present ws.after) i))) (h ws rest refl)
 
   pub replay_enough : (f g n i : ℕ) (ls : List Line) (vs : Values) → length ls < f → length ls < g → replay_from t f n i ls vs ≡ replay_from t g n i ls vs
   unfolding replay_from
@@ -63,7 +64,7 @@ module _ (t : Rows) where
   replay_enough (suc f) (suc g) n i [] vs h k = refl
   replay_enough (suc f) (suc g) n i (Malformed ∷ ls) vs h k = refl
   replay_enough (suc f) (suc g) n i (Whole r ∷ ls) vs h k =
-      ap (λ s. pick (is_step_row t (eqb n 0) r) s (Refused log_fault i))
+      ap (λ s. pick (is_step_row t (eqb n 0) r) s (Err (refused log_fault i)))
       (judged_same i r.a (read_values t r.a (logged t r.a) (i + 1) ls vs) _ _ (λ ws rest q.
       let s = read_count r.a (logged t r.a) (i + 1) ls vs ws rest q in
       replay_enough f g (n + 1) (i + 1 + length (logged t r.a)) rest (moved t ws) (omega (arith, s, h)) (omega (arith, s, k))))

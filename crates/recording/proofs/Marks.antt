@@ -7,6 +7,7 @@ use mathlib.Core.List.{List, [], ◌∷◌, ◌++◌, flat_map}
 use mathlib.Core.Logic.{◌⊎◌, inl, inr}
 use native.Mathlib.Omega.{arith}
 use lib.ListN.{length}
+use Rattle.std.specs.Prelude.{Result, Ok, Err}
 use Rattle.lists.specs.All.{All, all_nil}
 use Rattle.lists.proofs.All.{all_join, first_in}
 use Rattle.lists.proofs.Flat.{flat_join}
@@ -20,8 +21,8 @@ use Rattle.machine.specs.Machine.{Action, unassigned, becomes_equal, becomes_suc
 use Rattle.machine.specs.Described.{machine_of}
 use Rattle.rules.proofs.Obeys.{Obeys}
 use Rattle.run.specs.Run.{State, view}
-use Rattle.recording.specs.declared.Replay.{Replay}
-use Rattle.recording.specs.declared.Replay.TheVariants.{Steps, Refused}
+use Rattle.rules.specs.declared.Refusal as rules
+use Rattle.rules.specs.Refusal.{refused}
 use Rattle.recording.specs.Rows.{logged}
 use Rattle.recording.specs.Lines.{lines}
 use Rattle.recording.specs.Faults.{outside_fault, undefined_fault, log_fault}
@@ -102,7 +103,7 @@ module _ (t : Rows) where
 
   -- ---- the replies
   module _ (ok : Obeys t) (run : List ℕ) where
-    module _ (number row : ℕ) (h : replay_log t run ≡ Refused number row) where
+    module _ (number row : ℕ) (h : replay_log t run ≡ Err (refused number row)) where
       abbrev refusal : RefusalOf t run number row
       refusal = (refusal_exact t ok run number row).0 h
 
@@ -129,9 +130,9 @@ module _ (t : Rows) where
     pub run_or_refusal : ((n : ℕ) × RunOf t run n) ⊎ ((number : ℕ) × (row : ℕ) × RefusalOf t run number row)
     run_or_refusal = go (replay_log t run) refl
       where
-        go : (r : Replay) → replay_log t run ≡ r → ((n : ℕ) × RunOf t run n) ⊎ ((number : ℕ) × (row : ℕ) × RefusalOf t run number row)
-        go (Steps n) h = inl (n, replay_recorded t ok run n h)
-        go (Refused number row) h = inr (number, row, (refusal_exact t ok run number row).0 h)
+        go : (r : Result ℕ rules.Refusal) → replay_log t run ≡ r → ((n : ℕ) × RunOf t run n) ⊎ ((number : ℕ) × (row : ℕ) × RefusalOf t run number row)
+        go (Ok n) h = inl (n, replay_recorded t ok run n h)
+        go (Err r) h = inr (r.number, r.row, (refusal_exact t ok run r.number r.row).0 h)
 
     -- not both
     pub run_not_refused : {n number row : ℕ} → RunOf t run n → RefusalOf t run number row → ⊥

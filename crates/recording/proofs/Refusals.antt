@@ -9,6 +9,7 @@ use native.Mathlib.Omega.{arith}
 use lib.Dec.{T, eqb}
 use lib.ListN.{length, length-append, length-map}
 use borrow.Author.Tests.{eqb-true, eqb-false, eq-eqb, ne_eqb}
+use Rattle.std.specs.Prelude.{Result, Ok, Err}
 use Rattle.lists.specs.Choice.{pick}
 use Rattle.lists.specs.All.{All, In}
 use Rattle.lists.proofs.All.{all_tail, all_left, all_unmap, map_same}
@@ -23,8 +24,8 @@ use Rattle.machine.specs.Machine.{Machine}
 use Rattle.machine.specs.Described.{machine_of}
 use Rattle.rules.proofs.Obeys.{Obeys}
 use Rattle.run.specs.Run.{State, blank}
-use Rattle.recording.specs.declared.Replay.{Replay}
-use Rattle.recording.specs.declared.Replay.TheVariants.{Steps, Refused}
+use Rattle.rules.specs.declared.Refusal as rules
+use Rattle.rules.specs.Refusal.{refused}
 use Rattle.recording.specs.Rows.{is_initial, logged, is_step_row, is_value_row}
 use Rattle.recording.specs.Lines.{lines}
 use Rattle.recording.specs.Faults.{no_fault, log_fault, step_fault}
@@ -40,11 +41,11 @@ use Rattle.recording.proofs.Steps.{Ready, LoggedAre, stored_logged, held_first, 
 use Rattle.recording.proofs.BadRows.{Bad, BadBytes, bad_malformed, bad_whole, whole_bad, bad_bytes, bytes_bad, Stops, Stopped, read_stops, stops_read}
 use Rattle.recording.proofs.Runs.{steps_never, StepRow, step_row, no_values_lem}
 
-pub refused_number : {m n i j : ℕ} → Refused m i ≡ Refused n j → m ≡ n
-refused_number {m} e = ap (λ (r : Replay). elim r [ Steps n ↦ m | Refused number row ↦ number ]) e
+pub refused_number : {m n i j : ℕ} → ◌≡◌ {A = Result ℕ rules.Refusal} (Err (refused m i)) (Err (refused n j)) → m ≡ n
+refused_number {m} e = ap (λ (r : Result ℕ rules.Refusal). elim r [ Ok n ↦ m | Err x ↦ x.number ]) e
 
-pub refused_row : {m n i j : ℕ} → Refused m i ≡ Refused n j → i ≡ j
-refused_row {i = i} e = ap (λ (r : Replay). elim r [ Steps n ↦ i | Refused number row ↦ row ]) e
+pub refused_row : {m n i j : ℕ} → ◌≡◌ {A = Result ℕ rules.Refusal} (Err (refused m i)) (Err (refused n j)) → i ≡ j
+refused_row {i = i} e = ap (λ (r : Result ℕ rules.Refusal). elim r [ Ok n ↦ i | Err x ↦ x.row ]) e
 
 module _ (t : Rows) where
   abbrev machine : Machine
@@ -55,35 +56,35 @@ module _ (t : Rows) where
 
   -- ---- one step of a replay: a row 90 that is bad, rows 91 that stop, a fault, or the next step
   module _ (most n i : ℕ) (vs : Values) where
-    bad_row_refused : (ls : List Line) → Bad (is_step_row t (eqb n 0)) ls → replay_from t (suc most) n i ls vs ≡ Refused log_fault i
+    bad_row_refused : (ls : List Line) → Bad (is_step_row t (eqb n 0)) ls → replay_from t (suc most) n i ls vs ≡ Err (refused log_fault i)
     unfolding replay_from
     bad_row_refused [] b = absurd (b.0 refl)
     bad_row_refused (Malformed ∷ ls) b = refl
     bad_row_refused (Whole r ∷ ls) b =
-        let next : List Line → Values → Replay = λ rest ws. replay_from t most (n + 1) (i + 1 + length (logged t r.a)) rest ws in
-        ap (λ g. pick g (judged t i r.a (read_values t r.a (logged t r.a) (i + 1) ls vs) next) (Refused log_fault i)) (whole_bad (is_step_row t (eqb n 0)) r ls b)
+        let next : List Line → Values → Result ℕ rules.Refusal = λ rest ws. replay_from t most (n + 1) (i + 1 + length (logged t r.a)) rest ws in
+        ap (λ g. pick g (judged t i r.a (read_values t r.a (logged t r.a) (i + 1) ls vs) next) (Err (refused log_fault i))) (whole_bad (is_step_row t (eqb n 0)) r ls b)
 
     module _ (r : Row) (ls : List Line) (good : T (is_step_row t (eqb n 0) r)) where
-      abbrev next : List Line → Values → Replay
+      abbrev next : List Line → Values → Result ℕ rules.Refusal
       next rest ws = replay_from t most (n + 1) (i + 1 + length (logged t r.a)) rest ws
 
       step_judged : (f : Found) → read_values t r.a (logged t r.a) (i + 1) ls vs ≡ f → replay_from t (suc most) n i (Whole r ∷ ls) vs ≡ judged t i r.a f next
       unfolding replay_from
       step_judged f h =
-          ap (λ b. pick b (judged t i r.a (read_values t r.a (logged t r.a) (i + 1) ls vs) next) (Refused log_fault i)) (test_true (is_step_row t (eqb n 0) r) good)
+          ap (λ b. pick b (judged t i r.a (read_values t r.a (logged t r.a) (i + 1) ls vs) next) (Err (refused log_fault i))) (test_true (is_step_row t (eqb n 0) r) good)
           ∙ ap (λ (f : Found). judged t i r.a f next) h
 
       module _ (ws : Values) (rest : List Line) (reads : read_values t r.a (logged t r.a) (i + 1) ls vs ≡ found ws rest) where
-        fault_refused : (m : ℕ) → step_fault t r.a ws.present ws.after ≡ m → ¬ (m ≡ no_fault) → replay_from t (suc most) n i (Whole r ∷ ls) vs ≡ Refused m i
+        fault_refused : (m : ℕ) → step_fault t r.a ws.present ws.after ≡ m → ¬ (m ≡ no_fault) → replay_from t (suc most) n i (Whole r ∷ ls) vs ≡ Err (refused m i)
         fault_refused m h z =
             step_judged (found ws rest) reads
-            ∙ ap (λ b. pick b (next rest (moved t ws)) (Refused (step_fault t r.a ws.present ws.after) i)) (ne_eqb _ no_fault (λ e. z (sym h ∙ e)))
-            ∙ ap (λ m. Refused m i) h
+            ∙ ap (λ b. pick b (next rest (moved t ws)) (Err (refused (step_fault t r.a ws.present ws.after) i))) (ne_eqb _ no_fault (λ e. z (sym h ∙ e)))
+            ∙ ap (λ m. Err (refused m i)) h
 
         step_goes_on : step_fault t r.a ws.present ws.after ≡ no_fault → replay_from t (suc most) n i (Whole r ∷ ls) vs ≡ next rest (moved t ws)
         step_goes_on h =
             step_judged (found ws rest) reads
-            ∙ ap (λ b. pick b (next rest (moved t ws)) (Refused (step_fault t r.a ws.present ws.after) i)) (eq-eqb _ no_fault h)
+            ∙ ap (λ b. pick b (next rest (moved t ws)) (Err (refused (step_fault t r.a ws.present ws.after) i))) (eq-eqb _ no_fault h)
 
   -- ---- the bytes of a step, or of its beginning
   begun_lines : {first : Bool} {e : ℕ} {xs : List ℕ} {v : State machine} {more bytes : List ℕ} → Begun t first e xs v more bytes
@@ -166,10 +167,10 @@ module _ (t : Rows) where
     -- ---- a log that is refused
     abbrev Refuses : ℕ → Type 0
     Refuses most = (first : Bool) (n i : ℕ) (bytes : List ℕ) (vs : Values) (c s : State machine) (number row : ℕ) → eqb n 0 ≡ first → length (lines bytes) < most → At first vs c s
-        → replay_from t most n i (lines bytes) vs ≡ Refused number row → Refusal t first c s i bytes number row
+        → replay_from t most n i (lines bytes) vs ≡ Err (refused number row) → Refusal t first c s i bytes number row
 
     -- the number and the row of a reply
-    marked : {first : Bool} {c s : State machine} {i : ℕ} {bytes : List ℕ} {m j number row : ℕ} → Refused m j ≡ Refused number row → Refusal t first c s i bytes m j
+    marked : {first : Bool} {c s : State machine} {i : ℕ} {bytes : List ℕ} {m j number row : ℕ} → ◌≡◌ {A = Result ℕ rules.Refusal} (Err (refused m j)) (Err (refused number row)) → Refusal t first c s i bytes m j
         → Refusal t first c s i bytes number row
     marked {first} {c} {s} {i} {bytes} {m = m} {row = row} e r =
         subst (λ n. Refusal t first c s i bytes n row) (refused_number e) (subst (λ j. Refusal t first c s i bytes m j) (refused_row e) r)
@@ -227,7 +228,7 @@ module _ (t : Rows) where
               step_at_fault e d q k step_opened.more (constants_same first ws c) step_opened.begun
               (number_fault t ok e is_step_lem.is_event is_step_lem.concrete ws.present ws.after d (state_before t first s) q k step_held m h z)
 
-          later_marked : step_fault t e ws.present ws.after ≡ no_fault → replay_from t most (n + 1) (i + 1 + length (logged t e)) rest (moved t ws) ≡ Refused number row
+          later_marked : step_fault t e ws.present ws.after ≡ no_fault → replay_from t most (n + 1) (i + 1 + length (logged t e)) rest (moved t ws) ≡ Err (refused number row)
               → Refusal t first c s i bytes number row
           later_marked h r =
               let allowed = fault_allowed t ok e is_step_lem.is_event is_step_lem.concrete ws.present ws.after d (state_before t first s) q k step_held h in
@@ -241,7 +242,7 @@ module _ (t : Rows) where
 
       -- a row 90 that is good
       step_marked : (e : ℕ) (ls : List Line) → lines bytes ≡ Whole (step_row_of e) ∷ ls → T (is_step_row t (eqb n 0) (step_row_of e))
-          → replay_from t (suc most) n i (Whole (step_row_of e) ∷ ls) vs ≡ Refused number row → Refusal t first c s i bytes number row
+          → replay_from t (suc most) n i (Whole (step_row_of e) ∷ ls) vs ≡ Err (refused number row) → Refusal t first c s i bytes number row
       step_marked e ls h good r = by_values (read_values t e (logged t e) (i + 1) ls vs) refl
         where
           by_fault : (ws : Values) (rest : List Line) → read_values t e (logged t e) (i + 1) ls vs ≡ found ws rest → (b : Bool) → eqb (step_fault t e ws.present ws.after) no_fault ≡ b
@@ -258,7 +259,7 @@ module _ (t : Rows) where
           by_values (found ws rest) reads = by_fault ws rest reads (eqb (step_fault t e ws.present ws.after) no_fault) refl
 
       -- the next row
-      lines_marked : (ls : List Line) → lines bytes ≡ ls → replay_from t (suc most) n i ls vs ≡ Refused number row → Refusal t first c s i bytes number row
+      lines_marked : (ls : List Line) → lines bytes ≡ ls → replay_from t (suc most) n i ls vs ≡ Err (refused number row) → Refusal t first c s i bytes number row
       unfolding replay_from
       lines_marked [] h r = nothing first refl
         where
@@ -267,9 +268,9 @@ module _ (t : Rows) where
 
           nothing : (b : Bool) → first ≡ b → Refusal t first c s i bytes number row
           nothing true f =
-              marked (sym (ap (λ b. pick b (Refused log_fault 0) (Steps (n - 1))) (is-first ∙ f)) ∙ r)
+              marked (sym (ap (λ b. pick b (Err (refused log_fault 0)) (Ok (n - 1))) (is-first ∙ f)) ∙ r)
               (subst (λ b. Refusal t b c s i bytes log_fault 0) (sym f) (subst (λ bytes. Refusal t true c s i bytes log_fault 0) (sym none) empty))
-          nothing false f = absurd (steps_never (sym r ∙ ap (λ b. pick b (Refused log_fault 0) (Steps (n - 1))) (is-first ∙ f)))
+          nothing false f = absurd (steps_never (sym r ∙ ap (λ b. pick b (Err (refused log_fault 0)) (Ok (n - 1))) (is-first ∙ f)))
       lines_marked (Malformed ∷ ls) h r = marked r (bad_row_marked (subst (Bad (is_step_row t (eqb n 0))) (sym h) (bad_malformed (is_step_row t (eqb n 0)) ls)))
       lines_marked (Whole w ∷ ls) h r = by_row (is_step_row t (eqb n 0) w) refl
         where
@@ -289,7 +290,7 @@ module _ (t : Rows) where
 
     -- ---- the other way round: what a refusal marks is the reply
     module _ (most : ℕ) (first : Bool) (c s : State machine) (n i : ℕ) (bytes : List ℕ) (vs : Values) (is-first : eqb n 0 ≡ first) (at : At first vs c s) where
-      bad_step_refused : BadBytes t (is_step_row t first) bytes → replay_from t (suc most) n i (lines bytes) vs ≡ Refused log_fault i
+      bad_step_refused : BadBytes t (is_step_row t first) bytes → replay_from t (suc most) n i (lines bytes) vs ≡ Err (refused log_fault i)
       bad_step_refused b =
           bad_row_refused most n i vs (lines bytes) (subst (λ f. Bad (is_step_row t f) (lines bytes)) (sym is-first) (bad_bytes t (is_step_row t first) bytes b))
 
@@ -301,7 +302,7 @@ module _ (t : Rows) where
         row_passes = subst (λ f. T (is_step_row t f (step_row_of e))) (sym is-first) begun.good
 
         stop_refused : (y : ℕ) (ys : List ℕ) (j : ℕ) → logged t e ≡ xs ++ (y ∷ ys) → Stops t e y (lines more) (i + 1 + length xs) j
-            → replay_from t (suc most) n i (lines bytes) vs ≡ Refused log_fault j
+            → replay_from t (suc most) n i (lines bytes) vs ≡ Err (refused log_fault j)
         stop_refused y ys j are stops =
             let reads = begun_reads (y ∷ ys) (i + 1) vs are (at_size first vs c s at) begun in
             let stopped : Stopped t e (logged t e) (i + 1) value_lines vs j =
@@ -322,7 +323,7 @@ module _ (t : Rows) where
         begun_held : Held t e step_read.values.present step_read.values.after d (state_before t first s) q k
         begun_held = held_at first e (i + 1) step_lines_of (lines more) vs step_read.values c s d q k at same begun_row.initial step_read.are step_read.reads
 
-        step_fault_refused : (m : ℕ) → StepFault t (machine.role e) e d (state_before t first s) q k m → replay_from t (suc most) n i (lines bytes) vs ≡ Refused m i
+        step_fault_refused : (m : ℕ) → StepFault t (machine.role e) e d (state_before t first s) q k m → replay_from t (suc most) n i (lines bytes) vs ≡ Err (refused m i)
         step_fault_refused m f =
             let ws : Values = step_read.values in
             let p = fault_number t ok e begun_row.is_event begun_row.concrete ws.present ws.after d (state_before t first s) q k begun_held m f in
@@ -344,11 +345,11 @@ module _ (t : Rows) where
             ready_next t ok e ws d (state_before t first s) q k size begun_held
 
     marked_refused : (most n : ℕ) (vs : Values) {first : Bool} {c s : State machine} {i : ℕ} {bytes : List ℕ} {number row : ℕ} → Refusal t first c s i bytes number row
-        → eqb n 0 ≡ first → length (lines bytes) < most → At first vs c s → replay_from t most n i (lines bytes) vs ≡ Refused number row
+        → eqb n 0 ≡ first → length (lines bytes) < most → At first vs c s → replay_from t most n i (lines bytes) vs ≡ Err (refused number row)
     unfolding replay_from
     marked_refused zero n vs r is-first enough at = absurd (omega (arith, enough))
     marked_refused (suc most) n vs (empty {i = i}) is-first enough at =
-        ap (λ ls. replay_from t (suc most) n i ls vs) (lines_none [] refl) ∙ ap (λ b. pick b (Refused log_fault 0) (Steps (n - 1))) is-first
+        ap (λ ls. replay_from t (suc most) n i ls vs) (lines_none [] refl) ∙ ap (λ b. pick b (Err (refused log_fault 0)) (Ok (n - 1))) is-first
     marked_refused (suc most) n vs (bad_step {first = first} {c = c} {s = s} {i = i} {bytes = bytes} some b) is-first enough at = bad_step_refused most first c s n i bytes vs is-first at (some, b)
     marked_refused (suc most) n vs (bad_value {first = first} {c = c} {s = s} {i = i} {bytes = bytes} e xs ys y v more begun are some b) is-first enough at =
         stop_refused most first c s n i bytes vs is-first at e begun y ys (i + 1 + length xs) are (inr (bad_bytes t (is_value_row t y) more (some, b), refl))
@@ -367,7 +368,7 @@ module _ (t : Rows) where
   abbrev pub RefusalOf : List ℕ → ℕ → ℕ → Type 0
   RefusalOf run number row = Refusal t true (blank machine) (blank machine) 1 run number row
 
-  pub refusal_exact : Obeys t → (run : List ℕ) (number row : ℕ) → (replay_log t run ≡ Refused number row) ↔ RefusalOf run number row
+  pub refusal_exact : Obeys t → (run : List ℕ) (number row : ℕ) → (replay_log t run ≡ Err (refused number row)) ↔ RefusalOf run number row
   unfolding replay_log
   refusal_exact ok run number row = (
     refused_marked ok (suc (length (lines run))) true 0 1 run no_values (blank machine) (blank machine) number row refl (omega arith) (no_values_lem t),

@@ -9,6 +9,7 @@ use lib.Dec.{T, eqb, eqb→eq}
 use lib.IntN.{pos}
 use lib.ListN.{length, length-append, length-map, length-replicate}
 use borrow.Author.Tests.{eq-eqb, ne_eqb}
+use Rattle.std.specs.Prelude.{Result, Ok, Err}
 use Rattle.lists.specs.Choice.{pick}
 use Rattle.lists.specs.All.{All, In}
 use Rattle.lists.proofs.All.{all_tail, all_left, all_right, all_unmap, map_same}
@@ -26,8 +27,8 @@ use Rattle.machine.proofs.Roles.{RoleSays}
 use Rattle.rules.proofs.Obeys.{Obeys}
 use Rattle.rules.proofs.Events.{event_says}
 use Rattle.run.specs.Run.{State, blank, Step, Taken, of_run, Follows}
-use Rattle.recording.specs.declared.Replay.{Replay}
-use Rattle.recording.specs.declared.Replay.TheVariants.{Steps, Refused}
+use Rattle.rules.specs.declared.Refusal.{Refusal}
+use Rattle.rules.specs.Refusal.{refused}
 use Rattle.recording.specs.Rows.{is_initial, logged, is_step_row}
 use Rattle.recording.specs.Lines.{lines}
 use Rattle.recording.specs.Faults.{no_fault, log_fault, step_fault}
@@ -38,11 +39,11 @@ use Rattle.recording.proofs.Values.{row_parts, LineFormed, Sized, value_at, read
 use Rattle.recording.proofs.Lines.{lines_formed, lines_written, written_lines}
 use Rattle.recording.proofs.Steps.{Ready, LoggedAre, stored_logged, held_first, held_later, ready_next, logged_distinct, logged_small}
 
-pub steps_never : {number row n : ℕ} → Refused number row ≡ Steps n → ⊥
-steps_never e = true≢false (ap (λ (r : Replay). elim r [ Steps n ↦ false | Refused number row ↦ true ]) e)
+pub steps_never : {number row n : ℕ} → Err (refused number row) ≡ Ok n → ⊥
+steps_never e = true≢false (ap (λ (r : Result ℕ Refusal). elim r [ Ok n ↦ false | Err x ↦ true ]) e)
 
-steps_are : {m n : ℕ} → Steps m ≡ Steps n → m ≡ n
-steps_are {m} e = ap (λ (r : Replay). elim r [ Steps n ↦ n | Refused number row ↦ m ]) e
+steps_are : {m n : ℕ} → ◌≡◌ {A = Result ℕ Refusal} (Ok m) (Ok n) → m ≡ n
+steps_are {m} e = ap (λ (r : Result ℕ Refusal). elim r [ Ok n ↦ n | Err x ↦ m ]) e
 
 beq_is : (a b : Bool) → T (beq a b) → a ≡ b
 beq_is true true h = refl
@@ -145,45 +146,45 @@ module _ (t : Rows) where
     good : T (is_step_row t (eqb n 0) r)
     reads : read_values t r.a (logged t r.a) (i + 1) ls vs ≡ found values rest
     fault : step_fault t r.a values.present values.after ≡ no_fault
-    next : replay_from t most (n + 1) (i + 1 + length (logged t r.a)) rest (moved t values) ≡ Steps total
+    next : replay_from t most (n + 1) (i + 1 + length (logged t r.a)) rest (moved t values) ≡ Ok total
 
-  replay_passes : (most n i : ℕ) (r : Row) (ls : List Line) (vs : Values) (total : ℕ) → replay_from t (suc most) n i (Whole r ∷ ls) vs ≡ Steps total → Passed most n i r ls vs total
+  replay_passes : (most n i : ℕ) (r : Row) (ls : List Line) (vs : Values) (total : ℕ) → replay_from t (suc most) n i (Whole r ∷ ls) vs ≡ Ok total → Passed most n i r ls vs total
   unfolding replay_from
   replay_passes most n i r ls vs total h = by_row (is_step_row t (eqb n 0) r) refl h
     where
       e : ℕ
       e = r.a
 
-      next : List Line → Values → Replay
+      next : List Line → Values → Result ℕ Refusal
       next rest ws = replay_from t most (n + 1) (i + 1 + length (logged t e)) rest ws
 
       by_fault : (ws : Values) (rest : List Line) → T (is_step_row t (eqb n 0) r) → read_values t e (logged t e) (i + 1) ls vs ≡ found ws rest → (b : Bool)
-          → eqb (step_fault t e ws.present ws.after) no_fault ≡ b → pick b (next rest (moved t ws)) (Refused (step_fault t e ws.present ws.after) i) ≡ Steps total
+          → eqb (step_fault t e ws.present ws.after) no_fault ≡ b → pick b (next rest (moved t ws)) (Err (refused (step_fault t e ws.present ws.after) i)) ≡ Ok total
           → Passed most n i r ls vs total
       by_fault ws rest g d true q h =
           record { values = ws; rest = rest; good = g; reads = d; fault = eqb→eq (step_fault t e ws.present ws.after) no_fault (true_test _ q); next = h }
       by_fault ws rest g d false q h = absurd (steps_never h)
 
-      by_values : (f : Found) → T (is_step_row t (eqb n 0) r) → read_values t e (logged t e) (i + 1) ls vs ≡ f → judged t i e f next ≡ Steps total → Passed most n i r ls vs total
+      by_values : (f : Found) → T (is_step_row t (eqb n 0) r) → read_values t e (logged t e) (i + 1) ls vs ≡ f → judged t i e f next ≡ Ok total → Passed most n i r ls vs total
       by_values (bad j) g d h = absurd (steps_never h)
       by_values (found ws rest) g d h = by_fault ws rest g d (eqb (step_fault t e ws.present ws.after) no_fault) refl h
 
-      by_row : (b : Bool) → is_step_row t (eqb n 0) r ≡ b → pick b (judged t i e (read_values t e (logged t e) (i + 1) ls vs) next) (Refused log_fault i) ≡ Steps total
+      by_row : (b : Bool) → is_step_row t (eqb n 0) r ≡ b → pick b (judged t i e (read_values t e (logged t e) (i + 1) ls vs) next) (Err (refused log_fault i)) ≡ Ok total
           → Passed most n i r ls vs total
       by_row true g h = by_values (read_values t e (logged t e) (i + 1) ls vs) (true_test _ g) refl h
       by_row false g h = absurd (steps_never h)
 
   -- the other way round
-  passes_replay : (most n i : ℕ) (r : Row) (ls : List Line) (vs : Values) (total : ℕ) → Passed most n i r ls vs total → replay_from t (suc most) n i (Whole r ∷ ls) vs ≡ Steps total
+  passes_replay : (most n i : ℕ) (r : Row) (ls : List Line) (vs : Values) (total : ℕ) → Passed most n i r ls vs total → replay_from t (suc most) n i (Whole r ∷ ls) vs ≡ Ok total
   unfolding replay_from
   passes_replay most n i r ls vs total p =
       let e : ℕ = r.a in
       let ws : Values = p.values in
-      let next : List Line → Values → Replay = λ rest ws. replay_from t most (n + 1) (i + 1 + length (logged t e)) rest ws in
+      let next : List Line → Values → Result ℕ Refusal = λ rest ws. replay_from t most (n + 1) (i + 1 + length (logged t e)) rest ws in
       let then : judged t i e (read_values t e (logged t e) (i + 1) ls vs) next ≡ judged t i e (found ws p.rest) next = ap (λ (f : Found). judged t i e f next) p.reads in
-      ap (λ b. pick b (judged t i e (read_values t e (logged t e) (i + 1) ls vs) next) (Refused log_fault i)) (test_true (is_step_row t (eqb n 0) r) p.good)
+      ap (λ b. pick b (judged t i e (read_values t e (logged t e) (i + 1) ls vs) next) (Err (refused log_fault i))) (test_true (is_step_row t (eqb n 0) r) p.good)
       ∙ then
-      ∙ ap (λ b. pick b (next p.rest (moved t ws)) (Refused (step_fault t e ws.present ws.after) i)) (eq-eqb (step_fault t e ws.present ws.after) no_fault p.fault)
+      ∙ ap (λ b. pick b (next p.rest (moved t ws)) (Err (refused (step_fault t e ws.present ws.after) i))) (eq-eqb (step_fault t e ws.present ws.after) no_fault p.fault)
       ∙ p.next
 
   -- ---- the rows of a step
@@ -224,12 +225,12 @@ module _ (t : Rows) where
     count : total ≡ n - 1 + length steps
 
   replay_rest_lem : Obeys t → (most n i : ℕ) (ls : List Line) (vs : Values) (c s : State machine) (total : ℕ) → 0 < n → All LineFormed ls → Ready t vs c s
-      → replay_from t most n i ls vs ≡ Steps total → Rest c s ls n total
+      → replay_from t most n i ls vs ≡ Ok total → Rest c s ls n total
   unfolding replay_from flat_map
   replay_rest_lem ok zero n i ls vs c s total more formed ready h = absurd (steps_never h)
   replay_rest_lem ok (suc most) n i [] vs c s total more formed ready h =
       let z = ne_eqb n 0 (λ e. omega (arith, more)) in
-      record { steps = []; rows = refl; follows = tt; inside = tt; count = sym (steps_are (sym (ap (λ b. pick b (Refused log_fault 0) (Steps (n - 1))) z) ∙ h)) ∙ omega arith }
+      record { steps = []; rows = refl; follows = tt; inside = tt; count = sym (steps_are (sym (ap (λ b. pick b (Err (refused log_fault 0)) (Ok (n - 1))) z) ∙ h)) ∙ omega arith }
   replay_rest_lem ok (suc most) n i (Malformed ∷ ls) vs c s total more formed ready h = absurd (steps_never h)
   replay_rest_lem ok (suc most) n i (Whole r ∷ ls) vs c s total more formed ready h =
       let e : ℕ = r.a in
@@ -276,8 +277,8 @@ module _ (t : Rows) where
 
     module _ (most n : ℕ) (s : State machine) (total : ℕ) (event : T (named t 40 e)) (concrete : machine_number t e ≡ 2) (initial : is_initial t e ≡ eqb n 0) where
       rows_pass : Held t e rows_found.values.present rows_found.values.after c s q k → Allowed t (machine.role e) e c s q k
-          → replay_from t most (n + 1) (i + 1 + length (logged t e)) (map Whole rs) (moved t rows_found.values) ≡ Steps total
-          → replay_from t (suc most) n i (map Whole (step_rows t e c q k ++ rs)) vs ≡ Steps total
+          → replay_from t most (n + 1) (i + 1 + length (logged t e)) (map Whole rs) (moved t rows_found.values) ≡ Ok total
+          → replay_from t (suc most) n i (map Whole (step_rows t e c q k ++ rs)) vs ≡ Ok total
       rows_pass held allowed next =
           ap (λ ls. replay_from t (suc most) n i ls vs) (step_lines e c q k rs)
           ∙ passes_replay most n i (step_row_of e) others vs total (record {
@@ -291,11 +292,11 @@ module _ (t : Rows) where
 
   rest_replays : Obeys t → (ss : List (Taken machine)) (most n i : ℕ) (vs : Values) (c s : State machine) → 0 < n → length ss < most → Ready t vs c s
       → Follows machine c s ss → StepsInside t c s ss → All (Writable greatest width) (steps_rows t c ss)
-      → replay_from t most n i (map Whole (steps_rows t c ss)) vs ≡ Steps (n - 1 + length ss)
+      → replay_from t most n i (map Whole (steps_rows t c ss)) vs ≡ Ok (n - 1 + length ss)
   unfolding replay_from flat_map
   rest_replays ok ss zero n i vs c s more few ready f g w = absurd (omega (arith, few))
   rest_replays ok [] (suc most) n i vs c s more few ready f g w =
-      ap (λ b. pick b (Refused log_fault 0) (Steps (n - 1))) (ne_eqb n 0 (λ e. omega (arith, more))) ∙ ap Steps (omega arith)
+      ap (λ b. pick b (Err (refused log_fault 0)) (Ok (n - 1))) (ne_eqb n 0 (λ e. omega (arith, more))) ∙ ap Ok (omega arith)
   rest_replays ok (a ∷ ss) (suc most) n i vs c s more few ready f g w =
       let e : ℕ = a.event in
       let q : State machine = a.parameters in
@@ -310,7 +311,7 @@ module _ (t : Rows) where
       let next = rest_replays ok ss most (n + 1) (i + 1 + length (logged t e)) (moved t found.values) c k (omega arith) (omega (arith, few)) (ready_next t ok e found.values c s q k size held)
       f.3 g.1 (all_right (step_rows t e c q k) w) in
       rows_pass ok i e vs c q k rs ready.size w most n s (n - 1 + suc (length ss)) event role.0 initial held
-      (record { axioms = λ i. absurd (subst T role.1 i); step = f.2; inside = g.0 }) (next ∙ ap Steps (omega (arith, more)))
+      (record { axioms = λ i. absurd (subst T role.1 i); step = f.2; inside = g.0 }) (next ∙ ap Ok (omega (arith, more)))
 
   -- ---- the whole log
   pub no_values_lem : Sized no_values
@@ -359,11 +360,11 @@ module _ (t : Rows) where
         sym (rest.count ∙ omega arith),
       )
 
-  pub replay_recorded : Obeys t → (run : List ℕ) (n : ℕ) → replay_log t run ≡ Steps n → RunOf run n
+  pub replay_recorded : Obeys t → (run : List ℕ) (n : ℕ) → replay_log t run ≡ Ok n → RunOf run n
   unfolding replay_log replay_from
   replay_recorded ok run n h = go (lines run) refl h
     where
-      go : (ls : List Line) → lines run ≡ ls → replay_from t (suc (length ls)) 0 1 ls no_values ≡ Steps n → RunOf run n
+      go : (ls : List Line) → lines run ≡ ls → replay_from t (suc (length ls)) 0 1 ls no_values ≡ Ok n → RunOf run n
       go [] e h = absurd (steps_never h)
       go (Malformed ∷ ls) e h = absurd (steps_never h)
       go (Whole r ∷ ls) e h = first_recorded ok run n r ls e (replay_passes (suc (length ls)) 0 1 r ls no_values n h)
@@ -385,7 +386,7 @@ module _ (t : Rows) where
       let a = length-append values rs in
       omega (arith, m, a)
 
-  pub recorded_replay : Obeys t → (run : List ℕ) (n : ℕ) → RunOf run n → replay_log t run ≡ Steps n
+  pub recorded_replay : Obeys t → (run : List ℕ) (n : ℕ) → RunOf run n → replay_log t run ≡ Ok n
   unfolding replay_log
   recorded_replay ok run n (r, inside, count) =
       let e : ℕ = r.event in
@@ -409,4 +410,4 @@ module _ (t : Rows) where
         inside = subst (λ ro. StepInside t ro e c b b k) (sym r.is_initialisation) inside.start;
       } in
       ap (λ ls. replay_from t (suc (length ls)) 0 1 ls no_values) ls
-      ∙ rows_pass ok 1 e no_values c b k rs no_values_lem r.in_form most 0 b n event role.0 role.1 held allowed (next ∙ ap Steps (omega (arith, count)))
+      ∙ rows_pass ok 1 e no_values c b k rs no_values_lem r.in_form most 0 b n event role.0 role.1 held allowed (next ∙ ap Ok (omega (arith, count)))

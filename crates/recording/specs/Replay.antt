@@ -1,20 +1,18 @@
 -- 02, request 5: what replaying a log of a table's concrete machine answers.
-use Rattle.std.specs.Prelude.{Bool, true, false, List, [], ◌∷◌, ℕ, zero, suc, ◌+◌, ◌-◌, eqb, ℤ, pos, length, get_or, set, replicate}
+use Rattle.std.specs.Prelude.{Bool, true, false, List, [], ◌∷◌, ℕ, zero, suc, ◌+◌, ◌-◌, eqb, ℤ, pos, length, get_or, set, replicate, Result, Ok, Err}
 use Rattle.lists.specs.Choice.{pick}
 use Rattle.row.specs.declared.Line.{Line}
 use Rattle.row.specs.declared.Line.TheVariants.{Whole, Malformed}
 use Rattle.formula.specs.Values.{whole_number}
 use Rattle.table.specs.Rows.{Rows}
 use Rattle.machine.specs.Described.{machine_of}
-use Rattle.rules.specs.declared.Verdict.{Verdict}
-use Rattle.rules.specs.declared.Verdict.TheVariants as verdict
+use Rattle.rules.specs.declared.Refusal.{Refusal}
+use Rattle.rules.specs.Refusal.{refused}
 use Rattle.rules.specs.Decoded.{decoded}
 use Rattle.rules.specs.Verdict.{verdict as verdict_of}
 use Rattle.recording.specs.Rows.{is_given, logged, is_step_row, is_value_row}
 use Rattle.recording.specs.Lines.{lines}
 use Rattle.recording.specs.Faults.{no_fault, log_fault, step_fault}
-use Rattle.recording.specs.declared.Replay.{Replay}
-use Rattle.recording.specs.declared.Replay.TheVariants.{Steps, Refused}
 
 -- The values at hand, by identifier: those that formulas read at present, constants, variables and parameters, and the after values of variables.
 pub record Values : Type 0 where
@@ -56,31 +54,31 @@ module _ (t : Rows) where
   moved vs = move (machine_of t).concrete_variables vs
 
   -- the step of the event e whose row 90 is row i, by what its rows hold, and what follows where it is allowed
-  abbrev pub judged : ℕ → ℕ → Found → (List Line → Values → Replay) → Replay
-  judged i e (bad j) next = Refused log_fault j
+  abbrev pub judged : ℕ → ℕ → Found → (List Line → Values → Result ℕ Refusal) → Result ℕ Refusal
+  judged i e (bad j) next = Err (refused log_fault j)
   judged i e (found vs ls) next =
       let fault = step_fault t e vs.present vs.after in
-      pick (eqb fault no_fault) (next ls (moved vs)) (Refused fault i)
+      pick (eqb fault no_fault) (next ls (moved vs)) (Err (refused fault i))
 
   -- After n steps, the initialisation among them, the next row being row i: at most so many steps more. "A step's rows come first", then its judgement, then the next
   -- step's rows.
-  unfoldable pub replay_from : ℕ → ℕ → ℕ → List Line → Values → Replay
-  replay_from zero n i ls vs = Refused log_fault 0
-  replay_from (suc most) n i [] vs = pick (eqb n 0) (Refused log_fault 0) (Steps (n - 1))
-  replay_from (suc most) n i (Malformed ∷ ls) vs = Refused log_fault i
+  unfoldable pub replay_from : ℕ → ℕ → ℕ → List Line → Values → Result ℕ Refusal
+  replay_from zero n i ls vs = Err (refused log_fault 0)
+  replay_from (suc most) n i [] vs = pick (eqb n 0) (Err (refused log_fault 0)) (Ok (n - 1))
+  replay_from (suc most) n i (Malformed ∷ ls) vs = Err (refused log_fault i)
   replay_from (suc most) n i (Whole r ∷ ls) vs =
       let e = r.a in
       pick (is_step_row t (eqb n 0) r)
       (judged i e (read_values e (logged t e) (i + 1) ls vs) (λ rest ws. replay_from most (n + 1) (i + 1 + length (logged t e)) rest ws))
-      (Refused log_fault i)
+      (Err (refused log_fault i))
 
-  unfoldable pub replay_log : List ℕ → Replay
+  unfoldable pub replay_log : List ℕ → Result ℕ Refusal
   replay_log run = replay_from (suc (length (lines run))) 0 1 (lines run) no_values
 
 -- "After the table's checks"
-abbrev pub replay_by : Verdict → Replay → Replay
-replay_by (verdict.Accepted count) r = r
-replay_by (verdict.Refused number row) r = Refused number row
+abbrev pub replay_by : Result ℕ Refusal → Result ℕ Refusal → Result ℕ Refusal
+replay_by (Ok count) r = r
+replay_by (Err refusal) r = Err refusal
 
-unfoldable pub replay : List ℕ → List ℕ → Replay
+unfoldable pub replay : List ℕ → List ℕ → Result ℕ Refusal
 replay table run = replay_by (verdict_of table) (replay_log (decoded table) run)

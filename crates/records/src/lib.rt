@@ -5,8 +5,9 @@ ghost use Rattle.std.specs.Prelude.{◌≡◌, ◌<◌, length, get_or, set};
 ghost use Rattle.bench.specs.Press.{press as press_of, preview as preview_of};
 ghost use Rattle.records.specs.Numbers.{few_of, no_record, no_numbers, with_record, loaded, record_at, stored, pressed_of, previewed_of};
 
-use bench::{Press, Record};
+use bench::Record;
 use press::{press_numbers, preview_numbers};
+use rules::Refusal;
 use table::Table;
 
 // Record i.
@@ -113,7 +114,7 @@ pub fn store_state(state: &mut [Record], all: Numbers)
 #[derive(Clone, Copy)]
 pub struct Done {
     pub numbers: Numbers,
-    pub reply: Press,
+    pub reply: Result<(), Refusal>,
 }
 
 // What pressing makes of the numbers of n records.
@@ -151,7 +152,7 @@ fn previewed(table: &[u8], step: &[u8], first: Numbers, n: usize, second: Number
 }
 
 // press: "performs one concrete step and updates the variables' records".
-pub fn press(table: &[u8], step: &[u8], state: &mut [Record]) -> Press
+pub fn press(table: &[u8], step: &[u8], state: &mut [Record]) -> Result<(), Refusal>
     ensures { (result ≡ (press_of table.now step.now state.old).reply) × (state.new ≡ (press_of table.now step.now state.old).state) }
 {
     let all = load_state(state);
@@ -162,7 +163,12 @@ pub fn press(table: &[u8], step: &[u8], state: &mut [Record]) -> Press
 }
 
 // preview: "writes into a second lent list what pressing would make of the first, which keeps its records".
-pub fn preview(table: &[u8], step: &[u8], first: &[Record], second: &mut [Record]) -> Press
+pub fn preview(
+    table: &[u8],
+    step: &[u8],
+    first: &[Record],
+    second: &mut [Record],
+) -> Result<(), Refusal>
     ensures { (result ≡ (preview_of table.now step.now first.now second.old).reply) × (second.new ≡ (preview_of table.now step.now first.now second.old).second) }
 {
     let from = load_state(first);

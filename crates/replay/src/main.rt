@@ -15,10 +15,9 @@ ghost use Rattle.replay.specs.Reply.{reply_row};
 use failure::Failure;
 use input::read_full;
 use nodes::fill_notes;
-use recording::Replay;
 use reply::tags;
 use row::Row;
-use rules::Verdict;
+use rules::Refusal;
 use scan::Span;
 use std::fs::File;
 use std::io::Read;
@@ -27,33 +26,33 @@ use std::rt::{Env, Files};
 use std::{env, io};
 use steps::{Part, replay_part};
 use table::Table;
-use verdict::{Loaded, judge_with, load};
+use verdict::{judge_with, load};
 
 // 92 (steps, 0, 0)
 const REPLAYED: u64 = 92;
 
 // The row that tells a reply.
-fn reply_row(reply: Replay) -> Row
+fn reply_row(reply: Result<u64, Refusal>) -> Row
     ensures { result ≡ reply_row reply }
 {
     match reply {
-        Replay::Steps(steps) => Row {
+        Ok(steps) => Row {
             tag: REPLAYED,
             a: steps,
             b: 0,
             c: 0,
         },
-        Replay::Refused(number, row) => Row {
+        Err(refusal) => Row {
             tag: tags::REFUSAL,
-            a: number,
-            b: row,
+            a: refusal.number,
+            b: refusal.row,
             c: 0,
         },
     }
 }
 
 // Prints a reply.
-fn print(rt: &impl Print, reply: Replay) -> Result<(), Failure> {
+fn print(rt: &impl Print, reply: Result<u64, Refusal>) -> Result<(), Failure> {
     let row = reply_row(reply);
     if (Row::GREATEST < row.a) | (Row::GREATEST < row.b) {
         return Err(Failure::TooLong);
@@ -113,8 +112,8 @@ fn replay_parts<R: Read>(
                 before += (next.at / Row::LENGTH) as u64;
                 held = keep_rest(window, held, next.at);
             }
-            Part::Ended(steps) => return print(rt, Replay::Steps(steps)),
-            Part::Refused(number, row) => return print(rt, Replay::Refused(number, row)),
+            Part::Ended(steps) => return print(rt, Ok(steps)),
+            Part::Refused(number, row) => return print(rt, Err(Refusal { number, row })),
         }
         parts += 1;
     }
@@ -157,8 +156,8 @@ fn replay_judged<R: Read>(
     requires { (table ≡ counts_of (rows_of words.now)) × Noted (rows_of words.now) spans.now × (length words.now ≤ most_words) }
 {
     match judge_with(words, table, spans) {
-        Verdict::Refused(number, row) => print(rt, Replay::Refused(number, row)),
-        Verdict::Accepted(count) => replay_log(rt, words, table, spans, log),
+        Err(refusal) => print(rt, Err(refusal)),
+        Ok(_) => replay_log(rt, words, table, spans, log),
     }
 }
 
@@ -176,8 +175,8 @@ fn replay_rows<R: Read>(rt: &impl Print, words: &[u64], log: &mut R) -> Result<(
 fn replay_table<R: Read>(rt: &impl Print, bytes: &[u8], log: &mut R) -> Result<(), Failure> {
     let mut words = [0u64; Table::WORDS];
     match load(bytes, &mut words) {
-        Loaded::Refused(number, row) => print(rt, Replay::Refused(number, row)),
-        Loaded::Words(n) => replay_rows(rt, &words[..n], log),
+        Err(refusal) => print(rt, Err(refusal)),
+        Ok(n) => replay_rows(rt, &words[..n], log),
     }
 }
 

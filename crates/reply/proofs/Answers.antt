@@ -10,6 +10,7 @@ use borrow.Author.Tests.{ltb-true, ltb-false, lt-ltb}
 use lib.Dec.{leb, ltb, leb→le, le→leb}
 use lib.ListN.{length, get_or, drop}
 use lib.Seq.{get_or-append-add, get_or-drop}
+use Rattle.std.specs.Prelude.{Result, Ok, Err}
 use Rattle.lists.specs.All.{All}
 use Rattle.lists.specs.Choice.{pick}
 use Rattle.lists.specs.Over.{over}
@@ -21,13 +22,12 @@ use Rattle.row.specs.declared.Read.TheVariants as read
 use Rattle.row.specs.Row.{greatest, width, row_length, Writable}
 use Rattle.row.specs.Reading.{read_at}
 use Rattle.sequent.specs.Sequent.{Sequent}
-use Rattle.rules.specs.declared.Verdict.{Verdict}
-use Rattle.rules.specs.declared.Verdict.TheVariants as verdict
+use Rattle.rules.specs.declared.Refusal as rules
+use Rattle.rules.specs.Refusal.{refused as refusal_of}
 use Rattle.rules.specs.Decoded.{row_count}
 use Rattle.rules.specs.Verdict.{verdict as verdict_of}
 use Rattle.rules.specs.Offence.{machine}
 use Rattle.rules.proofs.Refused.{refused_number, refused_inside, refused_row}
-use Rattle.reply.specs.declared.Reply.TheVariants as reply
 use Rattle.reply.specs.Printed.{rows_bytes}
 use Rattle.reply.specs.Replies.{Outcome, refused, write_rows, among, entries, with_sequent, write_by, spell_at, spell_by, write_sequent, spell_entry}
 use Rattle.reply.specs.Answers.{Call, writing, spelling, asked, OneOf, sequent_asked, EntryThere, rows_asked, outcome_of}
@@ -55,22 +55,22 @@ not_among k n h = go (among k n) refl
 
 module _ (bytes : List ℕ) where
   -- enough room, or refusal 15
-  rows_answered : (q : Call) (out : List ℕ) (n : ℕ) → verdict_of bytes ≡ verdict.Accepted n → OneOf n (asked q) → EntryThere bytes q
+  rows_answered : (q : Call) (out : List ℕ) (n : ℕ) → verdict_of bytes ≡ Ok n → OneOf n (asked q) → EntryThere bytes q
       → Answer bytes q out (write_rows (rows_asked bytes q) out)
   unfolding write_rows
   rows_answered q out n v h e = go (ltb (length out) (length (rows_bytes (rows_asked bytes q)))) refl
     where
       go : (b : Bool) → ltb (length out) (length (rows_bytes (rows_asked bytes q))) ≡ b
-          → Answer bytes q out (pick b (refused 15 0 out) (record { reply = reply.Written (length (rows_asked bytes q)); buffer = over (rows_bytes (rows_asked bytes q)) out }))
+          → Answer bytes q out (pick b (refused 15 0 out) (record { reply = Ok (length (rows_asked bytes q)); buffer = over (rows_bytes (rows_asked bytes q)) out }))
       go true p = refusal (no_room n v h e (ltb-true _ _ p))
       go false p = success n v h e (ltb-false _ _ p)
 
   -- the refusals of the table, then 13
   sequent_answered : (q : Call) (out : List ℕ) (f : Sequent → Outcome)
-      → ((n : ℕ) → verdict_of bytes ≡ verdict.Accepted n → OneOf n (asked q) → Answer bytes q out (f (sequent_asked bytes q)))
-      → (v : Verdict) → verdict_of bytes ≡ v → Answer bytes q out (with_sequent (machine bytes) v (asked q) out f)
-  sequent_answered q out f g (verdict.Refused c r) e = refusal (of_table e)
-  sequent_answered q out f g (verdict.Accepted n) e = go (among (asked q) n) refl
+      → ((n : ℕ) → verdict_of bytes ≡ Ok n → OneOf n (asked q) → Answer bytes q out (f (sequent_asked bytes q)))
+      → (v : Result ℕ rules.Refusal) → verdict_of bytes ≡ v → Answer bytes q out (with_sequent (machine bytes) v (asked q) out f)
+  sequent_answered q out f g (Err r) e = refusal (of_table e)
+  sequent_answered q out f g (Ok n) e = go (among (asked q) n) refl
     where
       go : (b : Bool) → among (asked q) n ≡ b → Answer bytes q out (pick b (f (sequent_asked bytes q)) (refused 13 0 out))
       go true p = g n e (among_one (asked q) n p)
@@ -87,7 +87,7 @@ module _ (bytes : List ℕ) where
       count : ℕ
       count = length (entries (sequent_asked bytes q))
 
-      entry : (n : ℕ) → verdict_of bytes ≡ verdict.Accepted n → OneOf n k → Answer bytes q out (spell_at (machine bytes) (sequent_asked bytes q) j out)
+      entry : (n : ℕ) → verdict_of bytes ≡ Ok n → OneOf n k → Answer bytes q out (spell_at (machine bytes) (sequent_asked bytes q) j out)
       entry n v h = go (among j count) refl
         where
           go : (b : Bool) → among j count ≡ b → Answer bytes q out (pick b (write_rows (rows_asked bytes q) out) (refused 14 0 out))
@@ -112,7 +112,7 @@ module _ (bytes : List ℕ) where
       ap (λ v. spell_by (machine bytes) v k j out) e ∙ chosen (among k n) _ _ (one_among k n h) ∙ chosen (among j _) _ _ (one_among j _ f)
       ∙ chosen (ltb (length out) _) _ _ (lt-ltb (length out) _ l)
 
-  rows_writable : (q : Call) (n : ℕ) → verdict_of bytes ≡ verdict.Accepted n → OneOf n (asked q) → EntryThere bytes q
+  rows_writable : (q : Call) (n : ℕ) → verdict_of bytes ≡ Ok n → OneOf n (asked q) → EntryThere bytes q
       → All (Writable greatest width) (rows_asked bytes q)
   rows_writable (writing k) n v h e = sequent_rows_writable bytes n v (sequent_listed bytes n k v h.0 h.1).member
   rows_writable (spelling k j) n v h e =
@@ -120,22 +120,21 @@ module _ (bytes : List ℕ) where
 
 -- what an answer says of the reply and of the buffer
 module _ {bytes : List ℕ} {q : Call} {out : List ℕ} where
-  answer_refused : {o : Outcome} → Answer bytes q out o → (c r : ℕ) → o.reply ≡ reply.Refused c r → Refusal bytes q out c r × (o.buffer ≡ out)
+  answer_refused : {o : Outcome} → Answer bytes q out o → (c r : ℕ) → o.reply ≡ Err (refusal_of c r) → Refusal bytes q out c r × (o.buffer ≡ out)
   answer_refused (refusal {c = a} {r = b} h) c r e =
-      let ec : a ≡ c = cc in
-      let er : b ≡ r = cc in
-      (subst (λ x. Refusal bytes q out x r) ec (subst (Refusal bytes q out a) er h), refl)
+      let same : refusal_of a b ≡ refusal_of c r = cc in
+      (subst (λ x. Refusal bytes q out x.number x.row) same h, refl)
   answer_refused (success n v h e l) c r p = absurd (let z : ◌≡◌ {A = ℕ} 0 1 = cc in omega arith)
 
   answer_length : {o : Outcome} → Answer bytes q out o → length o.buffer ≡ length out
   answer_length (refusal h) = refl
   answer_length (success n v h e l) = over_length (rows_bytes (rows_asked bytes q)) out l
 
-  answer_count : {o : Outcome} → Answer bytes q out o → (n : ℕ) → o.reply ≡ reply.Written n → n ≡ length (rows_asked bytes q)
+  answer_count : {o : Outcome} → Answer bytes q out o → (n : ℕ) → o.reply ≡ Ok n → n ≡ length (rows_asked bytes q)
   answer_count (refusal h) n p = absurd (let z : ◌≡◌ {A = ℕ} 0 1 = cc in omega arith)
   answer_count (success m v h e l) n p = cc
 
-  answer_rest : {o : Outcome} → Answer bytes q out o → (n : ℕ) → o.reply ≡ reply.Written n → (i : ℕ) → row_length width * n ≤ i
+  answer_rest : {o : Outcome} → Answer bytes q out o → (n : ℕ) → o.reply ≡ Ok n → (i : ℕ) → row_length width * n ≤ i
       → get_or o.buffer i 0 ≡ get_or out i 0
   unfolding over
   answer_rest (refusal h) n p i l = refl
@@ -148,7 +147,7 @@ module _ {bytes : List ℕ} {q : Call} {out : List ℕ} where
       ∙ get_or-drop (length (rows_bytes rows)) out (i - length (rows_bytes rows)) 0
       ∙ ap (λ x. get_or out x 0) (sym at)
 
-  answer_reads : {o : Outcome} → Answer bytes q out o → (n : ℕ) → o.reply ≡ reply.Written n → (d : Row) (i : ℕ) → i < n
+  answer_reads : {o : Outcome} → Answer bytes q out o → (n : ℕ) → o.reply ≡ Ok n → (d : Row) (i : ℕ) → i < n
       → read_at greatest width o.buffer (row_length width * i) ≡ read.Next (get_or (rows_asked bytes q) i d) (record { at = row_length width * i + row_length width })
   unfolding over
   answer_reads (refusal h) n p d i l = absurd (let z : ◌≡◌ {A = ℕ} 0 1 = cc in omega arith)
@@ -159,26 +158,26 @@ module _ {bytes : List ℕ} {q : Call} {out : List ℕ} where
 
 module _ (bytes : List ℕ) (q : Call) (out : List ℕ) where
   -- refused iff the table of refusals says so; no number is returned in another case
-  pub refused_exactly : (c r : ℕ) → ((outcome_of bytes q out).reply ≡ reply.Refused c r) ↔ Refusal bytes q out c r
+  pub refused_exactly : (c r : ℕ) → ((outcome_of bytes q out).reply ≡ Err (refusal_of c r)) ↔ Refusal bytes q out c r
   refused_exactly c r = (λ e. (answer_refused (answered bytes q out) c r e).0, λ h. ap (λ o. o.reply) (refused_as bytes q out h))
 
   -- "Nothing is written on a refusal"
-  pub refused_buffer : (c r : ℕ) → (outcome_of bytes q out).reply ≡ reply.Refused c r → (outcome_of bytes q out).buffer ≡ out
+  pub refused_buffer : (c r : ℕ) → (outcome_of bytes q out).reply ≡ Err (refusal_of c r) → (outcome_of bytes q out).buffer ≡ out
   refused_buffer c r e = (answer_refused (answered bytes q out) c r e).1
 
   -- the buffer keeps its length, and on success every byte past the written rows
   pub buffer_length : length (outcome_of bytes q out).buffer ≡ length out
   buffer_length = answer_length (answered bytes q out)
 
-  pub written_count : (n : ℕ) → (outcome_of bytes q out).reply ≡ reply.Written n → n ≡ length (rows_asked bytes q)
+  pub written_count : (n : ℕ) → (outcome_of bytes q out).reply ≡ Ok n → n ≡ length (rows_asked bytes q)
   written_count n e = answer_count (answered bytes q out) n e
 
-  pub bytes_past : (n : ℕ) → (outcome_of bytes q out).reply ≡ reply.Written n → (i : ℕ) → row_length width * n ≤ i
+  pub bytes_past : (n : ℕ) → (outcome_of bytes q out).reply ≡ Ok n → (i : ℕ) → row_length width * n ≤ i
       → get_or (outcome_of bytes q out).buffer i 0 ≡ get_or out i 0
   bytes_past n e i h = answer_rest (answered bytes q out) n e i h
 
   -- the written rows, read from the buffer
-  pub buffer_reads : (n : ℕ) → (outcome_of bytes q out).reply ≡ reply.Written n → (d : Row) (i : ℕ) → i < n
+  pub buffer_reads : (n : ℕ) → (outcome_of bytes q out).reply ≡ Ok n → (d : Row) (i : ℕ) → i < n
       → read_at greatest width (outcome_of bytes q out).buffer (row_length width * i)
       ≡ read.Next (get_or (rows_asked bytes q) i d) (record { at = row_length width * i + row_length width })
   buffer_reads n e d i h = answer_reads (answered bytes q out) n e d i h

@@ -6,12 +6,12 @@ use mathlib.Core.List.{List, [], ◌∷◌}
 use native.Mathlib.Omega.{arith}
 use native.Mathlib.Nat.{not-suc-le-zero}
 use lib.ListN.{length, get_or}
+use Rattle.std.specs.Prelude.{Ok}
 use Rattle.lists.specs.All.{In}
 use Rattle.lists.proofs.Distinct.{in_place}
 use Rattle.sequent.specs.Entry.{written}
 use Rattle.sequent.specs.Sequent.{Sequent}
 use Rattle.sequent.specs.Listed.{sequents}
-use Rattle.rules.specs.declared.Verdict.TheVariants.{Accepted}
 use Rattle.rules.specs.Verdict.{verdict}
 use Rattle.rules.specs.Offence.{machine}
 use Rattle.rules.proofs.Accepted.{accepted_none}
@@ -30,7 +30,7 @@ place_same (x ∷ xs) d e (suc i) h = place_same xs d e i (omega arith)
 kth : {A : Type 0} (xs : List A) (d : A) (k : ℕ) → 1 ≤ k → k ≤ length xs → KthOf xs k (get_or xs (k - 1) d)
 kth xs d k l h = record { member = in_place xs d (k - 1) (omega arith); whatever = λ e. place_same xs e d (k - 1) (omega arith) }
 
-pub sequent_listed : (bytes : List ℕ) (n k : ℕ) → verdict bytes ≡ Accepted n → 1 ≤ k → k ≤ n
+pub sequent_listed : (bytes : List ℕ) (n k : ℕ) → verdict bytes ≡ Ok n → 1 ≤ k → k ≤ n
     → KthOf (sequents (machine bytes)) k (sequent_at (sequents (machine bytes)) k)
 sequent_listed bytes n k v l h = kth (sequents (machine bytes)) _ k l (omega (arith, (accepted_none bytes n v).1))
 

@@ -8,6 +8,7 @@ use native.Mathlib.Omega.{arith}
 use lib.Dec.{leb, ltb}
 use lib.ListN.{length, get_or, drop_of_length-le}
 use borrow.Author.Tests.{le-leb, le-ltb}
+use Rattle.std.specs.Prelude.{Ok, Err}
 use Rattle.lists.specs.Below.{numbers}
 use Rattle.lists.specs.Over.{over}
 use Rattle.lists.proofs.Below.{in_numbers}
@@ -17,11 +18,10 @@ use Rattle.row.specs.Row.{row_bytes, width}
 use Rattle.machine.specs.Machine.{Machine}
 use Rattle.sequent.specs.Sequent.{Sequent}
 use Rattle.sequent.specs.Listed.{sequents}
-use Rattle.rules.specs.declared.Verdict.TheVariants.{Accepted, Refused}
+use Rattle.rules.specs.Refusal.{refused}
 use Rattle.rules.specs.Verdict.{verdict}
 use Rattle.rules.specs.Offence.{machine}
 use Rattle.rules.proofs.Accepted.{accepted_none}
-use Rattle.reply.specs.declared.Reply.TheVariants as reply
 use Rattle.reply.specs.Row.{row}
 use Rattle.reply.specs.Printed.{sequent_rows, rows_bytes}
 use Rattle.reply.specs.Replies.{among, sequent_at, sequent_bytes, write_by, write_rows, printed, write_sequent, output}
@@ -51,11 +51,11 @@ rows_numbered m ss =
 
 module _ (bytes : List ℕ) where
   -- "or one row 89 (refusal, row, 0)"
-  pub output_refused : (number at : ℕ) → verdict bytes ≡ Refused number at → output bytes ≡ row_bytes width (row 89 number at 0)
+  pub output_refused : (number at : ℕ) → verdict bytes ≡ Err (refused number at) → output bytes ≡ row_bytes width (row 89 number at 0)
   unfolding output
   output_refused number at e = ap (printed (machine bytes)) e
 
-  module _ (n : ℕ) (accepted : verdict bytes ≡ Accepted n) where
+  module _ (n : ℕ) (accepted : verdict bytes ≡ Ok n) where
     -- "prints all sequents"
     pub output_accepted : output bytes ≡ flat_map (sequent_bytes (machine bytes)) (numbers n 1)
     unfolding output
@@ -66,7 +66,7 @@ module _ (bytes : List ℕ) where
 
     -- each as write sequent writes it
     pub sequent_written : (k : ℕ) (out : List ℕ) → 1 ≤ k → k ≤ n → length (sequent_bytes (machine bytes) k) ≤ length out
-        → write_sequent bytes k out ≡ record { reply = reply.Written (length (sequent_rows (machine bytes) (sequent_at (sequents (machine bytes)) k))); buffer = over (sequent_bytes (machine bytes) k) out }
+        → write_sequent bytes k out ≡ record { reply = Ok (length (sequent_rows (machine bytes) (sequent_at (sequents (machine bytes)) k))); buffer = over (sequent_bytes (machine bytes) k) out }
     unfolding write_sequent write_rows
     sequent_written k out low high room =
         ap (λ v. write_by (machine bytes) v k out) accepted

@@ -9,6 +9,7 @@ use borrow.Author.Tests.{lt-ltb, le-ltb}
 use lib.Dec.{ltb}
 use lib.ListN.{length, get_or, take, drop, length-append}
 use lib.Seq.{take_at, drop_at, drop-drop, ext_get_or}
+use Rattle.std.specs.Prelude.{Result, Ok, Err}
 use Rattle.lists.specs.All.{All, all_nil, all_cons, In}
 use Rattle.lists.proofs.All.{all_at}
 use Rattle.lists.proofs.Choice.{chosen, not_chosen}
@@ -22,8 +23,7 @@ use Rattle.machine.specs.Machine.{Machine}
 use Rattle.sequent.specs.Entry.{Entry, formula}
 use Rattle.sequent.specs.Sequent.{Sequent}
 use Rattle.sequent.specs.Listed.{sequents}
-use Rattle.rules.specs.declared.Verdict.{Verdict}
-use Rattle.rules.specs.declared.Verdict.TheVariants as verdict
+use Rattle.rules.specs.declared.Refusal.{Refusal}
 use Rattle.rules.specs.Verdict.{verdict as verdict_of}
 use Rattle.rules.specs.Offence.{machine}
 use Rattle.reply.specs.Row.{row}
@@ -84,22 +84,22 @@ rows_once rs ss w v e = ext_get_or d rs ss size same
         cc
 
 -- the rows that the program prints, by the verdict
-abbrev pub printed_rows : Machine → Verdict → List Row
-printed_rows m (verdict.Refused number at) = row 89 number at 0 ∷ []
-printed_rows m (verdict.Accepted n) = flat_map (sequent_rows m) (sequents m)
+abbrev pub printed_rows : Machine → Result ℕ Refusal → List Row
+printed_rows m (Err r) = row 89 r.number r.row 0 ∷ []
+printed_rows m (Ok n) = flat_map (sequent_rows m) (sequents m)
 
 module _ (bytes : List ℕ) where
   abbrev pub output_rows : List Row
   output_rows = printed_rows (machine bytes) (verdict_of bytes)
 
-  printed_rows_lem : (v : Verdict) → printed (machine bytes) v ≡ rows_bytes (printed_rows (machine bytes) v)
+  printed_rows_lem : (v : Result ℕ Refusal) → printed (machine bytes) v ≡ rows_bytes (printed_rows (machine bytes) v)
   unfolding rows_bytes flat_map
-  printed_rows_lem (verdict.Refused number at) = sym (append-nil (row_bytes width (row 89 number at 0)))
-  printed_rows_lem (verdict.Accepted n) = refl
+  printed_rows_lem (Err r) = sym (append-nil (row_bytes width (row 89 r.number r.row 0)))
+  printed_rows_lem (Ok n) = refl
 
-  printed_writable : (v : Verdict) → verdict_of bytes ≡ v → All (Writable greatest width) (printed_rows (machine bytes) v)
-  printed_writable (verdict.Refused number at) e = all_cons (refusal_row_writable bytes number at e) all_nil
-  printed_writable (verdict.Accepted n) e = list_rows_writable bytes n e
+  printed_writable : (v : Result ℕ Refusal) → verdict_of bytes ≡ v → All (Writable greatest width) (printed_rows (machine bytes) v)
+  printed_writable (Err r) e = all_cons (refusal_row_writable bytes r.number r.row e) all_nil
+  printed_writable (Ok n) e = list_rows_writable bytes n e
 
   pub output_rows_lem : output bytes ≡ rows_bytes output_rows
   unfolding output
@@ -116,7 +116,7 @@ module _ (bytes : List ℕ) where
   output_ends = ap (λ bs. read_at greatest width bs (row_length width * length output_rows)) output_rows_lem ∙ rows_end output_rows
 
   -- two entries of an accepted table's sequents that are spelled with the same bytes have the same formula
-  pub entry_bytes_once : (n : ℕ) → verdict_of bytes ≡ verdict.Accepted n → {s t : Sequent} → In s (sequents (machine bytes)) → In t (sequents (machine bytes))
+  pub entry_bytes_once : (n : ℕ) → verdict_of bytes ≡ Ok n → {s t : Sequent} → In s (sequents (machine bytes)) → In t (sequents (machine bytes))
       → {h g : Entry} → In h (entries s) → In g (entries t)
       → rows_bytes (spell (formula (machine bytes) h)) ≡ rows_bytes (spell (formula (machine bytes) g)) → formula (machine bytes) h ≡ formula (machine bytes) g
   entry_bytes_once n v i j {h} {g} k l e =

@@ -6,6 +6,7 @@ use mathlib.Core.Bool.{Bool, true, false}
 use mathlib.Core.List.{List, [], ◌∷◌, ◌++◌, flat_map}
 use native.Mathlib.Omega.{arith}
 use lib.Dec.{T}
+use Rattle.std.specs.Prelude.{Ok, Err}
 use Rattle.lists.specs.All.{All, all_nil, all_cons, In}
 use Rattle.lists.specs.Choice.{pick}
 use Rattle.lists.proofs.All.{all_head, all_tail, all_left, all_right, all_join, all_at, all_in, all_imp, all_map, all_flat}
@@ -28,7 +29,7 @@ use Rattle.sequent.specs.Entry.{Entry, written, primed, defined, moves, feasible
 use Rattle.sequent.specs.Numbers.{numbers_of}
 use Rattle.sequent.specs.Sequent.{Sequent}
 use Rattle.sequent.specs.Listed.{sequents}
-use Rattle.rules.specs.declared.Verdict.TheVariants as verdict
+use Rattle.rules.specs.Refusal.{refused}
 use Rattle.rules.specs.Decoded.{decoded}
 use Rattle.rules.specs.Verdict.{verdict as verdict_of}
 use Rattle.rules.specs.Offence.{machine}
@@ -247,7 +248,7 @@ module _ (m : Machine) (trees : (n : ℕ) → TreeWritable (m.tree n)) where
   formula_writable (not_increased r) k = two_writable 22 (omega arith) (after_writable (variable m) (m.tree r) (trees r)) (trees r)
   formula_writable (unchanged x) k = action_writable unassigned x k.0
 
-module _ (bytes : List ℕ) (n : ℕ) (v : verdict_of bytes ≡ verdict.Accepted n) where
+module _ (bytes : List ℕ) (n : ℕ) (v : verdict_of bytes ≡ Ok n) where
   rows_ranged : RangedRows (decoded bytes)
   rows_ranged = framed_ranged bytes (accepted_framed bytes (accepted_none bytes n v).0)
 
@@ -274,7 +275,7 @@ module _ (bytes : List ℕ) (n : ℕ) (v : verdict_of bytes ≡ verdict.Accepted
   list_rows_writable = all_flat (sequent_rows (machine bytes)) (all_in (sequents (machine bytes)) (λ s i. sequent_rows_writable i))
 
 -- the row of a refusal
-pub refusal_row_writable : (bytes : List ℕ) (c r : ℕ) → verdict_of bytes ≡ verdict.Refused c r → Writable greatest width (row 89 c r 0)
+pub refusal_row_writable : (bytes : List ℕ) (c r : ℕ) → verdict_of bytes ≡ Err (refused c r) → Writable greatest width (row 89 c r 0)
 unfolding rest_of
 refusal_row_writable bytes c r v =
     row_writable 89 c r 0 (omega arith) refl (small_ranged c (omega (arith, (refused_number bytes c r v).1))) (small_ranged r (omega (arith, refused_few bytes c r v)))

@@ -1,15 +1,14 @@
 -- 01, Refusals, of the services besides check: when a call is refused and with what, and what a success leaves in the buffer. A relation; that the services
 -- answer by it is a law.
-use Rattle.std.specs.Prelude.{ℕ, ◌-◌, ◌≤◌, ◌<◌, ◌≡◌, List, length, get_or}
+use Rattle.std.specs.Prelude.{ℕ, ◌-◌, ◌≤◌, ◌<◌, ◌≡◌, List, length, get_or, Ok, Err}
 use Rattle.lists.specs.Over.{over}
 use Rattle.row.specs.declared.Row.{Row}
 use Rattle.sequent.specs.Entry.{written, formula}
 use Rattle.sequent.specs.Sequent.{Sequent}
 use Rattle.sequent.specs.Listed.{sequents}
-use Rattle.rules.specs.declared.Verdict.TheVariants as verdict
+use Rattle.rules.specs.Refusal.{refused as refusal_of}
 use Rattle.rules.specs.Verdict.{verdict as verdict_of}
 use Rattle.rules.specs.Offence.{machine}
-use Rattle.reply.specs.declared.Reply.TheVariants as reply
 use Rattle.reply.specs.Printed.{sequent_rows, rows_bytes}
 use Rattle.reply.specs.Spelled.{spell}
 use Rattle.reply.specs.Replies.{Outcome, refused, sequent_at, entries, write_sequent, spell_entry}
@@ -47,17 +46,17 @@ module _ (bytes : List ℕ) where
 -- 01, Refusals: when a call is refused, with which number and row
 pub data Refusal (bytes : List ℕ) (q : Call) (out : List ℕ) : ℕ → ℕ → Type 0 where
   -- 1 to 12: the table is refused
-  of_table : {c r : ℕ} → verdict_of bytes ≡ verdict.Refused c r → Refusal bytes q out c r
+  of_table : {c r : ℕ} → verdict_of bytes ≡ Err (refusal_of c r) → Refusal bytes q out c r
   -- 13 sequent: "k not in 1 to the count; row 0"
-  no_sequent_there : (n : ℕ) → verdict_of bytes ≡ verdict.Accepted n → ¬ OneOf n (asked q) → Refusal bytes q out 13 0
+  no_sequent_there : (n : ℕ) → verdict_of bytes ≡ Ok n → ¬ OneOf n (asked q) → Refusal bytes q out 13 0
   -- 14 entry: "j not in 1 to the entries; row 0"
-  no_entry : (n : ℕ) → verdict_of bytes ≡ verdict.Accepted n → OneOf n (asked q) → ¬ EntryThere bytes q → Refusal bytes q out 14 0
+  no_entry : (n : ℕ) → verdict_of bytes ≡ Ok n → OneOf n (asked q) → ¬ EntryThere bytes q → Refusal bytes q out 14 0
   -- 15 room: "buffer shorter than the rows; row 0"
-  no_room : (n : ℕ) → verdict_of bytes ≡ verdict.Accepted n → OneOf n (asked q) → EntryThere bytes q → length out < length (rows_bytes (rows_asked bytes q))
+  no_room : (n : ℕ) → verdict_of bytes ≡ Ok n → OneOf n (asked q) → EntryThere bytes q → length out < length (rows_bytes (rows_asked bytes q))
       → Refusal bytes q out 15 0
 
 -- "Nothing is written on a refusal; on success bytes past the written rows keep their values."
 pub data Answer (bytes : List ℕ) (q : Call) (out : List ℕ) : Outcome → Type 0 where
   refusal : {c r : ℕ} → Refusal bytes q out c r → Answer bytes q out (refused c r out)
-  success : (n : ℕ) → verdict_of bytes ≡ verdict.Accepted n → OneOf n (asked q) → EntryThere bytes q → length (rows_bytes (rows_asked bytes q)) ≤ length out
-      → Answer bytes q out (record { reply = reply.Written (length (rows_asked bytes q)); buffer = over (rows_bytes (rows_asked bytes q)) out })
+  success : (n : ℕ) → verdict_of bytes ≡ Ok n → OneOf n (asked q) → EntryThere bytes q → length (rows_bytes (rows_asked bytes q)) ≤ length out
+      → Answer bytes q out (record { reply = Ok (length (rows_asked bytes q)); buffer = over (rows_bytes (rows_asked bytes q)) out })

@@ -9,10 +9,11 @@ use native.Mathlib.Omega.{arith}
 use native.Mathlib.Numerals.{add-one}
 use borrow.Author.Tests.{ltb-true, ltb-false, lt-ltb}
 use lib.Dec.{ltb}
+use Rattle.std.specs.Prelude.{Ok, Err}
 use Rattle.lists.specs.Below.{first}
 use Rattle.lists.proofs.First.{Least, first_least, least_at_most}
 use Rattle.table.specs.Rows.{Rows}
-use Rattle.rules.specs.declared.Verdict.TheVariants.{Accepted, Refused}
+use Rattle.rules.specs.Refusal.{refused}
 use Rattle.rules.specs.Decoded.{framed, row_count, line_of, not_row, decoded}
 use Rattle.rules.specs.Rules.{offends, missing}
 use Rattle.rules.specs.Verdict.{first_row, first_check, judge, verdict}
@@ -26,7 +27,7 @@ both_ways p q = true≢false (sym p ∙ q)
 module _ (bytes : List ℕ) where
   -- one or the other
   abbrev Found : Type 0
-  Found = ((c : ℕ) × (r : ℕ) × FirstOffence bytes c r × (verdict bytes ≡ Refused c r)) ⊎ (NoOffence bytes × (verdict bytes ≡ Accepted (sequent_count bytes)))
+  Found = ((c : ℕ) × (r : ℕ) × FirstOffence bytes c r × (verdict bytes ≡ Err (refused c r))) ⊎ (NoOffence bytes × (verdict bytes ≡ Ok (sequent_count bytes)))
 
   -- an offence of the check c' at the row r' comes no earlier than the check c at the row r
   abbrev NotBefore : ℕ → ℕ → ℕ → ℕ → Type 0
@@ -115,7 +116,7 @@ module _ (bytes : List ℕ) where
       go true p y q =
           let h : check < 12 = ltb-true check 12 p in
           let k : first_row t' check < t'.size = ltb-true (first_row t' check) t'.size (lc.passes (omega arith)) in
-          inl (check, suc (first_row t' check), first_row_lem f rows check (first_row t' check) lc h (of_row_of check) k, e ∙ judge_row t' h ∙ ap (Refused check) (add-one (first_row t' check)))
+          inl (check, suc (first_row t' check), first_row_lem f rows check (first_row t' check) lc h (of_row_of check) k, e ∙ judge_row t' h ∙ ap (λ r. Err (refused check r)) (add-one (first_row t' check)))
       go false p true q = let h = ltb-false check 12 p in inl (12, 0, first_lack f rows (none h) q, e ∙ judge_missing t' h q)
       go false p false q = let h = ltb-false check 12 p in inr (no_offence f rows (none h) q, e ∙ judge_accepted t' h q)
 
@@ -133,7 +134,7 @@ module _ (bytes : List ℕ) where
 
       go : (x : Bool) → framed bytes ≡ x → (y : Bool) → ltb k n ≡ y → Found
       go false f y q = inl (1, 0, first_frame f, verdict_frame bytes f)
-      go true f true q = let h = ltb-true k n q in inl (2, suc k, first_column f k lk h, verdict_column bytes f h ∙ ap (Refused 2) (add-one k))
+      go true f true q = let h = ltb-true k n q in inl (2, suc k, first_column f k lk h, verdict_column bytes f h ∙ ap (λ r. Err (refused 2 r)) (add-one k))
       go true f false q = let h = ltb-false k n q in judged f (λ i g. lk.before i (omega arith) (omega (arith, h))) (verdict_judge bytes f h)
 
   -- two first offences are one
@@ -146,39 +147,40 @@ module _ (bytes : List ℕ) where
       go (inr a) (inl b) = absurd (omega (arith, a.0))
       go (inr a) (inr b) = (a.0, omega (arith, a.1, b.1))
 
-  differ : (c r n : ℕ) → Refused c r ≡ Accepted n → ⊥
+  differ : (c r n : ℕ) → Err (refused c r) ≡ Ok n → ⊥
   differ c r n e = let z : ◌≡◌ {A = ℕ} 0 1 = cc in omega arith
 
   -- refused iff that is the least check with an offender, at its first row; so no number is returned in another case
-  pub refused_first : (c r : ℕ) → verdict bytes ≡ Refused c r → FirstOffence bytes c r
+  pub refused_first : (c r : ℕ) → verdict bytes ≡ Err (refused c r) → FirstOffence bytes c r
   refused_first c r v = go found
     where
       go : Found → FirstOffence bytes c r
       go (inl h) =
-          let ec : h.0 ≡ c = let q : Refused h.0 h.1 ≡ Refused c r = sym h.3 ∙ v in cc in
-          let er : h.1 ≡ r = let q : Refused h.0 h.1 ≡ Refused c r = sym h.3 ∙ v in cc in
+          let same : refused h.0 h.1 ≡ refused c r = (let q : Err (refused h.0 h.1) ≡ Err (refused c r) = sym h.3 ∙ v in cc) in
+          let ec : h.0 ≡ c = ap (λ x. x.number) same in
+          let er : h.1 ≡ r = ap (λ x. x.row) same in
           subst (λ x. FirstOffence bytes x r) ec (subst (λ y. FirstOffence bytes h.0 y) er h.2)
       go (inr h) = absurd (differ c r (sequent_count bytes) (sym v ∙ h.1))
 
-  pub first_refused : (c r : ℕ) → FirstOffence bytes c r → verdict bytes ≡ Refused c r
+  pub first_refused : (c r : ℕ) → FirstOffence bytes c r → verdict bytes ≡ Err (refused c r)
   first_refused c r g = go found
     where
-      go : Found → verdict bytes ≡ Refused c r
-      go (inl h) = let s = one_first h.0 h.1 c r h.2 g in h.3 ∙ ap (λ x. Refused x h.1) s.0 ∙ ap (Refused c) s.1
+      go : Found → verdict bytes ≡ Err (refused c r)
+      go (inl h) = let s = one_first h.0 h.1 c r h.2 g in h.3 ∙ ap (λ x. Err (refused x h.1)) s.0 ∙ ap (λ r. Err (refused c r)) s.1
       go (inr h) = absurd (h.0 c r g.offence)
 
   -- accepted iff nothing offends, and then with the count of the list
-  pub accepted_none : (n : ℕ) → verdict bytes ≡ Accepted n → NoOffence bytes × (n ≡ (sequent_count bytes))
+  pub accepted_none : (n : ℕ) → verdict bytes ≡ Ok n → NoOffence bytes × (n ≡ (sequent_count bytes))
   accepted_none n v = go found
     where
       go : Found → NoOffence bytes × (n ≡ (sequent_count bytes))
       go (inl h) = absurd (differ h.0 h.1 n (sym h.3 ∙ v))
-      go (inr h) = (h.0, let q : Accepted n ≡ Accepted (sequent_count bytes) = sym v ∙ h.1 in cc)
+      go (inr h) = (h.0, let q : Ok n ≡ Ok (sequent_count bytes) = sym v ∙ h.1 in cc)
 
-  pub none_accepted : NoOffence bytes → verdict bytes ≡ Accepted (sequent_count bytes)
+  pub none_accepted : NoOffence bytes → verdict bytes ≡ Ok (sequent_count bytes)
   none_accepted none = go found
     where
-      go : Found → verdict bytes ≡ Accepted (sequent_count bytes)
+      go : Found → verdict bytes ≡ Ok (sequent_count bytes)
       go (inl h) = absurd (none h.0 h.1 h.2.offence)
       go (inr h) = h.1
 

@@ -7,6 +7,7 @@ use mathlib.Core.List.{List, [], ◌∷◌, ◌++◌, map}
 use mathlib.Core.Logic.{inl, inr}
 use native.Mathlib.Omega.{arith}
 use lib.Dec.{T, eqb}
+use Rattle.std.specs.Prelude.{Ok}
 use Rattle.lists.specs.All.{All, all_nil, all_cons, In}
 use Rattle.lists.proofs.All.{all_join, all_imp, in_unmap}
 use Rattle.formula.proofs.Truth.{and_split}
@@ -27,7 +28,6 @@ use Rattle.sequent.specs.Listed.{sequents}
 use Rattle.sequent.proofs.Entries.{Root, axiom_root, abstract_invariant_root, concrete_invariant_root, variant_root, guard_root, action_root, root_of_witness}
 use Rattle.sequent.proofs.Entries.{EntryOf, of_written, of_primed, of_defined, of_moves, of_feasible, of_witnessed, of_natural, of_decreases, of_not_increased, of_unchanged}
 use Rattle.sequent.proofs.Entries.{action_root_has, witness_for, listed_made}
-use Rattle.rules.specs.declared.Verdict.TheVariants.{Accepted}
 use Rattle.rules.specs.Decoded.{decoded}
 use Rattle.rules.specs.Verdict.{verdict}
 use Rattle.rules.specs.Offence.{machine}
@@ -142,6 +142,6 @@ module _ (t : Rows) (ok : Obeys t) where
       let s = listed_made (machine_of t) i in all_join (all_imp entry_formed s.hypotheses) (all_cons (entry_formed _ s.goal) all_nil)
 
 -- for an accepted table no stand-in shows in a formula of a listed sequent
-pub accepted_formed : (bytes : List ℕ) (n : ℕ) → verdict bytes ≡ Accepted n → {s : Sequent} → In s (sequents (machine bytes))
+pub accepted_formed : (bytes : List ℕ) (n : ℕ) → verdict bytes ≡ Ok n → {s : Sequent} → In s (sequents (machine bytes))
     → All (EntryFormed (decoded bytes) (machine bytes)) (s.hypotheses ++ (s.goal ∷ []))
 accepted_formed bytes n v i = entries_formed (decoded bytes) (none_obeys bytes (accepted_none bytes n v).0) i

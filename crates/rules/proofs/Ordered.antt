@@ -5,6 +5,7 @@ use mathlib.Core.Path.{◌≡◌, subst}
 use mathlib.Core.List.{List}
 use mathlib.Core.Logic.{◌↔◌}
 use lib.ListN.{get_or}
+use Rattle.std.specs.Prelude.{Ok}
 use Rattle.lists.specs.All.{In}
 use Rattle.lists.specs.Pairwise.{Pairwise}
 use Rattle.sequent.specs.Sequent.{Sequent}
@@ -12,14 +13,13 @@ use Rattle.sequent.specs.Listed.{sequents}
 use Rattle.sequent.specs.Required.{Required, SameHeader}
 use Rattle.sequent.specs.Order.{Before}
 use Rattle.sequent.proofs.Ordered.{Separate, sequents_sorted, sequents_determined, sequents_once}
-use Rattle.rules.specs.declared.Verdict.TheVariants.{Accepted}
 use Rattle.rules.specs.Decoded.{decoded}
 use Rattle.rules.specs.Verdict.{verdict}
 use Rattle.rules.specs.Offence.{machine}
 use Rattle.rules.proofs.Accepted.{accepted_none, none_obeys}
 use Rattle.rules.proofs.Separate.{obeys_separate}
 
-module _ (bytes : List ℕ) (n : ℕ) (accepted : verdict bytes ≡ Accepted n) where
+module _ (bytes : List ℕ) (n : ℕ) (accepted : verdict bytes ≡ Ok n) where
   separate : Separate (machine bytes)
   separate = obeys_separate (decoded bytes) (none_obeys bytes (accepted_none bytes n accepted).0)
 

@@ -7,7 +7,8 @@ use mathlib.Core.Logic.{◌↔◌, ◌⊎◌, inl, inr, ⊎_elim}
 use native.Mathlib.Omega.{arith}
 use borrow.Author.Tests.{eqb-true, eqb-false}
 use lib.Dec.{eqb}
-use Rattle.rules.specs.declared.Verdict.TheVariants.{Refused}
+use Rattle.std.specs.Prelude.{Err}
+use Rattle.rules.specs.Refusal.{refused}
 use Rattle.rules.specs.Decoded.{framed, row_count}
 use Rattle.rules.specs.Verdict.{verdict}
 use Rattle.rules.specs.Offence.{Offence, frame, column, row, lack}
@@ -36,7 +37,7 @@ module _ (bytes : List ℕ) where
   offence_says c r (lack e) =
       record { low = omega arith; high = omega arith; inside = omega arith; no_row = λ e. refl; some_row = λ l h. absurd (omega arith) }
 
-  module _ (c r : ℕ) (v : verdict bytes ≡ Refused c r) where
+  module _ (c r : ℕ) (v : verdict bytes ≡ Err (refused c r)) where
     says : OffenceSays c r
     says = offence_says c r (refused_first bytes c r v).offence
 

@@ -4,4 +4,5 @@ pub mod Sorts
 pub mod Sight
 pub mod Rules
 pub mod Offence
+pub mod Refusal
 pub mod Verdict

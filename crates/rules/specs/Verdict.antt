@@ -1,12 +1,12 @@
 -- 01, Refusals: "Checks run by number, each over the whole table .. The first offending row, counted from 1, is named".
-use Rattle.std.specs.Prelude.{ℕ, ◌+◌, ◌≤◌, ◌<◌, ◌≡◌, false, List, ltb, length}
+use Rattle.std.specs.Prelude.{ℕ, ◌+◌, ◌≤◌, ◌<◌, ◌≡◌, false, List, ltb, length, Result, Ok, Err}
 use Rattle.lists.specs.Choice.{pick}
 use Rattle.lists.specs.Below.{first}
 use Rattle.table.specs.Rows.{Rows}
 use Rattle.machine.specs.Described.{machine_of}
 use Rattle.sequent.specs.Listed.{sequents}
-use Rattle.rules.specs.declared.Verdict.{Verdict}
-use Rattle.rules.specs.declared.Verdict.TheVariants.{Accepted, Refused}
+use Rattle.rules.specs.declared.Refusal.{Refusal}
+use Rattle.rules.specs.Refusal.{refused}
 use Rattle.rules.specs.Decoded.{framed, row_count, line_of, not_row, decoded}
 use Rattle.rules.specs.Rules.{offends, missing}
 
@@ -26,14 +26,14 @@ PassedBefore t check = (k i : ℕ) → 3 ≤ k → k < check → i < t.size → 
 abbrev pub Passes : Rows → Type 0
 Passes t = PassedBefore t 12 × (missing t ≡ false)
 
-unfoldable pub judge : Rows → Verdict
+unfoldable pub judge : Rows → Result ℕ Refusal
 judge t =
     let check = first_check t in
-    pick (ltb check 12) (Refused check (first_row t check + 1)) (pick (missing t) (Refused 12 0) (Accepted (length (sequents (machine_of t)))))
+    pick (ltb check 12) (Err (refused check (first_row t check + 1))) (pick (missing t) (Err (refused 12 0)) (Ok (length (sequents (machine_of t)))))
 
 -- what check answers
-unfoldable pub verdict : List ℕ → Verdict
+unfoldable pub verdict : List ℕ → Result ℕ Refusal
 verdict bytes =
     let n = row_count bytes in
     let row = first (λ i. not_row (line_of bytes i)) n 0 in
-    pick (framed bytes) (pick (ltb row n) (Refused 2 (row + 1)) (judge (decoded bytes))) (Refused 1 0)
+    pick (framed bytes) (pick (ltb row n) (Err (refused 2 (row + 1))) (judge (decoded bytes))) (Err (refused 1 0))

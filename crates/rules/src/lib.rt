@@ -1,15 +1,15 @@
-// 01, Refusals: the rules that a table must meet, and the verdict of bytes.
+// 01, Refusals: the rules that a table must meet, and why it is refused.
 #![tactic(auto)]
 
-// What check answers: the count of a table's sequents, or a refusal's number and row.
+// Why a table, a log or what is asked of them is refused: the refusal's number, and the row that it names or 0.
 #[derive(Clone, Copy)]
-pub enum Verdict {
-    Accepted(u64),
-    Refused(u64, u64),
+pub struct Refusal {
+    pub number: u64,
+    pub row: u64,
 }
 
-impl Verdict {
-    // The checks from 3 on, by 01's words for their refusals; the last concerns no row.
+impl Refusal {
+    // Of a table: the checks from 3 on, by 01's words for their refusals; the last concerns no row.
     pub const TAG: u64 = 3;
 
     pub const FULL: u64 = 4;
@@ -29,4 +29,18 @@ impl Verdict {
     pub const TWICE: u64 = 11;
 
     pub const MISSING: u64 = 12;
+
+    // Of what is asked: the sequent, the entry, or too little room for the rows.
+    pub const SEQUENT: u64 = 13;
+
+    pub const ENTRY: u64 = 14;
+
+    pub const ROOM: u64 = 15;
+
+    // Of a log: a term outside 64 bits, an undefined one, a bad row or a step that isn't allowed.
+    pub const OUTSIDE: u64 = 16;
+
+    pub const UNDEFINED: u64 = 17;
+
+    pub const LOG: u64 = 18;
 }

@@ -7,6 +7,7 @@ use native.Mathlib.Omega.{arith}
 use lib.Dec.{ltb, leb}
 use lib.ListN.{length, get_or, length-append, length-map}
 use borrow.Author.Tests.{lt-ltb, le-ltb, leb-true}
+use Rattle.std.specs.Prelude.{Ok}
 use Rattle.lists.specs.All.{All}
 use Rattle.lists.specs.Over.{over}
 use Rattle.lists.proofs.Choice.{chosen, not_chosen}
@@ -19,7 +20,6 @@ use Rattle.sequent.specs.Entry.{written, formula}
 use Rattle.sequent.specs.Numbers.{numbers_of}
 use Rattle.sequent.specs.Forms.{entry_of}
 use Rattle.sequent.proofs.Numbers.{entry_of_numbers}
-use Rattle.reply.specs.declared.Reply.TheVariants as reply
 use Rattle.reply.specs.Printed.{entry_row, identifiers_in, mentioned_row, sequent_rows, rows_bytes}
 use Rattle.reply.proofs.Mentioned.{identifiers_spelled, goal_identifiers}
 use Rattle.reply.specs.Spelled.{spell}
@@ -95,7 +95,7 @@ unfolding write_rows
 no_room rs out h = chosen (ltb (length out) (length (rows_bytes rs))) _ _ (lt-ltb (length out) (length (rows_bytes rs)) (omega (arith, rows_length rs)))
 
 pub room : (rs : List Row) (out : List ℕ) → length rs ≤ length out / 38
-    → write_rows rs out ≡ record { reply = reply.Written (length rs); buffer = over (rows_bytes rs) out }
+    → write_rows rs out ≡ record { reply = Ok (length rs); buffer = over (rows_bytes rs) out }
 unfolding write_rows
 room rs out h = not_chosen (ltb (length out) (length (rows_bytes rs))) _ _ (le-ltb (length out) (length (rows_bytes rs)) (omega (arith, rows_length rs)))
 

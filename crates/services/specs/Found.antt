@@ -1,5 +1,5 @@
 -- Where a service finds its sequent, and what it leaves.
-use Rattle.std.specs.Prelude.{ℕ, ◌<◌, ◌≡◌, List, ◌∷◌}
+use Rattle.std.specs.Prelude.{ℕ, ◌<◌, ◌≡◌, List, ◌∷◌, Result}
 use Rattle.lists.specs.All.{In}
 use Rattle.table.specs.Rows.{Rows}
 use Rattle.machine.specs.Machine.{Machine}
@@ -7,14 +7,13 @@ use Rattle.machine.specs.Described.{machine_of}
 use Rattle.sequent.specs.Entry.{formula}
 use Rattle.sequent.specs.Sequent.{Sequent}
 use Rattle.sequent.specs.Listed.{sequents}
-use Rattle.rules.specs.declared.Verdict.{Verdict}
+use Rattle.rules.specs.declared.Refusal.{Refusal}
 use Rattle.rules.specs.Verdict.{Passes}
 use Rattle.row.specs.declared.Row.{Row}
 use Rattle.walk.specs.declared.Slot.{Slot}
 use Rattle.walk.specs.Headers.{header_kind, header_item}
 use Rattle.entries.specs.Sequent.{goal_at, slot_sequent}
 use Rattle.entries.specs.Written.{entry_rows}
-use Rattle.reply.specs.declared.Reply.{Reply}
 use Rattle.reply.specs.Row.{row}
 use Rattle.reply.specs.Spelled.{spell}
 use Rattle.reply.specs.Printed.{identifiers_in, mentioned_row, sequent_rows}
@@ -22,7 +21,7 @@ use Rattle.reply.specs.Replies.{Outcome, write_rows, sequent_at, with_sequent, s
 use Rattle.services.specs.declared.Request.{Request}
 use Rattle.services.specs.declared.Request.TheVariants as request
 
-abbrev pub outcome : Reply → List ℕ → Outcome
+abbrev pub outcome : Result ℕ Refusal → List ℕ → Outcome
 outcome r out = record { reply = r; buffer = out }
 
 -- "row 80 (kind, event or 0, item)"
@@ -51,5 +50,5 @@ abbrev pub serve_at : Machine → Request → List ℕ → Sequent → Outcome
 serve_at m request.Write out s = write_rows (sequent_rows m s) out
 serve_at m (request.Spell j) out s = spell_at m s j out
 
-abbrev pub serve_by : Machine → Verdict → ℕ → Request → List ℕ → Outcome
+abbrev pub serve_by : Machine → Result ℕ Refusal → ℕ → Request → List ℕ → Outcome
 serve_by m v k request out = with_sequent m v k out (serve_at m request out)

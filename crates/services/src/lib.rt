@@ -1,7 +1,7 @@
 // 01, Sequents: "write sequent k, spell entry j of sequent k (goal last)". check is the crate verdict's.
 #![tactic(auto)]
 
-ghost use Rattle.std.specs.Prelude.{◌≡◌, ◌+◌, ◌*◌, ◌<◌, ◌≤◌, length};
+ghost use Rattle.std.specs.Prelude.{◌≡◌, ◌+◌, ◌*◌, ◌<◌, ◌≤◌, length, Ok};
 ghost use Rattle.lists.specs.Over.{over};
 ghost use Rattle.row.specs.Row.{width, row_length};
 ghost use Rattle.table.specs.Lookups.{most_words};
@@ -11,7 +11,6 @@ ghost use Rattle.nodes.specs.Notes.{Noted};
 ghost use Rattle.machine.specs.Described.{machine_of};
 ghost use Rattle.sequent.specs.Listed.{sequents};
 ghost use Rattle.entries.specs.Sequent.{slot_sequent, hypothesis_count};
-ghost use Rattle.rules.specs.declared.Verdict.TheVariants.{Accepted};
 ghost use Rattle.rules.specs.Verdict.{Passes, judge as judge_of, verdict as verdict_of};
 ghost use Rattle.rules.specs.Offence.{machine};
 ghost use Rattle.reply.specs.Printed.{sequent_rows, rows_bytes};
@@ -21,13 +20,13 @@ ghost use Rattle.services.specs.Found.{header_row, goal_row, rest_rows, outcome,
 use entries::{count_entries, entry_at, goal_at, write_entries};
 use mentioned::mentioned_row;
 use nodes::fill_notes;
-use reply::{Reply, tags};
+use reply::tags;
 use row::Row;
-use rules::Verdict;
+use rules::Refusal;
 use scan::Span;
 use spell::spell;
 use table::{Table, among};
-use verdict::{Loaded, judge_with, load};
+use verdict::{judge_with, load};
 use walk::{Slot, header_item, header_kind, seek};
 
 // The slot of sequent k, and which of its sequents it is.
@@ -85,17 +84,26 @@ pub fn write_slot(words: &[u64], table: Table, spans: &[usize], slot: Slot, out:
 }
 
 // Writes a slot's sequent, which is listed, where the buffer has room for it: rows 80 and 84 besides the entries.
-fn write_found(words: &[u64], table: Table, spans: &[usize], slot: Slot, out: &mut [u8]) -> Reply
+fn write_found(
+    words: &[u64],
+    table: Table,
+    spans: &[usize],
+    slot: Slot,
+    out: &mut [u8],
+) -> Result<u64, Refusal>
     requires table_value { (table ≡ counts_of (rows_of words.now)) × Noted (rows_of words.now) spans.now × (slot.row < (rows_of words.now).size) }
     requires listed_slot { ListedSlot (rows_of words.now) slot }
     ensures { outcome result out.new ≡ write_rows (sequent_rows (machine_of (rows_of words.now)) (slot_sequent (rows_of words.now) slot)) out.old }
 {
     let wanted = count_entries(words, table, spans, slot) + 2;
     if ((out.len() / Row::LENGTH) as u64) < wanted {
-        return Reply::Refused(Reply::ROOM, 0);
+        return Err(Refusal {
+            number: Refusal::ROOM,
+            row: 0,
+        });
     }
     write_slot(words, table, spans, slot, out);
-    Reply::Written(wanted)
+    Ok(wanted)
 }
 
 // Spells an entry where the buffer has room for it. The first call counts its rows: a buffer of one byte has room for none.
@@ -106,21 +114,27 @@ fn spell_found(
     slot: Slot,
     j: u64,
     out: &mut [u8],
-) -> Reply
+) -> Result<u64, Refusal>
     requires { (table ≡ counts_of (rows_of words.now)) × Noted (rows_of words.now) spans.now × (slot.row < (rows_of words.now).size) }
     ensures { outcome result out.new ≡ spell_at (machine_of (rows_of words.now)) (slot_sequent (rows_of words.now) slot) j out.old }
 {
     if !among(j, count_entries(words, table, spans, slot)) {
-        return Reply::Refused(Reply::ENTRY, 0);
+        return Err(Refusal {
+            number: Refusal::ENTRY,
+            row: 0,
+        });
     }
     let entry = entry_at(words, table, spans, slot, j - 1);
     let mut none = [0u8; 1];
     let rows = spell(words, table, entry, &mut none);
     if ((out.len() / Row::LENGTH) as u64) < rows {
-        return Reply::Refused(Reply::ROOM, 0);
+        return Err(Refusal {
+            number: Refusal::ROOM,
+            row: 0,
+        });
     }
     spell(words, table, entry, out);
-    Reply::Written(rows)
+    Ok(rows)
 }
 
 // What is asked of a sequent: its rows, or an entry of it spelled.
@@ -138,7 +152,7 @@ fn serve_found(
     slot: Slot,
     request: Request,
     out: &mut [u8],
-) -> Reply
+) -> Result<u64, Refusal>
     requires table_value { (table ≡ counts_of (rows_of words.now)) × Noted (rows_of words.now) spans.now × (slot.row < (rows_of words.now).size) }
     requires listed_slot { ListedSlot (rows_of words.now) slot }
     ensures { outcome result out.new ≡ serve_at (machine_of (rows_of words.now)) request out.old (slot_sequent (rows_of words.now) slot) }
@@ -158,13 +172,16 @@ fn serve_accepted(
     k: u64,
     request: Request,
     out: &mut [u8],
-) -> Reply
+) -> Result<u64, Refusal>
     requires table_value { (table ≡ counts_of (rows_of words.now)) × Noted (rows_of words.now) spans.now }
-    requires words_value { judge_of (rows_of words.now) ≡ Accepted count }
-    ensures { outcome result out.new ≡ serve_by (machine_of (rows_of words.now)) (Accepted count) k request out.old }
+    requires words_value { judge_of (rows_of words.now) ≡ Ok count }
+    ensures { outcome result out.new ≡ serve_by (machine_of (rows_of words.now)) (Ok count) k request out.old }
 {
     if !among(k, count) {
-        return Reply::Refused(Reply::SEQUENT, 0);
+        return Err(Refusal {
+            number: Refusal::SEQUENT,
+            row: 0,
+        });
     }
     let slot = find_sequent(words, table, spans, k);
     serve_found(words, table, spans, slot, request, out)
@@ -178,18 +195,16 @@ fn serve_judged(
     k: u64,
     request: Request,
     out: &mut [u8],
-) -> Reply
+) -> Result<u64, Refusal>
     requires { (table ≡ counts_of (rows_of words.now)) × Noted (rows_of words.now) spans.now × (length words.now ≤ most_words) }
     ensures { outcome result out.new ≡ serve_by (machine_of (rows_of words.now)) (judge_of (rows_of words.now)) k request out.old }
 {
-    match judge_with(words, table, spans) {
-        Verdict::Refused(number, row) => Reply::Refused(number, row),
-        Verdict::Accepted(count) => serve_accepted(words, table, spans, count, k, request, out),
-    }
+    let count = judge_with(words, table, spans)?;
+    serve_accepted(words, table, spans, count, k, request, out)
 }
 
 // The same, of the rows alone: they are counted, and what is asked of them again and again is noted, once.
-fn serve_rows(words: &[u64], k: u64, request: Request, out: &mut [u8]) -> Reply
+fn serve_rows(words: &[u64], k: u64, request: Request, out: &mut [u8]) -> Result<u64, Refusal>
     requires { length words.now ≤ most_words }
     ensures { outcome result out.new ≡ serve_by (machine_of (rows_of words.now)) (judge_of (rows_of words.now)) k request out.old }
 {
@@ -200,25 +215,23 @@ fn serve_rows(words: &[u64], k: u64, request: Request, out: &mut [u8]) -> Reply
 }
 
 // Does what is asked of sequent k of a table.
-fn serve(bytes: &[u8], k: u64, request: Request, out: &mut [u8]) -> Reply
+fn serve(bytes: &[u8], k: u64, request: Request, out: &mut [u8]) -> Result<u64, Refusal>
     ensures { outcome result out.new ≡ serve_by (machine bytes.now) (verdict_of bytes.now) k request out.old }
 {
     let mut words = [0u64; Table::WORDS];
-    match load(bytes, &mut words) {
-        Loaded::Refused(number, row) => Reply::Refused(number, row),
-        Loaded::Words(n) => serve_rows(&words[..n], k, request, out),
-    }
+    let n = load(bytes, &mut words)?;
+    serve_rows(&words[..n], k, request, out)
 }
 
 // "write sequent k": rows 80, 84, 81 and 82 into the front of the buffer.
-pub fn write_sequent(table: &[u8], k: u64, out: &mut [u8]) -> Reply
+pub fn write_sequent(table: &[u8], k: u64, out: &mut [u8]) -> Result<u64, Refusal>
     ensures { outcome result out.new ≡ write_sequent table.now k out.old }
 {
     serve(table, k, Request::Write, out)
 }
 
 // "spell entry j of sequent k (goal last)": rows 83 into the front of the buffer.
-pub fn spell_entry(table: &[u8], k: u64, j: u64, out: &mut [u8]) -> Reply
+pub fn spell_entry(table: &[u8], k: u64, j: u64, out: &mut [u8]) -> Result<u64, Refusal>
     ensures { outcome result out.new ≡ spell_entry table.now k j out.old }
 {
     serve(table, k, Request::Spell(j), out)

@@ -7,13 +7,14 @@ use native.Mathlib.Omega.{arith}
 use borrow.Author.Tests.{ne_eqb}
 use lib.Dec.{eqb}
 use lib.ListN.{length}
+use Rattle.std.specs.Prelude.{Result, Ok, Err}
 use Rattle.lists.specs.Choice.{pick}
 use Rattle.row.specs.declared.Line.{Line}
 use Rattle.row.specs.declared.Line.TheVariants.{Whole, Malformed}
 use Rattle.formula.specs.Values.{whole_number}
 use Rattle.table.specs.Rows.{Rows}
-use Rattle.recording.specs.declared.Replay.{Replay}
-use Rattle.recording.specs.declared.Replay.TheVariants.{Steps, Refused}
+use Rattle.rules.specs.declared.Refusal.{Refusal}
+use Rattle.rules.specs.Refusal.{refused}
 use Rattle.recording.specs.Rows.{logged, is_step_row, is_value_row}
 use Rattle.recording.specs.Faults.{no_fault, log_fault, step_fault}
 use Rattle.recording.specs.Replay.{Values, Found, found, bad, store, read_values, moved, judged, replay_from}
@@ -21,9 +22,9 @@ use Rattle.recording.proofs.Enough.{read_count}
 use Rattle.steps.specs.Parts.{later_row, replay_rest}
 
 -- ---- a later row
-unfoldable pub later : ℕ → Replay → Replay
-later k (Steps steps) = Steps steps
-later k (Refused number row) = Refused number (later_row k row)
+unfoldable pub later : ℕ → Result ℕ Refusal → Result ℕ Refusal
+later k (Ok steps) = Ok steps
+later k (Err r) = Err (refused r.number (later_row k r.row))
 
 later_some : (k i : ℕ) → 1 ≤ i → later_row k i ≡ k + i
 later_some k i h = ap (λ b. pick b 0 (k + i)) (ne_eqb i 0 (λ e. omega (arith, e, h)))
@@ -50,7 +51,7 @@ module _ (t : Rows) (k : ℕ) where
       go next true = next
       go next false = ap bad (sym (later_some k i h))
 
-  judged_later : (i e : ℕ) → 1 ≤ i → (f : Found) (next next' : List Line → Values → Replay) → ((rest : List Line) (ws : Values) → next' rest ws ≡ later k (next rest ws))
+  judged_later : (i e : ℕ) → 1 ≤ i → (f : Found) (next next' : List Line → Values → Result ℕ Refusal) → ((rest : List Line) (ws : Values) → next' rest ws ≡ later k (next rest ws))
       → judged t (k + i) e (later_found k f) next' ≡ later k (judged t i e f next)
   unfolding later_found later
   judged_later i e h (bad row) next next' same = refl
@@ -59,19 +60,19 @@ module _ (t : Rows) (k : ℕ) where
       fault : ℕ
       fault = step_fault t e vs.present vs.after
 
-      go : (b : Bool) → pick b (next' ls (moved t vs)) (Refused fault (k + i)) ≡ later k (pick b (next ls (moved t vs)) (Refused fault i))
+      go : (b : Bool) → pick b (next' ls (moved t vs)) (Err (refused fault (k + i))) ≡ later k (pick b (next ls (moved t vs)) (Err (refused fault i)))
       go true = same ls (moved t vs)
-      go false = ap (Refused fault) (sym (later_some k i h))
+      go false = ap (λ r. Err (refused fault r)) (sym (later_some k i h))
 
   from_later : (f n i : ℕ) (ls : List Line) (vs : Values) → 1 ≤ i → replay_from t f n (k + i) ls vs ≡ later k (replay_from t f n i ls vs)
   unfolding replay_from later
   from_later zero n i ls vs h = refl
   from_later (suc f) n i [] vs h = go (eqb n 0)
     where
-      go : (b : Bool) → pick b (Refused log_fault 0) (Steps (n - 1)) ≡ later k (pick b (Refused log_fault 0) (Steps (n - 1)))
+      go : (b : Bool) → pick b (Err (refused log_fault 0)) (Ok (n - 1)) ≡ later k (pick b (Err (refused log_fault 0)) (Ok (n - 1)))
       go true = refl
       go false = refl
-  from_later (suc f) n i (Malformed ∷ ls) vs h = ap (Refused log_fault) (sym (later_some k i h))
+  from_later (suc f) n i (Malformed ∷ ls) vs h = ap (λ r. Err (refused log_fault r)) (sym (later_some k i h))
   from_later (suc f) n i (Whole r ∷ ls) vs h =
       go (λ rest ws.
       let rows = length (logged t r.a) in
@@ -93,19 +94,19 @@ module _ (t : Rows) (k : ℕ) where
           ∙ judged_later i r.a h (read_values t r.a (logged t r.a) (i + 1) ls vs) (λ rest ws. replay_from t f (n + 1) (i + 1 + rows) rest ws)
           (λ rest ws. replay_from t f (n + 1) (k + i + 1 + rows) rest ws) next
 
-      go : Next → (b : Bool) → pick b (judged t (k + i) r.a (read_values t r.a (logged t r.a) (k + i + 1) ls vs) (λ rest ws. replay_from t f (n + 1) (k + i + 1 + rows) rest ws)) (Refused log_fault (k + i))
-          ≡ later k (pick b (judged t i r.a (read_values t r.a (logged t r.a) (i + 1) ls vs) (λ rest ws. replay_from t f (n + 1) (i + 1 + rows) rest ws)) (Refused log_fault i))
+      go : Next → (b : Bool) → pick b (judged t (k + i) r.a (read_values t r.a (logged t r.a) (k + i + 1) ls vs) (λ rest ws. replay_from t f (n + 1) (k + i + 1 + rows) rest ws)) (Err (refused log_fault (k + i)))
+          ≡ later k (pick b (judged t i r.a (read_values t r.a (logged t r.a) (i + 1) ls vs) (λ rest ws. replay_from t f (n + 1) (i + 1 + rows) rest ws)) (Err (refused log_fault i)))
       go next true = taken next
-      go next false = ap (Refused log_fault) (sym (later_some k i h))
+      go next false = ap (λ r. Err (refused log_fault r)) (sym (later_some k i h))
 
   pub rest_later : (n i : ℕ) (ls : List Line) (vs : Values) → 1 ≤ i → replay_rest t n (k + i) ls vs ≡ later k (replay_rest t n i ls vs)
   unfolding replay_rest
   rest_later n i ls vs h = from_later (suc (length ls)) n i ls vs h
 
 -- ---- how late a row can be
-row_of : Replay → ℕ
-row_of (Steps steps) = 0
-row_of (Refused number row) = row
+row_of : Result ℕ Refusal → ℕ
+row_of (Ok steps) = 0
+row_of (Err r) = r.row
 
 bad_of : Found → ℕ
 bad_of (found vs ls) = 0
@@ -126,7 +127,7 @@ module _ (t : Rows) where
       go h true = omega (arith, h)
       go h false = omega arith
 
-  judged_within : (i e most : ℕ) → i ≤ most → (f : Found) (next : List Line → Values → Replay) → bad_of f ≤ most → ((ws : Values) (rest : List Line) → f ≡ found ws rest → row_of (next rest (moved t ws)) ≤ most)
+  judged_within : (i e most : ℕ) → i ≤ most → (f : Found) (next : List Line → Values → Result ℕ Refusal) → bad_of f ≤ most → ((ws : Values) (rest : List Line) → f ≡ found ws rest → row_of (next rest (moved t ws)) ≤ most)
       → row_of (judged t i e f next) ≤ most
   unfolding bad_of row_of
   judged_within i e most h (bad row) next k later = k
@@ -135,7 +136,7 @@ module _ (t : Rows) where
       fault : ℕ
       fault = step_fault t e vs.present vs.after
 
-      go : (b : Bool) → row_of (pick b (next ls (moved t vs)) (Refused fault i)) ≤ most
+      go : (b : Bool) → row_of (pick b (next ls (moved t vs)) (Err (refused fault i))) ≤ most
       go true = later vs ls refl
       go false = h
 
@@ -144,7 +145,7 @@ module _ (t : Rows) where
   from_within zero n i ls vs = omega arith
   from_within (suc f) n i [] vs = go (eqb n 0)
     where
-      go : (b : Bool) → row_of (pick b (Refused log_fault 0) (Steps (n - 1))) ≤ i + 0
+      go : (b : Bool) → row_of (pick b (Err (refused log_fault 0)) (Ok (n - 1))) ≤ i + 0
       go true = omega arith
       go false = omega arith
   from_within (suc f) n i (Malformed ∷ ls) vs = omega arith
@@ -156,11 +157,11 @@ module _ (t : Rows) where
       step : Found
       step = read_values t e (logged t e) (i + 1) ls vs
 
-      onward : List Line → Values → Replay
+      onward : List Line → Values → Result ℕ Refusal
       onward rest ws = replay_from t f (n + 1) (i + 1 + length (logged t e)) rest ws
 
       go : ((rest : List Line) (ws : Values) → row_of (onward rest ws) ≤ i + 1 + length (logged t e) + length rest) → (b : Bool)
-          → row_of (pick b (judged t i e step onward) (Refused log_fault i)) ≤ i + suc (length ls)
+          → row_of (pick b (judged t i e step onward) (Err (refused log_fault i))) ≤ i + suc (length ls)
       go next true = judged_within i e (i + suc (length ls)) (omega arith) step onward
           (let h = bad_within e (logged t e) (i + 1) ls vs in omega (arith, h))
           (λ ws rest q.
@@ -169,7 +170,7 @@ module _ (t : Rows) where
           omega (arith, h, l))
       go next false = omega arith
 
-  pub rest_within : (n i : ℕ) (ls : List Line) (vs : Values) (number row : ℕ) → Refused number row ≡ replay_rest t n i ls vs → row ≤ i + length ls
+  pub rest_within : (n i : ℕ) (ls : List Line) (vs : Values) (number row : ℕ) → Err (refused number row) ≡ replay_rest t n i ls vs → row ≤ i + length ls
   unfolding replay_rest row_of
   rest_within n i ls vs number row e =
       let h = from_within (suc (length ls)) n i ls vs in

@@ -9,14 +9,15 @@ use borrow.Author.Tests.{ltb-true}
 use lib.Dec.{ltb}
 use lib.ListN.{length, drop, length-drop}
 use lib.Seq.{drop-append-le}
+use Rattle.std.specs.Prelude.{Result, Ok, Err}
 use Rattle.row.specs.Row.{width, row_length}
 use Rattle.row.specs.declared.Place.{Place}
 use Rattle.table.specs.Rows.{Rows, count}
 use Rattle.table.specs.Counts.{counts_of}
 use Rattle.table.specs.declared.Table.{Table}
 use Rattle.table.proofs.Counts.{counts_identifiers}
-use Rattle.recording.specs.declared.Replay.{Replay}
-use Rattle.recording.specs.declared.Replay.TheVariants as reply
+use Rattle.rules.specs.declared.Refusal.{Refusal}
+use Rattle.rules.specs.Refusal.{refused as refusal}
 use Rattle.recording.specs.Lines.{lines}
 use Rattle.recording.specs.Replay.{Values, no_values, replay_from, replay_log}
 use Rattle.recording.proofs.Enough.{lines_few, replay_enough}
@@ -125,7 +126,7 @@ module _ (t : Rows) (before : ℕ) (part : List ℕ) (last : Bool) (n₀ : ℕ) 
           ap (later before) (ap (λ r. replay_on t r (length (part ++ more)) n (part ++ more) ws) (sym q) ∙ whole more f) ∙ sym (rest_later t before n₀ 1 (lines (part ++ more)) us (omega arith))
 
       module _ (number row : ℕ) (q : r ≡ step.Refused number row) where
-        refused : (more : List ℕ) → Follows last more → reply.Refused number row ≡ replay_rest t n₀ 1 (lines (part ++ more)) us
+        refused : (more : List ℕ) → Follows last more → Err (refusal number row) ≡ replay_rest t n₀ 1 (lines (part ++ more)) us
         unfolding replay_on
         refused more f = ap (λ r. replay_on t r (length (part ++ more)) n (part ++ more) ws) (sym q) ∙ whole more f
 
@@ -139,7 +140,7 @@ module _ (t : Rows) (before : ℕ) (part : List ℕ) (last : Bool) (n₀ : ℕ) 
 
         pub part_refused : {later-row : ℕ} → later-row ≡ later_row before row → ReplaysPart t n₀ before part last us (Refused number later-row) ws
         unfolding part_on later
-        part_refused is more f = ap (reply.Refused number) is ∙ ap (later before) (refused more f) ∙ sym (rest_later t before n₀ 1 (lines (part ++ more)) us (omega arith))
+        part_refused is more f = ap (λ r. Err (refusal number r)) is ∙ ap (later before) (refused more f) ∙ sym (rest_later t before n₀ 1 (lines (part ++ more)) us (omega arith))
 
 -- ---- a part that is the whole of a run
 module _ (t : Rows) (run : List ℕ) (us ws : Values) (r : Part) (reads : ReplaysPart t 0 0 run true us r ws) (stops : Stops r 0 run true) where
@@ -149,11 +150,11 @@ module _ (t : Rows) (run : List ℕ) (us ws : Values) (r : Part) (reads : Replay
   pub never_more : (n : ℕ) (p : Place) → r ≡ More n p → ⊥
   never_more n p q = true≢false (subst (λ r. Stops r 0 run true) q stops).0
 
-  pub run_ended : (steps : ℕ) → r ≡ Ended steps → reply.Steps steps ≡ replay_rest t 0 1 (lines run) us
+  pub run_ended : (steps : ℕ) → r ≡ Ended steps → Ok steps ≡ replay_rest t 0 1 (lines run) us
   unfolding part_on
   run_ended steps q = ap (λ r. part_on t 0 r run ws) (sym q) ∙ whole_run
 
-  pub run_refused : (number row : ℕ) → r ≡ Refused number row → reply.Refused number row ≡ replay_rest t 0 1 (lines run) us
+  pub run_refused : (number row : ℕ) → r ≡ Refused number row → Err (refusal number row) ≡ replay_rest t 0 1 (lines run) us
   unfolding part_on
   run_refused number row q = ap (λ r. part_on t 0 r run ws) (sym q) ∙ whole_run
 
@@ -172,7 +173,7 @@ module _ (t : Rows) where
   reply_there before (Refused number row) run other ws h = refl
 
   -- Windows that are replayed one after another give the reply of the run that they are made of.
-  pub windows_replay : {n before : ℕ} {window unread : List ℕ} {vs : Values} {reply : Replay} → Windows t n before window vs unread reply → reply ≡ replay_rest t n (before + 1) (lines (window ++ unread)) vs
+  pub windows_replay : {n before : ℕ} {window unread : List ℕ} {vs : Values} {reply : Result ℕ Refusal} → Windows t n before window vs unread reply → reply ≡ replay_rest t n (before + 1) (lines (window ++ unread)) vs
   unfolding part_on
   windows_replay {before = before} {window = window} {unread = unread} (stops last r ws follows there reads) = reply_there before r window (window ++ unread) ws there ∙ reads unread follows
   windows_replay {before = before} {window = window} (goes_on {unread = unread} next last m place ws follows within reads rest) =
@@ -183,5 +184,5 @@ module _ (t : Rows) where
       ∙ reads (next ++ unread) follows
 
   -- from the first window on
-  pub windows_whole : {window unread : List ℕ} {reply : Replay} → Windows t 0 0 window no_values unread reply → reply ≡ replay_log t (window ++ unread)
+  pub windows_whole : {window unread : List ℕ} {reply : Result ℕ Refusal} → Windows t 0 0 window no_values unread reply → reply ≡ replay_log t (window ++ unread)
   windows_whole {window} {unread} w = windows_replay w ∙ replay_whole t (window ++ unread)

@@ -8,6 +8,7 @@ use native.Mathlib.Omega.{arith}
 use borrow.Author.Tests.{eq-eqb, ne_eqb}
 use lib.Dec.{eqb}
 use lib.ListN.{length}
+use Rattle.std.specs.Prelude.{Result, Ok, Err}
 use Rattle.lists.specs.Choice.{pick}
 use Rattle.row.specs.Row.{greatest, width, row_length}
 use Rattle.row.specs.Reading.{read_at}
@@ -19,8 +20,8 @@ use Rattle.row.specs.declared.Read.TheVariants as read
 use Rattle.table.specs.Rows.{Rows, count}
 use Rattle.rules.specs.Decoded.{decoded}
 use Rattle.rules.specs.Verdict.{verdict}
-use Rattle.recording.specs.declared.Replay.{Replay}
-use Rattle.recording.specs.declared.Replay.TheVariants as reply
+use Rattle.rules.specs.declared.Refusal.{Refusal}
+use Rattle.rules.specs.Refusal.{refused}
 use Rattle.recording.specs.Rows.{logged, is_step_row}
 use Rattle.recording.specs.Faults.{no_fault, log_fault, step_fault}
 use Rattle.recording.specs.Replay.{Values, Found, read_values, moved, judged, replay_from, replay_log, replay_by, replay}
@@ -57,7 +58,7 @@ module _ (t : Rows) where
     last : Reaches r run (at + row_length width * length (logged t e))
     last = subst (λ xs. Reaches r run (at + row_length width * length xs)) (wanted_logged t e) end
 
-    abbrev onward : ℕ → ℕ → List Line → Values → Replay
+    abbrev onward : ℕ → ℕ → List Line → Values → Result ℕ Refusal
     onward most n rest us = replay_from t most (n + 1) (row_at at + length (logged t e)) rest us
 
     pub rows_bad : (row : ℕ) → r ≡ Bad row → TakesStep t e i run at vs (Refused log_fault row) us
@@ -91,7 +92,7 @@ module _ (t : Rows) where
         row = ap row_at place ∙ omega arith
 
         go : (b : Bool) → replay_on t (pick b (Going p) (Refused fault i)) most n (run ++ more) (pick b (moved t us) us)
-            ≡ pick b (onward most n (lines_at (run ++ more) p.at) (moved t us)) (reply.Refused fault i)
+            ≡ pick b (onward most n (lines_at (run ++ more) p.at) (moved t us)) (Err (refused fault i))
         go true = ap (λ j. replay_from t most (n + 1) j (lines_at (run ++ more) p.at) (moved t us)) row
         go false = refl
 
@@ -106,7 +107,7 @@ module _ (t : Rows) where
     step_ended g q more hand most =
         ap (λ g. replay_on t g most n (run ++ more) vs) g ∙ go (eqb n 0) ∙ sym (ap (λ ls. replay_from t (suc most) n (row_at at) ls vs) (end_lines run more at (first_row_lem more hand) seen q))
       where
-        go : (b : Bool) → replay_on t (pick b (Refused log_fault 0) (Ended (n - 1))) most n (run ++ more) vs ≡ pick b (reply.Refused log_fault 0) (reply.Steps (n - 1))
+        go : (b : Bool) → replay_on t (pick b (Refused log_fault 0) (Ended (n - 1))) most n (run ++ more) vs ≡ pick b (Err (refused log_fault 0)) (Ok (n - 1))
         go true = refl
         go false = refl
 
@@ -120,23 +121,23 @@ module _ (t : Rows) where
     pub step_malformed : {row : ℕ} → f ≡ read.Malformed → row ≡ row_at at → ReplaysStep t n run at vs (Refused log_fault row) vs
     unfolding replay_on replay_from
     step_malformed q k more hand most =
-        ap (reply.Refused log_fault) k ∙ sym (ap (λ ls. replay_from t (suc most) n (row_at at) ls vs) (malformed_lines run more at (first_row_lem more hand) seen q).1)
+        ap (λ r. Err (refused log_fault r)) k ∙ sym (ap (λ ls. replay_from t (suc most) n (row_at at) ls vs) (malformed_lines run more at (first_row_lem more hand) seen q).1)
 
     module _ (r : Row) (p : Place) (q : f ≡ read.Next r p) {good : Bool} (is : good ≡ is_step_row t (eqb n 0) r) where
       place : p.at ≡ at + row_length width
       place = (next_place run at seen r p q).0
 
       module _ (more : List ℕ) (hand : AtHand run at (1 + count t 10) more) where
-        abbrev step : ℕ → Replay
+        abbrev step : ℕ → Result ℕ Refusal
         step most =
             judged t (row_at at) r.a (read_values t r.a (logged t r.a) (row_at at + 1) (lines_at (run ++ more) p.at) vs)
             (λ rest ws. replay_from t most (n + 1) (row_at at + 1 + length (logged t r.a)) rest ws)
 
-        by_row : (most : ℕ) (b : Bool) → is_step_row t (eqb n 0) r ≡ b → replay_from t (suc most) n (row_at at) (lines_at (run ++ more) at) vs ≡ pick b (step most) (reply.Refused log_fault (row_at at))
+        by_row : (most : ℕ) (b : Bool) → is_step_row t (eqb n 0) r ≡ b → replay_from t (suc most) n (row_at at) (lines_at (run ++ more) at) vs ≡ pick b (step most) (Err (refused log_fault (row_at at)))
         unfolding replay_from
         by_row most b w =
             ap (λ ls. replay_from t (suc most) n (row_at at) ls vs) (row_lines run more at (first_row_lem more hand) seen r p q)
-            ∙ ap (λ b. pick b (step most) (reply.Refused log_fault (row_at at))) w
+            ∙ ap (λ b. pick b (step most) (Err (refused log_fault (row_at at)))) w
 
         rows_at_hand : AtHand run p.at (length (logged t r.a)) more
         rows_at_hand = go hand
@@ -159,7 +160,7 @@ module _ (t : Rows) where
 
       pub step_wrong : {row : ℕ} → good ≡ false → row ≡ row_at at → ReplaysStep t n run at vs (Refused log_fault row) vs
       unfolding replay_on
-      step_wrong b k more hand most = ap (reply.Refused log_fault) k ∙ sym (by_row more hand most false (sym is ∙ b))
+      step_wrong b k more hand most = ap (λ r. Err (refused log_fault r)) k ∙ sym (by_row more hand most false (sym is ∙ b))
 
 -- the reply of a table's bytes
 pub replay_is : (table run : List ℕ) → replay table run ≡ replay_by (verdict table) (replay_log (decoded table) run)

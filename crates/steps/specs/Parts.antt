@@ -1,12 +1,12 @@
 -- How the code replays a run part by part, as a program reads it: the whole steps of a part, before which some steps and rows were.
-use Rattle.std.specs.Prelude.{◌≡◌, Bool, true, false, List, [], ◌++◌, ℕ, suc, ◌+◌, ◌/◌, ◌≤◌, eqb, length, drop}
+use Rattle.std.specs.Prelude.{◌≡◌, Bool, true, false, List, [], ◌++◌, ℕ, suc, ◌+◌, ◌/◌, ◌≤◌, eqb, length, drop, Result, Ok, Err}
 use Rattle.lists.specs.Choice.{pick}
 use Rattle.row.specs.Row.{width, row_length}
 use Rattle.row.specs.declared.Line.{Line}
 use Rattle.row.specs.declared.Place.{Place}
 use Rattle.table.specs.Rows.{Rows}
-use Rattle.recording.specs.declared.Replay.{Replay}
-use Rattle.recording.specs.declared.Replay.TheVariants as reply
+use Rattle.rules.specs.declared.Refusal.{Refusal}
+use Rattle.rules.specs.Refusal.{refused}
 use Rattle.recording.specs.Lines.{lines}
 use Rattle.recording.specs.Replay.{Values, replay_from}
 use Rattle.values.specs.Values.{lines_at, row_at}
@@ -25,14 +25,14 @@ is_more (Refused number row) = false
 
 module _ (t : Rows) where
   -- replaying on after n steps, the next row being row i, with no bound on the steps: there are no more than rows
-  unfoldable pub replay_rest : ℕ → ℕ → List Line → Values → Replay
+  unfoldable pub replay_rest : ℕ → ℕ → List Line → Values → Result ℕ Refusal
   replay_rest n i ls vs = replay_from t (suc (length ls)) n i ls vs
 
   -- what replaying on after a part gives, before which so many rows were
-  unfoldable pub part_on : ℕ → Part → List ℕ → Values → Replay
+  unfoldable pub part_on : ℕ → Part → List ℕ → Values → Result ℕ Refusal
   part_on before (More n place) run vs = replay_rest n (before + row_at place.at) (lines_at run place.at) vs
-  part_on before (Ended steps) run vs = reply.Steps steps
-  part_on before (Refused number row) run vs = reply.Refused number row
+  part_on before (Ended steps) run vs = Ok steps
+  part_on before (Refused number row) run vs = Err (refused number row)
 
   -- a part of a run, its last one or one that more bytes follow, after n steps and so many rows, and replaying on
   abbrev pub ReplaysPart : ℕ → ℕ → List ℕ → Bool → Values → Part → Values → Type 0
@@ -40,10 +40,10 @@ module _ (t : Rows) where
 
   -- How a program goes on, window by window: after n steps and so many rows, with a window of the run at hand and other bytes unread. It replays the window, which is the last one only
   -- where nothing is unread; where more is needed, the next window begins with what is left of this one.
-  pub data Windows : ℕ → ℕ → List ℕ → Values → List ℕ → Replay → Type 0 where
+  pub data Windows : ℕ → ℕ → List ℕ → Values → List ℕ → Result ℕ Refusal → Type 0 where
     stops : {n before : ℕ} {window unread : List ℕ} {vs : Values} (last : Bool) (r : Part) (ws : Values) → (last ≡ true → unread ≡ []) → is_more r ≡ false
         → ReplaysPart n before window last vs r ws → Windows n before window vs unread (part_on before r window ws)
-    goes_on : {n before : ℕ} {window unread : List ℕ} {vs : Values} {reply : Replay} (next : List ℕ) (last : Bool) (m : ℕ) (place : Place) (ws : Values) → (last ≡ true → next ++ unread ≡ [])
+    goes_on : {n before : ℕ} {window unread : List ℕ} {vs : Values} {reply : Result ℕ Refusal} (next : List ℕ) (last : Bool) (m : ℕ) (place : Place) (ws : Values) → (last ≡ true → next ++ unread ≡ [])
         → place.at ≤ length window → ReplaysPart n before window last vs (More m place) ws
         → Windows m (before + place.at / row_length width) (drop place.at window ++ next) ws unread reply → Windows n before window vs (next ++ unread) reply
 

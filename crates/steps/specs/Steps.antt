@@ -1,11 +1,11 @@
 -- How the code replays a run: step by step, from a place in it.
-use Rattle.std.specs.Prelude.{◌≡◌, List, ◌++◌, ℕ, suc, ◌+◌, ◌-◌, ◌≤◌, eqb, length}
+use Rattle.std.specs.Prelude.{◌≡◌, List, ◌++◌, ℕ, suc, ◌+◌, ◌-◌, ◌≤◌, eqb, length, Result, Ok, Err}
 use Rattle.lists.specs.Choice.{pick}
 use Rattle.row.specs.declared.Place.{Place}
 use Rattle.table.specs.Names.{identifier_tag}
 use Rattle.table.specs.Rows.{Rows, count}
-use Rattle.recording.specs.declared.Replay.{Replay}
-use Rattle.recording.specs.declared.Replay.TheVariants as reply
+use Rattle.rules.specs.declared.Refusal.{Refusal}
+use Rattle.rules.specs.Refusal.{refused}
 use Rattle.recording.specs.Rows.{logged}
 use Rattle.recording.specs.Faults.{no_fault, log_fault, step_fault}
 use Rattle.recording.specs.Replay.{Values, read_values, moved, judged, replay_from}
@@ -26,10 +26,10 @@ module _ (t : Rows) where
   step_values e vs = pick (eqb (step_fault t e vs.present vs.after) no_fault) (moved t vs) vs
 
   -- what replaying on after a step gives, with so many steps more; n steps were before it
-  unfoldable pub replay_on : Progress → ℕ → ℕ → List ℕ → Values → Replay
+  unfoldable pub replay_on : Progress → ℕ → ℕ → List ℕ → Values → Result ℕ Refusal
   replay_on (Going place) most n run vs = replay_from t most (n + 1) (row_at place.at) (lines_at run place.at) vs
-  replay_on (Ended steps) most n run vs = reply.Steps steps
-  replay_on (Refused number row) most n run vs = reply.Refused number row
+  replay_on (Ended steps) most n run vs = Ok steps
+  replay_on (Refused number row) most n run vs = Err (refused number row)
 
   -- the step of the event e whose row 90 is row i and whose rows 91 begin at a place, and replaying on; more bytes may follow
   abbrev pub TakesStep : ℕ → ℕ → List ℕ → ℕ → Values → Progress → Values → Type 0

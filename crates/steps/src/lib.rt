@@ -19,13 +19,12 @@ ghost use Rattle.steps.specs.Parts.{later_row, replay_rest, ReplaysPart, Stops};
 use judge::step_fault;
 use nodes::fill_notes;
 use reader::next_row;
-use recording::Replay;
 use row::{Place, Read, Row};
-use rules::Verdict;
+use rules::Refusal;
 use scan::Span;
 use table::Table;
 use values::{Reached, is_step_row, move_values, read_values, row_number};
-use verdict::{Loaded, judge_with, load};
+use verdict::{judge_with, load};
 
 // What a step comes to: where the next one begins, the end of the run before it with the number of its steps, or a refusal's number and row.
 #[derive(Clone, Copy)]
@@ -40,7 +39,7 @@ fn ended(n: u64) -> Progress
     ensures { result ≡ ended_after n }
 {
     if n == 0 {
-        return Progress::Refused(Replay::LOG, 0);
+        return Progress::Refused(Refusal::LOG, 0);
     }
     Progress::Ended(n - 1)
 }
@@ -84,7 +83,7 @@ fn take_step(
     ensures begins_within { BeginsWithin result place.at (length run.now) }
 {
     match read_values(words, table, spans, false, run, e, place, present, after) {
-        Reached::Bad(bad) => Progress::Refused(Replay::LOG, bad),
+        Reached::Bad(bad) => Progress::Refused(Refusal::LOG, bad),
         Reached::Next(next) => judge_step(words, table, spans, e, row, next, present, after),
     }
 }
@@ -106,14 +105,14 @@ fn replay_step(
 {
     match next_row(place, run) {
         Read::End => ended(n),
-        Read::Malformed => Progress::Refused(Replay::LOG, row_number(place)),
+        Read::Malformed => Progress::Refused(Refusal::LOG, row_number(place)),
         Read::Next(row, next) => {
             if is_step_row(words, table, n == 0, row) {
                 let e = row.a;
                 let at = row_number(place);
                 return take_step(words, table, spans, run, e, at, next, present, after);
             }
-            Progress::Refused(Replay::LOG, row_number(place))
+            Progress::Refused(Refusal::LOG, row_number(place))
         }
     }
 }
@@ -179,19 +178,22 @@ fn replay_steps(
     run: &[u8],
     present: &mut [i64],
     after: &mut [i64],
-) -> Replay
+) -> Result<u64, Refusal>
     requires { (table ≡ counts_of (rows_of words.now)) × Spanned (rows_of words.now) spans.now }
     ensures { result ≡ replay_rest (rows_of words.now) 0 1 (lines run.now) (values_of present.old after.old) }
 {
     match replay_part(words, table, spans, run, true, 0, 0, present, after) {
-        Part::More(n, place) => Replay::Refused(Replay::LOG, 0), // not of the last part
-        Part::Ended(steps) => Replay::Steps(steps),
-        Part::Refused(number, row) => Replay::Refused(number, row),
+        Part::More(n, place) => Err(Refusal {
+            number: Refusal::LOG,
+            row: 0,
+        }), // not of the last part
+        Part::Ended(steps) => Ok(steps),
+        Part::Refused(number, row) => Err(Refusal { number, row }),
     }
 }
 
 // Replays a run of the table of these rows, which is accepted.
-fn replay_log(words: &[u64], table: Table, spans: &[usize], run: &[u8]) -> Replay
+fn replay_log(words: &[u64], table: Table, spans: &[usize], run: &[u8]) -> Result<u64, Refusal>
     requires { (table ≡ counts_of (rows_of words.now)) × Spanned (rows_of words.now) spans.now }
     ensures { result ≡ replay_log (rows_of words.now) run.now }
 {
@@ -201,18 +203,16 @@ fn replay_log(words: &[u64], table: Table, spans: &[usize], run: &[u8]) -> Repla
 }
 
 // The same of a table that may be refused: "After the table's checks".
-fn replay_judged(words: &[u64], table: Table, spans: &[usize], run: &[u8]) -> Replay
+fn replay_judged(words: &[u64], table: Table, spans: &[usize], run: &[u8]) -> Result<u64, Refusal>
     requires { (table ≡ counts_of (rows_of words.now)) × Noted (rows_of words.now) spans.now × (length words.now ≤ most_words) }
     ensures { result ≡ replay_by (judge_of (rows_of words.now)) (replay_log (rows_of words.now) run.now) }
 {
-    match judge_with(words, table, spans) {
-        Verdict::Refused(number, row) => Replay::Refused(number, row),
-        Verdict::Accepted(count) => replay_log(words, table, spans, run),
-    }
+    judge_with(words, table, spans)?;
+    replay_log(words, table, spans, run)
 }
 
 // The same of the rows alone.
-fn replay_rows(words: &[u64], run: &[u8]) -> Replay
+fn replay_rows(words: &[u64], run: &[u8]) -> Result<u64, Refusal>
     requires { length words.now ≤ most_words }
     ensures { result ≡ replay_by (judge_of (rows_of words.now)) (replay_log (rows_of words.now) run.now) }
 {
@@ -223,12 +223,10 @@ fn replay_rows(words: &[u64], run: &[u8]) -> Replay
 }
 
 // Replays a recorded run of a table: how many steps follow the initialisation, or a refusal.
-pub fn replay(table: &[u8], run: &[u8]) -> Replay
+pub fn replay(table: &[u8], run: &[u8]) -> Result<u64, Refusal>
     ensures { result ≡ replay_of table.now run.now }
 {
     let mut words = [0u64; Table::WORDS];
-    match load(table, &mut words) {
-        Loaded::Refused(number, row) => Replay::Refused(number, row),
-        Loaded::Words(n) => replay_rows(&words[..n], run),
-    }
+    let n = load(table, &mut words)?;
+    replay_rows(&words[..n], run)
 }

@@ -9,6 +9,7 @@ use borrow.Author.Tests.{lt-leb, le-leb, leb-true, ne_eqb, ltb-true, ltb-false}
 use lib.Dec.{ltb, leb, eqb}
 use lib.ListN.{length, take, drop, length-append}
 use lib.Seq.{take_at}
+use Rattle.std.specs.Prelude.{Result, Ok, Err}
 use Rattle.lists.specs.Choice.{pick}
 use Rattle.lists.specs.Over.{over}
 use Rattle.lists.proofs.Choice.{chosen, not_chosen}
@@ -17,22 +18,21 @@ use Rattle.row.specs.Row.{width, row_length}
 use Rattle.row.specs.declared.Line.{Line}
 use Rattle.row.specs.declared.Line.TheVariants as line
 use Rattle.rules.specs.Decoded.{framed, row_count, line_of, not_row, line_words, words_of, decoded}
-use Rattle.rules.specs.declared.Verdict.TheVariants as answer
+use Rattle.rules.specs.declared.Refusal.{Refusal}
+use Rattle.rules.specs.Refusal.{refused}
 use Rattle.rules.specs.Verdict.{judge, verdict}
 use Rattle.rules.proofs.Cases.{verdict_frame, verdict_column, verdict_judge}
 use Rattle.decode.specs.declared.Decoded.TheVariants as decoding
 use Rattle.decode.specs.Decode.{first_bad, words_to, decoded_of}
 use Rattle.decode.proofs.Words.{words_none, words_more}
-use Rattle.verdict.specs.declared.Loaded.{Loaded}
-use Rattle.verdict.specs.declared.Loaded.TheVariants.{Words, Refused}
 use Rattle.verdict.specs.Loaded.{end_row, loaded_rows, loaded_of, loaded_words, judged}
 
-refused_not_words : (number row n : ℕ) → ◌≡◌ {A = Loaded} (Refused number row) (Words n) → ⊥
+refused_not_words : (number row n : ℕ) → ◌≡◌ {A = Result ℕ Refusal} (Err (refused number row)) (Ok n) → ⊥
 refused_not_words number row n e = let z : ◌≡◌ {A = ℕ} 0 1 = cc in omega arith
 
-abbrev words_in : Loaded → ℕ
-words_in (Words n) = n
-words_in (Refused number row) = 0
+abbrev words_in : Result ℕ Refusal → ℕ
+words_in (Ok n) = n
+words_in (Err r) = 0
 
 module _ (bytes : List ℕ) where
   abbrev rows : ℕ
@@ -42,7 +42,7 @@ module _ (bytes : List ℕ) where
   bad_at_most = omega (arith, (first_least (λ i. not_row (line_of bytes i)) rows 0).to)
 
   -- check 1
-  frame_false : framed bytes ≡ false → loaded_of bytes ≡ Refused 1 0
+  frame_false : framed bytes ≡ false → loaded_of bytes ≡ Err (refused 1 0)
   unfolding loaded_of
   frame_false p = not_chosen (framed bytes) _ _ p
 
@@ -60,7 +60,7 @@ module _ (bytes : List ℕ) where
   whole h e = ap (λ b. b && eqb (length bytes % 38) 0) (le-leb (length bytes) 65536 h) ∙ ap (λ n. eqb n 0) e
 
   -- what is answered and what the words hold, by check 1
-  pub refused_frame : framed bytes ≡ false → (words : List ℕ) → (Refused 1 0 ≡ loaded_of bytes) × (words ≡ loaded_words bytes words)
+  pub refused_frame : framed bytes ≡ false → (words : List ℕ) → (Err (refused 1 0) ≡ loaded_of bytes) × (words ≡ loaded_words bytes words)
   unfolding loaded_words
   refused_frame p words = (sym (frame_false p), sym (not_chosen (framed bytes) _ _ p))
 
@@ -96,7 +96,7 @@ module _ (bytes : List ℕ) where
       by_tests true false p q = verdict_judge bytes p (ltb-false (first_bad bytes rows) rows q) ∙ sym (ap (judged bytes) (loaded false p q))
 
   -- all rows are in the row form
-  rows_words : (b : Bool) (n : ℕ) → ltb (first_bad bytes rows) rows ≡ b → loaded_rows (pick b (decoding.Malformed (first_bad bytes rows)) (decoding.Complete rows)) ≡ Words n
+  rows_words : (b : Bool) (n : ℕ) → ltb (first_bad bytes rows) rows ≡ b → loaded_rows (pick b (decoding.Malformed (first_bad bytes rows)) (decoding.Complete rows)) ≡ Ok n
       → (first_bad bytes rows ≡ rows) × (4 * rows ≡ n)
   rows_words true n p e = absurd (refused_not_words 2 (first_bad bytes rows + 1) n e)
   rows_words false n p e = (omega (arith, ltb-false (first_bad bytes rows) rows p, bad_at_most), ap words_in e)
@@ -117,7 +117,7 @@ module _ (bytes : List ℕ) where
     all : first_bad bytes rows ≡ rows
     size : 4 * rows ≡ n
 
-  all_rows : (n : ℕ) → loaded_of bytes ≡ Words n → AllRows n
+  all_rows : (n : ℕ) → loaded_of bytes ≡ Ok n → AllRows n
   all_rows n e = by_frame (framed bytes) refl
     where
       by_frame : (b : Bool) → framed bytes ≡ b → AllRows n
@@ -127,13 +127,13 @@ module _ (bytes : List ℕ) where
           record { frame = p; all = whole.0; size = whole.1 }
 
   -- their words, which are those of the rows over the start of what was lent
-  words_size : (n : ℕ) → loaded_of bytes ≡ Words n → length (words_of bytes) ≡ n
+  words_size : (n : ℕ) → loaded_of bytes ≡ Ok n → length (words_of bytes) ≡ n
   unfolding words_of words_to
   words_size n e =
       let a = all_rows n e in
       words_length rows (λ i l. (first_least (λ i. not_row (line_of bytes i)) rows 0).before i (omega arith) (omega (arith, a.all))) ∙ a.size
 
-  words_held : (start : List ℕ) (n : ℕ) → loaded_of bytes ≡ Words n → take n (loaded_words bytes start) ≡ words_of bytes
+  words_held : (start : List ℕ) (n : ℕ) → loaded_of bytes ≡ Ok n → take n (loaded_words bytes start) ≡ words_of bytes
   unfolding over words_to words_of
   words_held start n e =
       let a = all_rows n e in
@@ -141,7 +141,7 @@ module _ (bytes : List ℕ) where
       ∙ take_at (words_of bytes) (drop (length (words_of bytes)) start) n (words_size n e)
 
   -- 65,536 bytes hold 1,724 rows
-  words_small : (n : ℕ) → loaded_of bytes ≡ Words n → n ≤ 6896
+  words_small : (n : ℕ) → loaded_of bytes ≡ Ok n → n ≤ 6896
   words_small n e =
       let a = all_rows n e in
       omega (arith, a.size, leb-true (length bytes) 65536 (and_left (leb (length bytes) 65536) (eqb (length bytes % 38) 0) a.frame))
@@ -157,18 +157,18 @@ module _ (bytes : List ℕ) where
     pub small : length (take n words) ≤ 6896
     pub holds : take n words ≡ words_of bytes
 
-  pub filled : (start words : List ℕ) (n : ℕ) → length words ≡ 6896 → words ≡ loaded_words bytes start → loaded_of bytes ≡ Words n → Filled words n
+  pub filled : (start words : List ℕ) (n : ℕ) → length words ≡ 6896 → words ≡ loaded_words bytes start → loaded_of bytes ≡ Ok n → Filled words n
   filled start words n e q p =
       let holds : take n words ≡ words_of bytes = ap (take n) q ∙ words_held start n p in
       let size : length (take n words) ≡ n = ap length holds ∙ words_size n p in
       record { within = omega (arith, words_small n p); size = sym size; small = omega (arith, size, words_small n p); holds = holds }
 
   -- an accepted table is judged so by its rows, which are within the limit
-  pub accepted_words : (n : ℕ) → verdict bytes ≡ answer.Accepted n → (judge (decoded bytes) ≡ answer.Accepted n) × (length (words_of bytes) ≤ 6896)
+  pub accepted_words : (n : ℕ) → verdict bytes ≡ Ok n → (judge (decoded bytes) ≡ Ok n) × (length (words_of bytes) ≤ 6896)
   accepted_words n e = by_loaded (loaded_of bytes) refl
     where
-      by_loaded : (l : Loaded) → loaded_of bytes ≡ l → (judge (decoded bytes) ≡ answer.Accepted n) × (length (words_of bytes) ≤ 6896)
-      by_loaded (Words m) p = (sym (verdict_judged ∙ ap (judged bytes) p) ∙ e, omega (arith, words_size m p, words_small m p))
-      by_loaded (Refused number row) p =
-          let q : answer.Refused number row ≡ answer.Accepted n = sym (verdict_judged ∙ ap (judged bytes) p) ∙ e in
+      by_loaded : (l : Result ℕ Refusal) → loaded_of bytes ≡ l → (judge (decoded bytes) ≡ Ok n) × (length (words_of bytes) ≤ 6896)
+      by_loaded (Ok m) p = (sym (verdict_judged ∙ ap (judged bytes) p) ∙ e, omega (arith, words_size m p, words_small m p))
+      by_loaded (Err r) p =
+          let q : Err r ≡ Ok n = sym (verdict_judged ∙ ap (judged bytes) p) ∙ e in
           absurd (let z : ◌≡◌ {A = ℕ} 0 1 = cc in omega arith)

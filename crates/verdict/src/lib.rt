@@ -14,61 +14,61 @@ use fault::{first_check, first_row};
 use nodes::fill_notes;
 use row::Row;
 use rule_missing::missing;
-use rules::Verdict;
+use rules::Refusal;
 use scan::Span;
 use table::Table;
 use walk::count;
 
-// How many words the rows of a table have, or refusal 1 or 2 with its row.
-#[derive(Clone, Copy)]
-pub enum Loaded {
-    Words(usize),
-    Refused(u64, u64),
-}
-
-// Where decoding ended: all rows are in the row form, or one is not.
-fn after_decoding(decoded: Decoded) -> Loaded
+// How many words the rows of a table have, by where decoding ended, or refusal 2 with the row that is not in the row form.
+fn after_decoding(decoded: Decoded) -> Result<usize, Refusal>
     requires { end_row decoded < 2 ^ 61 }
     ensures { result ≡ loaded_rows decoded }
 {
     match decoded {
-        Decoded::Complete(rows) => Loaded::Words(4 * rows),
-        Decoded::Malformed(row) => Loaded::Refused(2, row as u64 + 1),
+        Decoded::Complete(rows) => Ok(4 * rows),
+        Decoded::Malformed(row) => Err(Refusal {
+            number: 2,
+            row: row as u64 + 1,
+        }),
     }
 }
 
-// Checks 1 and 2, and the numbers of all rows as words.
-pub fn load(bytes: &[u8], words: &mut [u64]) -> Loaded
+// Checks 1 and 2, and the numbers of all rows as words; their count, or the refusal.
+pub fn load(bytes: &[u8], words: &mut [u64]) -> Result<usize, Refusal>
     requires { most_words ≤ length words.old }
     ensures value { result ≡ loaded_of bytes.now }
     ensures words_after { words.new ≡ loaded_words bytes.now words.old }
 {
     if Table::BYTES < bytes.len() {
-        return Loaded::Refused(1, 0);
+        return Err(Refusal { number: 1, row: 0 });
     }
     if bytes.len() % Row::LENGTH != 0 {
-        return Loaded::Refused(1, 0);
+        return Err(Refusal { number: 1, row: 0 });
     }
     after_decoding(decode(bytes, bytes.len() / Row::LENGTH, words))
 }
 
 // Checks 3 to 12, and the count of the sequents where none offends, by the counts of the rows and what is noted of them.
-pub fn judge_with(words: &[u64], table: Table, spans: &[usize]) -> Verdict
+pub fn judge_with(words: &[u64], table: Table, spans: &[usize]) -> Result<u64, Refusal>
     requires { (table ≡ counts_of (rows_of words.now)) × Noted (rows_of words.now) spans.now × (length words.now ≤ most_words) }
     ensures { result ≡ judge_of (rows_of words.now) }
 {
     let check = first_check(words, table, spans);
-    if check < Verdict::MISSING {
-        return Verdict::Refused(check, first_row(words, table, spans, check) as u64 + 1);
+    if check < Refusal::MISSING {
+        let row = first_row(words, table, spans, check) as u64 + 1;
+        return Err(Refusal { number: check, row });
     }
     if missing(words, table, spans) {
-        return Verdict::Refused(Verdict::MISSING, 0);
+        return Err(Refusal {
+            number: Refusal::MISSING,
+            row: 0,
+        });
     }
-    Verdict::Accepted(count(words, table, spans))
+    Ok(count(words, table, spans))
 }
 
 // The same, of the rows alone.
-pub fn judge(words: &[u64]) -> Verdict
+pub fn judge(words: &[u64]) -> Result<u64, Refusal>
     requires { length words.now ≤ most_words }
     ensures { result ≡ judge_of (rows_of words.now) }
 {
@@ -79,12 +79,10 @@ pub fn judge(words: &[u64]) -> Verdict
 }
 
 // "check (accepts a table by giving the count of sequents)"
-pub fn check(bytes: &[u8]) -> Verdict
+pub fn check(bytes: &[u8]) -> Result<u64, Refusal>
     ensures { result ≡ verdict_of bytes.now }
 {
     let mut words = [0u64; Table::WORDS];
-    match load(bytes, &mut words) {
-        Loaded::Refused(number, row) => Verdict::Refused(number, row),
-        Loaded::Words(n) => judge(&words[..n]),
-    }
+    let n = load(bytes, &mut words)?;
+    judge(&words[..n])
 }

@@ -1,6 +1,7 @@
 -- The worked table is accepted with 25 sequents, and its rows are these numbers: both computed.
 use mathlib.Core.Path.{◌≡◌, refl}
 use mathlib.Core.List.{flat_map}
+use Rattle.std.specs.Prelude.{Ok}
 use Rattle.lists.specs.Below.{count_below, first, numbers, keep}
 use Rattle.lists.specs.Different.{some_of}
 use Rattle.number.specs.Number.{columns_of}
@@ -22,7 +23,6 @@ use Rattle.rules.specs.Verdict.{first_check, judge, verdict}
 use Rattle.reply.specs.Printed.{rows_bytes}
 use Prim.Native.Nat.{ℕ}
 use mathlib.Core.List.{List, [], ◌∷◌}
-use Rattle.rules.specs.declared.Verdict.TheVariants.{Accepted}
 use Rattle.worked.specs.Worked.{bytes}
 
 unfoldable pub words : List ℕ
@@ -32,6 +32,6 @@ pub decodes : words_of bytes ≡ words
 unfolding words flat_map numbers columns_of number_of scan_from row_bytes line_of words_of rows_bytes
 decodes = refl
 
-pub accepted : verdict bytes ≡ Accepted 25
+pub accepted : verdict bytes ≡ Ok 25
 unfolding flat_map count_below first numbers keep columns_of number_of scan_from row_bytes section count start mentions operator_numbered type_numbered kind_numbered role_numbered tree_to tree_of action_of belonging variables_of machine_of in_order event_sequents obligations sequents some_of identifiers divides line_of words_of columns_used row_limit shape_of operand_sort result_sort sort_of may_mention may_mention_after sees_only tag_offends full_offends event_offends identifier_offends root_at reference_offends root_sort sort_offends uses_to use_offends sight_offends twice_offends offends missing first_check judge verdict rows_bytes
 accepted = refl

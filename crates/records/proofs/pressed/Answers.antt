@@ -5,7 +5,8 @@ use Prim.Native.Nat.{ℕ}
 use borrow.Author.Rules.{rules}
 use lib.IntN.{ℤ}
 use lib.ListN.{length, take, drop}
-use Rattle.bench.specs.declared.Press.{Press}
+use Rattle.std.specs.Prelude.{Result}
+use Rattle.rules.specs.declared.Refusal.{Refusal}
 use Rattle.bench.specs.Press.{Outcome, outcome, reply_of, kept_or}
 use Rattle.records.specs.declared.Done.{Done}
 use Rattle.records.specs.declared.Numbers.{Numbers}
@@ -17,12 +18,12 @@ module _ (table step : List ℕ) (all : Numbers) (r : ℕ) where
   abbrev o : Outcome
   o = outcome table step (take r all.values) (take r all.sorts) (length (take r all.values))
 
-  done : (n : ℕ) (reply : Press) (zs : List ℤ) → r ≡ few_of n → reply ≡ reply_of o → zs ≡ kept_or (λ zs. zs) (take r all.values) o
+  done : (n : ℕ) (reply : Result (Unit {0}) Refusal) (zs : List ℤ) → r ≡ few_of n → reply ≡ reply_of o → zs ≡ kept_or (λ zs. zs) (take r all.values) o
       → ◌≡◌ {A = Done} (record { numbers = record { values = zs ++ drop r all.values; sorts = all.sorts }; reply = reply }) (pressed_of table step all (few_of n))
   unfolding pressed_of
   done n reply zs e e' e'' =
       ap (λ (zs : List ℤ). record { numbers = record { values = zs ++ drop r all.values; sorts = all.sorts }; reply = reply }) e''
-      ∙ ap (λ (reply : Press). record { numbers = record { values = kept_or (λ zs. zs) (take r all.values) o ++ drop r all.values; sorts = all.sorts }; reply = reply }) e'
+      ∙ ap (λ (reply : Result (Unit {0}) Refusal). record { numbers = record { values = kept_or (λ zs. zs) (take r all.values) o ++ drop r all.values; sorts = all.sorts }; reply = reply }) e'
       ∙ ap (pressed_of table step all) e
 
 pub slice_bounds-values-end : goal.slice_bounds-values-end

@@ -5,7 +5,8 @@ use Prim.Native.Nat.{ℕ}
 use borrow.Author.Rules.{rules}
 use lib.IntN.{ℤ}
 use lib.ListN.{take, drop}
-use Rattle.bench.specs.declared.Press.{Press}
+use Rattle.std.specs.Prelude.{Result}
+use Rattle.rules.specs.declared.Refusal.{Refusal}
 use Rattle.bench.specs.Press.{Outcome, outcome, reply_of, kept_or}
 use Rattle.press.specs.Numbers.{room_for}
 use Rattle.records.specs.declared.Done.{Done}
@@ -18,10 +19,10 @@ module _ (table step : List ℕ) (first second : Numbers) (r r' : ℕ) where
   abbrev o : Outcome
   o = outcome table step (take r first.values) (take r first.sorts) (room_for (take r' second.values) (take r' second.sorts))
 
-  abbrev done_with : List ℤ → List ℕ → Press → Done
+  abbrev done_with : List ℤ → List ℕ → Result (Unit {0}) Refusal → Done
   done_with zs types reply = record { numbers = record { values = zs ++ drop r' second.values; sorts = types ++ drop r' second.sorts }; reply = reply }
 
-  done : (n m : ℕ) (reply : Press) (zs : List ℤ) (types : List ℕ) → r ≡ few_of n → r' ≡ few_of m → reply ≡ reply_of o
+  done : (n m : ℕ) (reply : Result (Unit {0}) Refusal) (zs : List ℤ) (types : List ℕ) → r ≡ few_of n → r' ≡ few_of m → reply ≡ reply_of o
       → zs ≡ kept_or (λ zs. zs) (take r' second.values) o → types ≡ kept_or (λ _. take r first.sorts) (take r' second.sorts) o
       → done_with zs types reply ≡ previewed_of table step first (few_of n) second (few_of m)
   unfolding previewed_of

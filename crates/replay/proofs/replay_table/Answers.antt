@@ -5,8 +5,8 @@ use Rattle.replay.proofs.replay_table.Goals as goal
 
 pub slice_bounds-words-end : goal.slice_bounds-words-end
 slice_bounds-words-end g c =
-    (filled c.args.bytes.now _ c.load.new.words c.in-Words.n c.load.auto.words c.load.ensures.words_after (sym c.load.ensures.value ∙ c.in-Words.is)).within
+    (filled c.args.bytes.now _ c.load.new.words c.in-Ok.n c.load.auto.words c.load.ensures.words_after (sym c.load.ensures.value ∙ c.in-Ok.is)).within
 
 pub slice_bounds-replay_rows-end : goal.slice_bounds-replay_rows-end
 slice_bounds-replay_rows-end g c =
-    (filled c.args.bytes.now _ c.load.new.words c.in-Words.n c.load.auto.words c.load.ensures.words_after (sym c.load.ensures.value ∙ c.in-Words.is)).size
+    (filled c.args.bytes.now _ c.load.new.words c.in-Ok.n c.load.auto.words c.load.ensures.words_after (sym c.load.ensures.value ∙ c.in-Ok.is)).size

@@ -3,8 +3,8 @@ use Prim.Native.Nat.{◌-◌, ◌≤◌}
 use mathlib.Core.Path.{ap, ap₂, sym, ◌∙◌}
 use native.Mathlib.Omega.{arith}
 use lib.ListN.{length}
+use Rattle.std.specs.Prelude.{Ok}
 use Rattle.table.specs.Rows.{rows_of}
-use Rattle.reply.specs.declared.Reply.TheVariants as reply
 use Rattle.reply.specs.Replies.{write_rows}
 use Rattle.spell.specs.Spell.{entry_rows}
 use Rattle.spell.proofs.Written.{all_rows}
@@ -48,7 +48,7 @@ returns c =
     let named = sym c.among.ensures ∙ c.if-not-among.false in
     let inside : c.args.j - 1 ≤ hypothesis_count t c.args.slot = omega (arith, c.count_entries.ensures, among_high c.args.j c.count_entries.result named) in
     let fits = rows_within (length c.args.out.now) (length (entry_rows t entry.result)) c.spell-rows.result (omega (arith, c.well_formed)) c.spell-rows.ensures.counted c.if-out-rows.false in
-    ap₂ (λ n out. outcome (reply.Written n) out) fits.1 (all_rows c.spell.ensures fits.0)
+    ap₂ (λ n out. outcome (Ok n) out) fits.1 (all_rows c.spell.ensures fits.0)
     ∙ sym (an_entry t c.args.slot c.args.j c.count_entries.result c.args.out.now c.count_entries.ensures named
     ∙ ap (λ rs. write_rows rs c.args.out.now) (spelled_entry_lem t c.args.slot c.args.j entry.result inside entry.ensures)
     ∙ room (entry_rows t entry.result) c.args.out.now fits.0)

@@ -3,9 +3,9 @@ use Prim.Native.Nat.{◌+◌}
 use mathlib.Core.Path.{◌≡◌, ap₂, sym, ◌∙◌}
 use native.Mathlib.Omega.{arith}
 use lib.ListN.{length}
+use Rattle.std.specs.Prelude.{Ok}
 use Rattle.table.specs.Rows.{rows_of}
 use Rattle.machine.specs.Described.{machine_of}
-use Rattle.reply.specs.declared.Reply.TheVariants as reply
 use Rattle.reply.specs.Printed.{sequent_rows}
 use Rattle.entries.specs.Sequent.{slot_sequent}
 use Rattle.entries.proofs.Seek.{at_most}
@@ -34,5 +34,5 @@ pub returns : goal.returns
 returns c =
     let t = rows_of c.args.words.now in
     let rows : c.count_entries-wanted.result + 2 ≡ length (sequent_rows (machine_of t) (slot_sequent t c.args.slot)) = omega (arith, rows_count t c.args.slot, c.count_entries-wanted.ensures) in
-    ap₂ (λ n out. outcome (reply.Written n) out) rows c.write_slot.ensures.out_after
+    ap₂ (λ n out. outcome (Ok n) out) rows c.write_slot.ensures.out_after
     ∙ sym (room (sequent_rows (machine_of t) (slot_sequent t c.args.slot)) c.args.out.now (omega (arith, rows, c.if-out-wanted.false)))

@@ -2,8 +2,9 @@
 use mathlib.Core.Path.{ap, ap₂, sym, subst, ◌∙◌}
 use Prim.Native.Nat.{◌+◌, ◌≤◌}
 use native.Mathlib.Omega.{arith}
+use Rattle.std.specs.Prelude.{Ok, Err}
 use Rattle.table.specs.Rows.{rows_of}
-use Rattle.rules.specs.declared.Verdict.TheVariants.{Accepted, Refused}
+use Rattle.rules.specs.Refusal.{refused}
 use Rattle.rules.specs.Verdict.{first_row, first_check, PassedBefore}
 use Rattle.rules.proofs.Cases.{judge_row, judge_missing, judge_accepted, row_at_most, first_passed}
 use Rattle.verdict.proofs.judge_with.Goals as goal
@@ -18,8 +19,8 @@ first_row-requires c =
       passed_before = subst (PassedBefore (rows_of c.args.words.now)) (sym c.first_check-check.ensures) (first_passed (rows_of c.args.words.now));
     }
 
-pub overflow_add-result : goal.overflow_add-result
-overflow_add-result c =
+pub overflow_add-row : goal.overflow_add-row
+overflow_add-row c =
     let a = c.args in
     let t = rows_of a.words.now in
     omega (arith, c.first_row.ensures, row_at_most t c.first_check-check.result)
@@ -28,7 +29,7 @@ pub returns-then-check-lt-MISSING : goal.returns-then-check-lt-MISSING
 returns-then-check-lt-MISSING c =
     let a = c.args in
     let t = rows_of a.words.now in
-    ap₂ (λ k r. Refused k (r + 1)) c.first_check-check.ensures (c.first_row.ensures ∙ ap (first_row t) c.first_check-check.ensures)
+    ap₂ (λ k r. Err (refused k (r + 1))) c.first_check-check.ensures (c.first_row.ensures ∙ ap (first_row t) c.first_check-check.ensures)
     ∙ sym (judge_row t (omega (arith, c.first_check-check.ensures, c.if-check-lt-MISSING.true)))
 
 pub returns-then-missing : goal.returns-then-missing
@@ -50,4 +51,4 @@ pub returns : goal.returns
 returns c =
     let a = c.args in
     let t = rows_of a.words.now in
-    ap Accepted c.count.ensures ∙ sym (judge_accepted t (omega (arith, c.first_check-check.ensures, c.if-check-lt-MISSING.false)) (sym c.missing.ensures ∙ c.if-missing.false))
+    ap Ok c.count.ensures ∙ sym (judge_accepted t (omega (arith, c.first_check-check.ensures, c.if-check-lt-MISSING.false)) (sym c.missing.ensures ∙ c.if-missing.false))
