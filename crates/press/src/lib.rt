@@ -27,7 +27,7 @@ use reader::next_row;
 use recording::Replay;
 use row::{Place, Read};
 use rules::Verdict;
-use scan::{Span, lesser};
+use scan::Span;
 use state::{copy_sorts, copy_values, is_state};
 use table::Table;
 use values::{Reached, is_step_row, read_values};
@@ -285,6 +285,6 @@ pub fn preview_numbers(
 {
     let mut copy = [0i64; Table::IDENTIFIERS as usize + 1];
     copy_values(values, &mut copy);
-    let n = lesser(values.len(), Table::IDENTIFIERS as usize + 1);
+    let n = values.len().min(Table::IDENTIFIERS as usize + 1);
     preview_copy(table, step, &mut copy[..n], sorts, second, types)
 }
