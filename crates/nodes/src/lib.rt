@@ -2,8 +2,7 @@
 // and whether it divides, and of each event the set of those that it assigns.
 #![tactic(auto)]
 
-ghost use Rattle.std.specs.Prelude.{◌≡◌, ◌&&◌, ◌+◌, ◌≤◌, ◌<◌, leb, ltb, length};
-ghost use Rattle.lists.specs.Choice.{pick};
+ghost use Rattle.std.specs.Prelude.{◌≡◌, ◌&&◌, ◌+◌, ◌≤◌, ◌<◌, leb, length};
 ghost use Rattle.table.specs.Rows.{rows_of, is_action};
 ghost use Rattle.table.specs.Counts.{counts_of};
 ghost use Rattle.machine.specs.Described.{tree_of};

@@ -2,7 +2,7 @@
 use mathlib.Core.Path.{◌≡◌, refl, sym, ap, ◌∙◌}
 use mathlib.Core.Bool.{Bool, true, false}
 use mathlib.Core.List.{List}
-use Prim.Native.Nat.{ℕ, ◌≤◌}
+use Prim.Native.Nat.{ℕ, min, ◌≤◌}
 use native.Mathlib.Omega.{arith}
 use borrow.Author.Tests.{ltb-true, ltb-false}
 use lib.Dec.{ltb, eqb, eqb→eq}
@@ -11,7 +11,6 @@ use lib.ListN.{length, take, drop, replicate, length-replicate}
 use lib.Seq.{take_all, take_at, length-take-le}
 use Rattle.std.specs.Prelude.{Result, Ok, Err}
 use Rattle.lists.specs.Choice.{pick}
-use Rattle.lists.proofs.Choice.{lesser_of_lem}
 use Rattle.formula.proofs.Truth.{true_test}
 use Rattle.rules.specs.declared.Refusal.{Refusal}
 use Rattle.bench.specs.State.{laid}
@@ -72,12 +71,12 @@ module _ (table step : List ℕ) (copy : List ℤ) (sorts : List ℕ) (ss : List
       go (refused n row) e t v = absurd (performed_never (sym t))
 
 -- ---- the copy that is pressed on: the first 65 values
-module _ (zs : List ℤ) {n : ℕ} (is : n ≡ pick (ltb (length zs) 65) (length zs) 65) where
+module _ (zs : List ℤ) {n : ℕ} (is : n ≡ min (length zs) 65) where
   abbrev places : List ℤ
   places = replicate 65 (pos 0)
 
   pub copy_few : n ≤ 65
-  copy_few = let l = (lesser_of_lem (length zs) 65).right in omega (arith, is, l)
+  copy_few = omega arith
 
   copied : length zs ≤ 65 → take (length zs) (laid zs places) ≡ zs
   unfolding laid
@@ -87,12 +86,15 @@ module _ (zs : List ℤ) {n : ℕ} (is : n ≡ pick (ltb (length zs) 65) (length
       take_at (take (length places) zs) (drop (length zs) places) (length zs) (ap length t) ∙ t
 
   pub copy_outcome : (table step : List ℕ) (sorts : List ℕ) (room : ℕ) {ys : List ℤ} → ys ≡ take n (laid zs places) → outcome table step ys sorts room ≡ outcome table step zs sorts room
-  copy_outcome table step sorts room q = ap (λ ys. outcome table step ys sorts room) q ∙ go (ltb (length zs) 65) refl is
+  copy_outcome table step sorts room q = ap (λ ys. outcome table step ys sorts room) q ∙ go (ltb (length zs) 65) refl
     where
-      go : (b : Bool) → ltb (length zs) 65 ≡ b → n ≡ pick b (length zs) 65 → outcome table step (take n (laid zs places)) sorts room ≡ outcome table step zs sorts room
-      go true h e = let l = ltb-true (length zs) 65 h in ap (λ ys. outcome table step ys sorts room) (ap (λ m. take m (laid zs places)) e ∙ copied (omega (arith, l)))
-      go false h e =
+      go : (b : Bool) → ltb (length zs) 65 ≡ b → outcome table step (take n (laid zs places)) sorts room ≡ outcome table step zs sorts room
+      go true h =
+          let l = ltb-true (length zs) 65 h in
+          let e : n ≡ length zs = omega (arith, l) in
+          ap (λ ys. outcome table step ys sorts room) (ap (λ m. take m (laid zs places)) e ∙ copied (omega (arith, l)))
+      go false h =
           let l = ltb-false (length zs) 65 h in
           let s = laid_size zs places ∙ length-replicate 65 (pos 0) in
-          let m = length-take-le n (laid zs places) (omega (arith, e, s)) in
-          outcome_long table step (take n (laid zs places)) zs sorts sorts room room (omega (arith, m, e)) (omega (arith, l))
+          let m = length-take-le n (laid zs places) (omega (arith, s)) in
+          outcome_long table step (take n (laid zs places)) zs sorts sorts room room (omega (arith, m, l)) (omega (arith, l))

@@ -24,7 +24,7 @@ use nodes::fill_notes;
 use reader::next_row;
 use row::{Place, Read};
 use rules::Refusal;
-use scan::{Span, lesser};
+use scan::Span;
 use state::{copy_list, is_state};
 use table::Table;
 use values::{is_step_row, read_values};
@@ -285,6 +285,6 @@ pub fn preview_numbers(
 {
     let mut copy = [0i64; Table::IDENTIFIERS as usize + 1];
     copy_list(values, &mut copy);
-    let n = lesser(values.len(), Table::IDENTIFIERS as usize + 1);
+    let n = values.len().min(Table::IDENTIFIERS as usize + 1);
     preview_copy(table, step, &mut copy[..n], sorts, second, types)
 }

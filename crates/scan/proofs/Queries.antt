@@ -1,9 +1,9 @@
 -- A row that passes a query is one of the rows of the query's tag: by the query. So where the search for one starts and ends makes no difference.
-use Prim.Native.Nat.{ℕ, ◌≤◌}
+use Prim.Native.Nat.{ℕ, min, ◌≤◌}
 use mathlib.Core.Path.{◌≡◌, refl, ap, sym, ◌∙◌}
 use mathlib.Core.Bool.{Bool, true, false, ◌&&◌, ◌||◌}
 use native.Mathlib.Omega.{arith}
-use borrow.Author.Tests.{eqb-true, ltb-false}
+use borrow.Author.Tests.{eqb-true}
 use lib.Dec.{ltb, eqb}
 use Rattle.lists.specs.Choice.{pick}
 use Rattle.lists.specs.Below.{some_below}
@@ -84,12 +84,7 @@ module _ (t : Rows) where
 
   -- to the end of the span, or to row n where that comes first
   pub some_to : (q : Query) (n : ℕ) → n ≤ t.size
-      → some_below (passes_of t q) (pick (ltb n (tag_span t (query_tag q)).to) n (tag_span t (query_tag q)).to) ≡ some_below (passes_of t q) n
-  some_to q n h = go (ltb n to) refl
-    where
-      to : ℕ
-      to = (tag_span t (query_tag q)).to
-
-      go : (b : Bool) → ltb n to ≡ b → some_below (passes_of t q) (pick b n to) ≡ some_below (passes_of t q) n
-      go true e = refl
-      go false e = ap (ltb 0) (count_stays (passes_of t q) to n (ltb-false n to e) (λ j l k. (query_spans q).above j l (omega arith)))
+      → some_below (passes_of t q) (min n (tag_span t (query_tag q)).to) ≡ some_below (passes_of t q) n
+  some_to q n h =
+      let to = (tag_span t (query_tag q)).to in
+      ap (ltb 0) (count_stays (passes_of t q) (min n to) n (omega arith) (λ j l k. (query_spans q).above j (omega arith) (omega arith)))

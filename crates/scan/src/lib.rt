@@ -292,7 +292,7 @@ pub fn some_row(words: &[u64], spans: &[usize], query: Query, n: usize) -> bool
 {
     let span = span_at(words, spans, query_tag(query));
     let from = span.from;
-    let to = lesser(n, span.to);
+    let to = n.min(span.to);
     some_within(words, query, Span { from, to })
 }
 

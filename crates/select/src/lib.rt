@@ -1,8 +1,7 @@
 // The rows that a group of sequents, or a part of the hypotheses, is made from: which rows they are, and a walk from one to the next.
 #![tactic(auto)]
 
-ghost use Rattle.std.specs.Prelude.{◌≡◌, ◌+◌, ◌≤◌, ◌<◌, ◌&&◌, ltb};
-ghost use Rattle.lists.specs.Choice.{pick};
+ghost use Rattle.std.specs.Prelude.{◌≡◌, ◌+◌, ◌≤◌, ◌<◌, ◌&&◌};
 ghost use Rattle.table.specs.Rows.{rows_of, count};
 ghost use Rattle.table.specs.Counts.{counts_of};
 ghost use Rattle.nodes.specs.Notes.{Noted};
@@ -11,7 +10,7 @@ ghost use Rattle.select.specs.Each.{item_at, divisions, weight, count_at};
 ghost use Rattle.select.specs.Sought.{Passed};
 
 use nodes::{note_at, touches};
-use scan::{Span, lesser, span_at};
+use scan::{Span, span_at};
 use table::{
     Table, a_at, b_at, c_at, identifier_field, is_variable, is_variable_of, one_if, size, tag,
     tag_at,
@@ -270,13 +269,6 @@ fn count_at(
     0
 }
 
-// The greater of two numbers.
-fn greater(m: usize, n: usize) -> usize
-    ensures { result ≡ pick (ltb m n) n m }
-{
-    if m < n { n } else { m }
-}
-
 // A row, and how many of the sequents or entries from it on are still to be passed over.
 #[derive(Clone, Copy)]
 pub struct Sought {
@@ -300,8 +292,8 @@ pub fn seek_row(
     ensures { Passed (count_at (rows_of words.now) rows each) end from result }
 {
     let span = selected_span(words, table, spans, rows);
-    let last = lesser(span.to, end);
-    let start = lesser(greater(from.row, span.from), end);
+    let last = span.to.min(end);
+    let start = from.row.max(span.from).min(end);
     let mut left = from.left;
     for row in start..last {
         let count = count_at(words, table, spans, rows, each, row);

@@ -13,20 +13,20 @@ pub slice_bounds-copy-end : goal.slice_bounds-copy-end
 slice_bounds-copy-end c =
     let copied = c.copy_list in
     let size = ap length copied.ensures ∙ laid_size _ (replicate 65 (pos 0)) in
-    let few = copy_few c.args.values.now c.lesser-n.ensures in
+    let few = copy_few c.args.values.now c.min-n.ensures in
     omega (arith, size, few)
 
 pub slice_bounds-preview_copy-end : goal.slice_bounds-preview_copy-end
 slice_bounds-preview_copy-end c =
     let copied = c.copy_list in
     let size = ap length copied.ensures ∙ laid_size _ (replicate 65 (pos 0)) in
-    let few = copy_few c.args.values.now c.lesser-n.ensures in
-    sym (length-take-le c.lesser-n.result copied.new.to (omega (arith, size, few)))
+    let few = copy_few c.args.values.now c.min-n.ensures in
+    sym (length-take-le c.min-n.result copied.new.to (omega (arith, size, few)))
 
 pub returns : goal.returns
 returns c =
     let a = c.args in
-    let n = c.lesser-n in
+    let n = c.min-n in
     let copy = copy_outcome a.values.now n.ensures a.table.now a.step.now a.sorts.now (room_for a.second.now a.types.now) (ap (take n.result) c.copy_list.ensures) in
     let both = as_writes a.sorts.now a.second.now a.types.now (sym copy) (c.preview_copy.ensures.value, (c.preview_copy.ensures.second_after, c.preview_copy.ensures.types_after)) in
     record { value = both.0; second_after = both.1.0; types_after = both.1.1 }

@@ -1,7 +1,6 @@
 -- No row that passes stands outside the span of the query's tag (Queries).
+use Prim.Native.Nat.{min}
 use mathlib.Core.Path.{ap, sym, subst, ◌∙◌}
-use lib.Dec.{ltb}
-use Rattle.lists.specs.Choice.{pick}
 use Rattle.lists.specs.Below.{NoneBelow, some_below}
 use Rattle.table.specs.Rows.{rows_of}
 use Rattle.scan.specs.Query.{passes_of}
@@ -21,5 +20,5 @@ returns c =
     let P = passes_of t c.args.query in
     let span = c.span_at-span.ensures ∙ ap (tag_span t) c.query_tag.ensures in
     c.some_within.ensures
-    ∙ ap (some_below P) (c.lesser-to.ensures ∙ ap (λ r. pick (ltb c.args.n r.to) c.args.n r.to) span)
+    ∙ ap (some_below P) (c.min-to.ensures ∙ ap (λ r. min c.args.n r.to) span)
     ∙ some_to t c.args.query c.args.n c.requires.1
