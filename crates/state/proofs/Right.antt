@@ -5,7 +5,6 @@ use mathlib.Core.List.{List}
 use Prim.Native.Nat.{ℕ, suc, ◌+◌, ◌-◌, ◌≤◌, ◌<◌}
 use native.Mathlib.Omega.{arith}
 use native.Mathlib.Numerals.{add-one}
-use native.Mathlib.Nat.{sub-zero}
 use lib.Dec.{eqb}
 use lib.IntN.{ℤ, pos}
 use lib.ListN.{length, get_or}
@@ -27,9 +26,6 @@ module _ (t : Rows) (zs : List ℤ) (types : List ℕ) where
   state_is p q = ap₂ (λ n right. (eqb (length zs) n && eqb (length types) n) && right) p q
 
 module _ (P : ℕ → Bool) (n : ℕ) where
-  pub some_start : some_of P (numbers (n - 0) 1) ≡ some_of P (numbers n 1)
-  some_start = ap (λ m. some_of P (numbers m 1)) (sub-zero n)
-
   some_from : (x : ℕ) → x < n → some_of P (numbers (n - x) (x + 1)) ≡ (P (x + 1) || some_of P (numbers (n - (x + 1)) (x + 1 + 1)))
   unfolding some_of numbers
   some_from x h =

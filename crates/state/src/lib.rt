@@ -31,8 +31,7 @@ fn is_of_type(sort: u64, value: i64) -> bool
 fn sort_at(sorts: &[u64], x: u64) -> u64
     ensures { result ≡ get_or sorts.now x 0 }
 {
-    let i = x as usize;
-    if i < sorts.len() { sorts[i] } else { 0 }
+    sorts.get(x as usize).copied().unwrap_or(0)
 }
 
 // Whether the record of the identifier after x is wrong.

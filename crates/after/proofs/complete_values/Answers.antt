@@ -21,9 +21,6 @@ loop-x-preserved c =
           ∙ c.loop-x.invariant.1,
     )
 
-pub shape_of-after : goal.shape_of-after
-shape_of-after c = c.loop-x.invariant.0
-
 pub returns : goal.returns
 returns c =
     let t = rows_of c.args.words.now in

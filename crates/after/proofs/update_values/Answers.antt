@@ -1,17 +1,10 @@
 -- The state's values, in their places, with the after values moved into them.
-use mathlib.Core.Path.{sym, ap, ◌∙◌}
+use mathlib.Core.Path.{ap, ◌∙◌}
 use mathlib.Core.List.{[], ◌∷◌, ◌++◌, append-nil}
 use lib.IntN.{pos}
-use lib.ListN.{length}
-use Prim.Native.Nat.{suc}
 use Rattle.table.specs.Rows.{rows_of}
-use Rattle.bench.proofs.State.{laid_size}
 use Rattle.after.proofs.Updated.{placed_is, updated_is}
 use Rattle.after.proofs.update_values.Goals as goal
-
-pub slice_bounds-move_values-end : goal.slice_bounds-move_values-end
-slice_bounds-move_values-end c =
-    sym (ap (λ zs. suc (length zs)) (append-nil c.copy_list.new.to ∙ c.copy_list.ensures) ∙ ap suc (laid_size _ _))
 
 pub returns : goal.returns
 returns c =

@@ -4,16 +4,8 @@ use native.Mathlib.Omega.{arith}
 use Rattle.table.specs.Rows.{rows_of, count}
 use Rattle.table.proofs.Counts.{counts_identifiers}
 use Rattle.bench.specs.State.{is_wrong}
-use Rattle.state.proofs.Right.{some_start, some_here, some_next, some_end}
+use Rattle.state.proofs.Right.{some_here, some_next, some_end}
 use Rattle.state.proofs.all_right.Goals as goal
-
-pub loop-x-init : goal.loop-x-init
-loop-x-init c =
-    let t = rows_of c.args.words.now in
-    some_start (is_wrong t c.args.values.now c.args.sorts.now) (count t 10)
-
-pub is_wrong-requires : goal.is_wrong-requires
-is_wrong-requires c = (c.requires, omega arith)
 
 pub returns-then-is_wrong : goal.returns-then-is_wrong
 returns-then-is_wrong c =
