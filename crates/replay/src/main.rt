@@ -107,13 +107,13 @@ fn replay_parts<R: Read>(
         let last = held < WINDOW;
         let part = &window[..held];
         match replay_part(words, table, spans, part, last, n, before, present, after) {
-            Part::More(steps, next) => {
+            Ok(Part::More(steps, next)) => {
                 n = steps;
                 before += (next.at / Row::LENGTH) as u64;
                 held = keep_rest(window, held, next.at);
             }
-            Part::Ended(steps) => return print(rt, Ok(steps)),
-            Part::Refused(number, row) => return print(rt, Err(Refusal { number, row })),
+            Ok(Part::Ended(steps)) => return print(rt, Ok(steps)),
+            Err(refusal) => return print(rt, Err(refusal)),
         }
         parts += 1;
     }

@@ -25,7 +25,7 @@ use Rattle.values.specs.Values.{lines_at, row_at, AtHand}
 use Rattle.steps.specs.declared.Progress.{Progress}
 use Rattle.steps.specs.declared.Progress.TheVariants as step
 use Rattle.steps.specs.declared.Part.{Part}
-use Rattle.steps.specs.declared.Part.TheVariants.{More, Ended, Refused}
+use Rattle.steps.specs.declared.Part.TheVariants.{More, Ended}
 use Rattle.steps.specs.Steps.{replay_on, ReplaysStep, BeginsWithin}
 use Rattle.steps.specs.Parts.{later_row, replay_rest, part_on, ReplaysPart, is_more, Windows, stops, goes_on, Stops}
 use Rattle.steps.proofs.Later.{later, rest_later, rest_within}
@@ -70,7 +70,7 @@ module _ (t : Rows) (before : ℕ) (part : List ℕ) (last : Bool) (n₀ : ℕ) 
         let l = lines_few all in
         taken.same more f (suc (length all)) ∙ replay_enough t (n - n₀ + suc (length all)) (suc (length (lines all))) n₀ 1 (lines all) us (omega (arith, l)) (omega arith)
 
-    pub part_more : (p : Place) → p.at ≡ at → last ≡ false → ReplaysPart t n₀ before part last us (More n p) vs × Stops (More n p) n₀ part last
+    pub part_more : (p : Place) → p.at ≡ at → last ≡ false → ReplaysPart t n₀ before part last us (Ok (More n p)) vs × Stops (Ok (More n p)) n₀ part last
     unfolding part_on replay_rest
     part_more p e f = (
       λ more follows.
@@ -86,7 +86,7 @@ module _ (t : Rows) (before : ℕ) (part : List ℕ) (last : Bool) (n₀ : ℕ) 
     )
 
     -- ---- a step more, all of whose rows are at hand
-    module _ (enough : (last || ltb (count t 10) ((length part - at) / row_length width)) ≡ true) (r : Progress) (ws : Values)
+    module _ (enough : (last || ltb (count t 10) ((length part - at) / row_length width)) ≡ true) (r : Result Progress Refusal) (ws : Values)
         (reads : ReplaysStep t n part at vs r ws) (begins : BeginsWithin r (at + row_length width) (length part)) where
       at_hand_lem : (more : List ℕ) → Follows last more → AtHand part at (1 + count t 10) more
       at_hand_lem more f = go last enough f
@@ -101,7 +101,7 @@ module _ (t : Rows) (before : ℕ) (part : List ℕ) (last : Bool) (n₀ : ℕ) 
       whole : (more : List ℕ) → Follows last more → replay_on t r (length (part ++ more)) n (part ++ more) ws ≡ replay_rest t n₀ 1 (lines (part ++ more)) us
       whole more f = reads more (at_hand_lem more f) (length (part ++ more)) ∙ all_same more f
 
-      pub taken_next : (p : Place) → r ≡ step.Going p → Taken (n + 1) p.at ws
+      pub taken_next : (p : Place) → r ≡ Ok (step.Going p) → Taken (n + 1) p.at ws
       unfolding replay_on
       taken_next p q =
           let b = subst (λ r. BeginsWithin r (at + row_length width) (length part)) q begins in
@@ -117,46 +117,46 @@ module _ (t : Rows) (before : ℕ) (part : List ℕ) (last : Bool) (n₀ : ℕ) 
             few = omega (arith, w, low);
           }
 
-      pub taken_further : (p : Place) → r ≡ step.Going p → at < p.at
+      pub taken_further : (p : Place) → r ≡ Ok (step.Going p) → at < p.at
       taken_further p q = let low = (subst (λ r. BeginsWithin r (at + row_length width) (length part)) q begins).0 in omega (arith, low)
 
-      pub part_ended : (steps : ℕ) → r ≡ step.Ended steps → ReplaysPart t n₀ before part last us (Ended steps) ws
+      pub part_ended : (steps : ℕ) → r ≡ Ok (step.Ended steps) → ReplaysPart t n₀ before part last us (Ok (Ended steps)) ws
       unfolding replay_on part_on later
       part_ended steps q more f =
           ap (later before) (ap (λ r. replay_on t r (length (part ++ more)) n (part ++ more) ws) (sym q) ∙ whole more f) ∙ sym (rest_later t before n₀ 1 (lines (part ++ more)) us (omega arith))
 
-      module _ (number row : ℕ) (q : r ≡ step.Refused number row) where
-        refused : (more : List ℕ) → Follows last more → Err (refusal number row) ≡ replay_rest t n₀ 1 (lines (part ++ more)) us
+      module _ (wrong : Refusal) (q : r ≡ Err wrong) where
+        refused : (more : List ℕ) → Follows last more → Err wrong ≡ replay_rest t n₀ 1 (lines (part ++ more)) us
         unfolding replay_on
         refused more f = ap (λ r. replay_on t r (length (part ++ more)) n (part ++ more) ws) (sym q) ∙ whole more f
 
-        pub refused_within : row ≤ 1 + length part
+        pub refused_within : wrong.row ≤ 1 + length part
         refused_within =
             let all = part ++ [] in
-            let h = rest_within t n₀ 1 (lines all) us number row (refused [] (λ last. refl)) in
+            let h = rest_within t n₀ 1 (lines all) us wrong.number wrong.row (refused [] (λ last. refl)) in
             let l = lines_few all in
             let e = ap length (append-nil part) in
             omega (arith, h, l, e)
 
-        pub part_refused : {later-row : ℕ} → later-row ≡ later_row before row → ReplaysPart t n₀ before part last us (Refused number later-row) ws
+        pub part_refused : {later-row : ℕ} → later-row ≡ later_row before wrong.row → ReplaysPart t n₀ before part last us (Err (refusal wrong.number later-row)) ws
         unfolding part_on later
-        part_refused is more f = ap (λ r. Err (refusal number r)) is ∙ ap (later before) (refused more f) ∙ sym (rest_later t before n₀ 1 (lines (part ++ more)) us (omega arith))
+        part_refused is more f = ap (λ r. Err (refusal wrong.number r)) is ∙ ap (later before) (refused more f) ∙ sym (rest_later t before n₀ 1 (lines (part ++ more)) us (omega arith))
 
 -- ---- a part that is the whole of a run
-module _ (t : Rows) (run : List ℕ) (us ws : Values) (r : Part) (reads : ReplaysPart t 0 0 run true us r ws) (stops : Stops r 0 run true) where
+module _ (t : Rows) (run : List ℕ) (us ws : Values) (r : Result Part Refusal) (reads : ReplaysPart t 0 0 run true us r ws) (stops : Stops r 0 run true) where
   whole_run : part_on t 0 r run ws ≡ replay_rest t 0 1 (lines run) us
   whole_run = subst (λ all. part_on t 0 r all ws ≡ replay_rest t 0 1 (lines all) us) (append-nil run) (reads [] (λ last. refl))
 
-  pub never_more : (n : ℕ) (p : Place) → r ≡ More n p → ⊥
+  pub never_more : (n : ℕ) (p : Place) → r ≡ Ok (More n p) → ⊥
   never_more n p q = true≢false (subst (λ r. Stops r 0 run true) q stops).0
 
-  pub run_ended : (steps : ℕ) → r ≡ Ended steps → Ok steps ≡ replay_rest t 0 1 (lines run) us
+  pub run_ended : (steps : ℕ) → r ≡ Ok (Ended steps) → Ok steps ≡ replay_rest t 0 1 (lines run) us
   unfolding part_on
   run_ended steps q = ap (λ r. part_on t 0 r run ws) (sym q) ∙ whole_run
 
-  pub run_refused : (number row : ℕ) → r ≡ Refused number row → Err (refusal number row) ≡ replay_rest t 0 1 (lines run) us
+  pub run_refused : (wrong : Refusal) → r ≡ Err wrong → Err wrong ≡ replay_rest t 0 1 (lines run) us
   unfolding part_on
-  run_refused number row q = ap (λ r. part_on t 0 r run ws) (sym q) ∙ whole_run
+  run_refused wrong q = ap (λ r. part_on t 0 r run ws) (sym q) ∙ whole_run
 
 -- a run replayed from its first row on
 pub replay_whole : (t : Rows) (run : List ℕ) → replay_rest t 0 1 (lines run) no_values ≡ replay_log t run
@@ -166,11 +166,11 @@ replay_whole t run = refl
 -- ---- windows
 module _ (t : Rows) where
   -- a reply that is there doesn't turn on the bytes
-  reply_there : (before : ℕ) (r : Part) (run other : List ℕ) (ws : Values) → is_more r ≡ false → part_on t before r run ws ≡ part_on t before r other ws
+  reply_there : (before : ℕ) (r : Result Part Refusal) (run other : List ℕ) (ws : Values) → is_more r ≡ false → part_on t before r run ws ≡ part_on t before r other ws
   unfolding part_on
-  reply_there before (More n place) run other ws h = absurd (true≢false h)
-  reply_there before (Ended steps) run other ws h = refl
-  reply_there before (Refused number row) run other ws h = refl
+  reply_there before (Ok (More n place)) run other ws h = absurd (true≢false h)
+  reply_there before (Ok (Ended steps)) run other ws h = refl
+  reply_there before (Err wrong) run other ws h = refl
 
   -- Windows that are replayed one after another give the reply of the run that they are made of.
   pub windows_replay : {n before : ℕ} {window unread : List ℕ} {vs : Values} {reply : Result ℕ Refusal} → Windows t n before window vs unread reply → reply ≡ replay_rest t n (before + 1) (lines (window ++ unread)) vs

@@ -25,12 +25,11 @@ use Rattle.rules.specs.Refusal.{refused}
 use Rattle.recording.specs.Rows.{logged, is_step_row}
 use Rattle.recording.specs.Faults.{no_fault, log_fault, step_fault}
 use Rattle.recording.specs.Replay.{Values, Found, read_values, moved, judged, replay_from, replay_log, replay_by, replay}
-use Rattle.values.specs.declared.Reached.{Reached}
-use Rattle.values.specs.declared.Reached.TheVariants.{Next, Bad}
-use Rattle.values.specs.Values.{wanted, lines_at, row_at, AtHand, read_on, ReadsValues, Reaches}
+use Rattle.values.specs.declared.BadRow.{BadRow}
+use Rattle.values.specs.Values.{Reached, wanted, lines_at, row_at, AtHand, read_on, ReadsValues, Reaches}
 use Rattle.values.proofs.Reading.{end_lines, malformed_lines, row_lines, next_place, wanted_within, wanted_logged}
 use Rattle.steps.specs.declared.Progress.{Progress}
-use Rattle.steps.specs.declared.Progress.TheVariants.{Going, Ended, Refused}
+use Rattle.steps.specs.declared.Progress.TheVariants.{Going, Ended}
 use Rattle.steps.specs.Steps.{ended_after, step_progress, step_values, replay_on, TakesStep, ReplaysStep, BeginsWithin}
 
 module _ (t : Rows) where
@@ -39,15 +38,15 @@ module _ (t : Rows) where
     abbrev fault : ℕ
     fault = step_fault t e vs.present vs.after
 
-    pub step_refused : (f ≡ 0 → ⊥) → (Refused f i ≡ step_progress t e i next vs) × (vs ≡ step_values t e vs)
+    pub step_refused : (f ≡ 0 → ⊥) → (Err (refused f i) ≡ step_progress t e i next vs) × (vs ≡ step_values t e vs)
     step_refused h =
         let z = ne_eqb fault no_fault (λ q. h (is ∙ q)) in
-        (ap (λ f. Refused f i) is ∙ sym (ap (λ b. pick b (Going next) (Refused fault i)) z), sym (ap (λ b. pick b (moved t vs) vs) z))
+        (ap (λ f. Err (refused f i)) is ∙ sym (ap (λ b. pick b (Ok (Going next)) (Err (refused fault i))) z), sym (ap (λ b. pick b (moved t vs) vs) z))
 
-    pub step_allowed : {ws : Values} → f ≡ 0 → ws ≡ moved t vs → (Going next ≡ step_progress t e i next vs) × (ws ≡ step_values t e vs)
+    pub step_allowed : {ws : Values} → f ≡ 0 → ws ≡ moved t vs → (Ok (Going next) ≡ step_progress t e i next vs) × (ws ≡ step_values t e vs)
     step_allowed h m =
         let z = eq-eqb fault no_fault (sym is ∙ h) in
-        (sym (ap (λ b. pick b (Going next) (Refused fault i)) z), m ∙ sym (ap (λ b. pick b (moved t vs) vs) z))
+        (sym (ap (λ b. pick b (Ok (Going next)) (Err (refused fault i))) z), m ∙ sym (ap (λ b. pick b (moved t vs) vs) z))
 
   -- ---- a step whose rows are read
   module _ (e i : ℕ) (run : List ℕ) (at : ℕ) (vs us : Values) (r : Reached) (told : ReadsValues t e (wanted t false e) run at vs r us)
@@ -61,22 +60,22 @@ module _ (t : Rows) where
     abbrev onward : ℕ → ℕ → List Line → Values → Result ℕ Refusal
     onward most n rest us = replay_from t most (n + 1) (row_at at + length (logged t e)) rest us
 
-    pub rows_bad : (row : ℕ) → r ≡ Bad row → TakesStep t e i run at vs (Refused log_fault row) us
+    pub rows_bad : (wrong : BadRow) → r ≡ Err wrong → TakesStep t e i run at vs (Err (refused log_fault wrong.row)) us
     unfolding read_on replay_on
-    rows_bad row q more hand most n = ap (λ (f : Found). judged t i e f (onward most n)) (ap (λ r. read_on t r e [] (run ++ more) us) (sym q) ∙ reads more hand)
+    rows_bad wrong q more hand most n = ap (λ (f : Found). judged t i e f (onward most n)) (ap (λ r. read_on t r e [] (run ++ more) us) (sym q) ∙ reads more hand)
 
     -- where the next step begins
-    pub next_begins : (p : Place) → r ≡ Next p → {g : Progress} → g ≡ step_progress t e i p us → BeginsWithin g at (length run)
+    pub next_begins : (p : Place) → r ≡ Ok p → {g : Result Progress Refusal} → g ≡ step_progress t e i p us → BeginsWithin g at (length run)
     next_begins p q is = subst (λ g. BeginsWithin g at (length run)) (sym is) (go (eqb (step_fault t e us.present us.after) no_fault))
       where
         reached : (p.at ≡ at + row_length width * length (logged t e)) × (p.at ≤ length run)
         reached = subst (λ r. Reaches r run (at + row_length width * length (logged t e))) q last
 
-        go : (b : Bool) → BeginsWithin (pick b (Going p) (Refused (step_fault t e us.present us.after) i)) at (length run)
+        go : (b : Bool) → BeginsWithin (pick b (Ok (Going p)) (Err (refused (step_fault t e us.present us.after) i))) at (length run)
         go true = ((let k = reached.0 in omega (arith, k)), reached.1)
         go false = tt
 
-    pub rows_judged : (p : Place) → r ≡ Next p → {g : Progress} {ws : Values} → g ≡ step_progress t e i p us → ws ≡ step_values t e us → TakesStep t e i run at vs g ws
+    pub rows_judged : (p : Place) → r ≡ Ok p → {g : Result Progress Refusal} {ws : Values} → g ≡ step_progress t e i p us → ws ≡ step_values t e us → TakesStep t e i run at vs g ws
     unfolding read_on replay_on read_values
     rows_judged p q {g} {ws} is are more hand most n =
         ap₂ (λ g ws. replay_on t g most n (run ++ more) ws) is are ∙ go (eqb (step_fault t e us.present us.after) no_fault)
@@ -91,7 +90,7 @@ module _ (t : Rows) where
         row : row_at p.at ≡ row_at at + length (logged t e)
         row = ap row_at place ∙ omega arith
 
-        go : (b : Bool) → replay_on t (pick b (Going p) (Refused fault i)) most n (run ++ more) (pick b (moved t us) us)
+        go : (b : Bool) → replay_on t (pick b (Ok (Going p)) (Err (refused fault i))) most n (run ++ more) (pick b (moved t us) us)
             ≡ pick b (onward most n (lines_at (run ++ more) p.at) (moved t us)) (Err (refused fault i))
         go true = ap (λ j. replay_from t most (n + 1) j (lines_at (run ++ more) p.at) (moved t us)) row
         go false = refl
@@ -102,23 +101,23 @@ module _ (t : Rows) where
     first_row_lem more (inl h) = inl (omega (arith, h))
     first_row_lem more (inr h) = inr h
 
-    pub step_ended : {g : Progress} → g ≡ ended_after n → f ≡ read.End → ReplaysStep t n run at vs g vs
+    pub step_ended : {g : Result Progress Refusal} → g ≡ ended_after n → f ≡ read.End → ReplaysStep t n run at vs g vs
     unfolding replay_on replay_from
     step_ended g q more hand most =
         ap (λ g. replay_on t g most n (run ++ more) vs) g ∙ go (eqb n 0) ∙ sym (ap (λ ls. replay_from t (suc most) n (row_at at) ls vs) (end_lines run more at (first_row_lem more hand) seen q))
       where
-        go : (b : Bool) → replay_on t (pick b (Refused log_fault 0) (Ended (n - 1))) most n (run ++ more) vs ≡ pick b (Err (refused log_fault 0)) (Ok (n - 1))
+        go : (b : Bool) → replay_on t (pick b (Err (refused log_fault 0)) (Ok (Ended (n - 1)))) most n (run ++ more) vs ≡ pick b (Err (refused log_fault 0)) (Ok (n - 1))
         go true = refl
         go false = refl
 
-    pub end_begins : {g : Progress} (low high : ℕ) → g ≡ ended_after n → BeginsWithin g low high
+    pub end_begins : {g : Result Progress Refusal} (low high : ℕ) → g ≡ ended_after n → BeginsWithin g low high
     end_begins low high is = subst (λ g. BeginsWithin g low high) (sym is) (go (eqb n 0))
       where
-        go : (b : Bool) → BeginsWithin (pick b (Refused log_fault 0) (Ended (n - 1))) low high
+        go : (b : Bool) → BeginsWithin (pick b (Err (refused log_fault 0)) (Ok (Ended (n - 1)))) low high
         go true = tt
         go false = tt
 
-    pub step_malformed : {row : ℕ} → f ≡ read.Malformed → row ≡ row_at at → ReplaysStep t n run at vs (Refused log_fault row) vs
+    pub step_malformed : {row : ℕ} → f ≡ read.Malformed → row ≡ row_at at → ReplaysStep t n run at vs (Err (refused log_fault row)) vs
     unfolding replay_on replay_from
     step_malformed q k more hand most =
         ap (λ r. Err (refused log_fault r)) k ∙ sym (ap (λ ls. replay_from t (suc most) n (row_at at) ls vs) (malformed_lines run more at (first_row_lem more hand) seen q).1)
@@ -149,16 +148,16 @@ module _ (t : Rows) where
       pub row_within : p.at ≤ length run
       row_within = (next_place run at seen r p q).1
 
-      pub step_begins : (g : Progress) → BeginsWithin g p.at (length run) → BeginsWithin g (at + row_length width) (length run)
+      pub step_begins : (g : Result Progress Refusal) → BeginsWithin g p.at (length run) → BeginsWithin g (at + row_length width) (length run)
       step_begins g = subst (λ low. BeginsWithin g low (length run)) place
 
-      pub step_taken : (g : Progress) (ws : Values) {row : ℕ} → good ≡ true → row ≡ row_at at → TakesStep t r.a row run p.at vs g ws → ReplaysStep t n run at vs g ws
+      pub step_taken : (g : Result Progress Refusal) (ws : Values) {row : ℕ} → good ≡ true → row ≡ row_at at → TakesStep t r.a row run p.at vs g ws → ReplaysStep t n run at vs g ws
       step_taken g ws b row takes more hand most =
           takes more (rows_at_hand more hand) most n
           ∙ ap₂ (λ i j. judged t i r.a (read_values t r.a (logged t r.a) j (lines_at (run ++ more) p.at) vs) (λ rest ws. replay_from t most (n + 1) (j + length (logged t r.a)) rest ws)) row (ap row_at place ∙ omega arith)
           ∙ sym (by_row more hand most true (sym is ∙ b))
 
-      pub step_wrong : {row : ℕ} → good ≡ false → row ≡ row_at at → ReplaysStep t n run at vs (Refused log_fault row) vs
+      pub step_wrong : {row : ℕ} → good ≡ false → row ≡ row_at at → ReplaysStep t n run at vs (Err (refused log_fault row)) vs
       unfolding replay_on
       step_wrong b k more hand most = ap (λ r. Err (refused log_fault r)) k ∙ sym (by_row more hand most false (sym is ∙ b))
 

@@ -23,25 +23,27 @@ use row::{Place, Read, Row};
 use rules::Refusal;
 use scan::Span;
 use table::Table;
-use values::{Reached, is_step_row, move_values, read_values, row_number};
+use values::{is_step_row, move_values, read_values, row_number};
 use verdict::{judge_with, load};
 
-// What a step comes to: where the next one begins, the end of the run before it with the number of its steps, or a refusal's number and row.
+// What a step that isn't refused comes to: where the next one begins, or the end of the run before it with the number of its steps.
 #[derive(Clone, Copy)]
 pub enum Progress {
     Going(Place),
     Ended(u64),
-    Refused(u64, u64),
 }
 
 // The end of the run after n steps, the initialisation among them.
-fn ended(n: u64) -> Progress
+fn ended(n: u64) -> Result<Progress, Refusal>
     ensures { result ≡ ended_after n }
 {
     if n == 0 {
-        return Progress::Refused(Refusal::LOG, 0);
+        return Err(Refusal {
+            number: Refusal::LOG,
+            row: 0,
+        });
     }
-    Progress::Ended(n - 1)
+    Ok(Progress::Ended(n - 1))
 }
 
 // Judges a step of the event e whose row 90 has this number, and where it is allowed goes on at the place after its rows, with the values that it left.
@@ -54,16 +56,19 @@ fn judge_step(
     next: Place,
     present: &mut [i64],
     after: &mut [i64],
-) -> Progress
+) -> Result<Progress, Refusal>
     requires { (table ≡ counts_of (rows_of words.now)) × Spanned (rows_of words.now) spans.now }
     ensures value { result ≡ step_progress (rows_of words.now) e row next (values_of present.old after.old) }
     ensures after_after { values_of present.new after.new ≡ step_values (rows_of words.now) e (values_of present.old after.old) }
 {
     if let Err(fault) = step_fault(words, table, spans, present, after, e) {
-        return Progress::Refused(fault.number(), row);
+        return Err(Refusal {
+            number: fault.number(),
+            row,
+        });
     }
     move_values(words, table, present, after);
-    Progress::Going(next)
+    Ok(Progress::Going(next))
 }
 
 // Takes the step of the event e, whose row 90 is the row before a place.
@@ -77,14 +82,17 @@ fn take_step(
     place: Place,
     present: &mut [i64],
     after: &mut [i64],
-) -> Progress
+) -> Result<Progress, Refusal>
     requires { (table ≡ counts_of (rows_of words.now)) × Spanned (rows_of words.now) spans.now × (place.at ≤ length run.now) }
     ensures takes_step { TakesStep (rows_of words.now) e row run.now place.at (values_of present.old after.old) result (values_of present.new after.new) }
     ensures begins_within { BeginsWithin result place.at (length run.now) }
 {
     match read_values(words, table, spans, false, run, e, place, present, after) {
-        Reached::Bad(bad) => Progress::Refused(Refusal::LOG, bad),
-        Reached::Next(next) => judge_step(words, table, spans, e, row, next, present, after),
+        Err(bad) => Err(Refusal {
+            number: Refusal::LOG,
+            row: bad.row,
+        }),
+        Ok(next) => judge_step(words, table, spans, e, row, next, present, after),
     }
 }
 
@@ -98,32 +106,37 @@ fn replay_step(
     place: Place,
     present: &mut [i64],
     after: &mut [i64],
-) -> Progress
+) -> Result<Progress, Refusal>
     requires { (table ≡ counts_of (rows_of words.now)) × Spanned (rows_of words.now) spans.now }
     ensures replays_step { ReplaysStep (rows_of words.now) n run.now place.at (values_of present.old after.old) result (values_of present.new after.new) }
     ensures begins_within { BeginsWithin result (place.at + row_length width) (length run.now) }
 {
     match next_row(place, run) {
         Read::End => ended(n),
-        Read::Malformed => Progress::Refused(Refusal::LOG, row_number(place)),
+        Read::Malformed => Err(Refusal {
+            number: Refusal::LOG,
+            row: row_number(place),
+        }),
         Read::Next(row, next) => {
             if is_step_row(words, table, n == 0, row) {
                 let e = row.a;
                 let at = row_number(place);
                 return take_step(words, table, spans, run, e, at, next, present, after);
             }
-            Progress::Refused(Refusal::LOG, row_number(place))
+            Err(Refusal {
+                number: Refusal::LOG,
+                row: row_number(place),
+            })
         }
     }
 }
 
-// What a part of a run comes to: so many steps taken and the place where the next one begins, of which more is needed; or the end of the run with the number of its
-// steps, or a refusal's number and row.
+// What a part of a run that isn't refused comes to: so many steps taken and the place where the next one begins, of which more is needed; or the end of the run
+// with the number of its steps.
 #[derive(Clone, Copy)]
 pub enum Part {
     More(u64, Place),
     Ended(u64),
-    Refused(u64, u64),
 }
 
 // A row's number in a run, by its number in a part of it, before which so many rows were; 0 stands for the end of the run.
@@ -148,7 +161,7 @@ pub fn replay_part(
     before: u64,
     present: &mut [i64],
     after: &mut [i64],
-) -> Part
+) -> Result<Part, Refusal>
     requires { (table ≡ counts_of (rows_of words.now)) × Spanned (rows_of words.now) spans.now × (n + length part.now < 2 ^ 64) × (before + 1 + length part.now < 2 ^ 64) }
     ensures replays_part { ReplaysPart (rows_of words.now) n before part.now last (values_of present.old after.old) result (values_of present.new after.new) }
     ensures stops { Stops result n part.now last }
@@ -157,17 +170,20 @@ pub fn replay_part(
     let mut n = n;
     while last | (table.identifiers < ((part.len() - place.at) / Row::LENGTH) as u64) {
         match replay_step(words, table, spans, part, n, place, present, after) {
-            Progress::Going(next) => {
+            Ok(Progress::Going(next)) => {
                 place = next;
             }
-            Progress::Ended(steps) => return Part::Ended(steps),
-            Progress::Refused(number, row) => {
-                return Part::Refused(number, later_row(before, row));
+            Ok(Progress::Ended(steps)) => return Ok(Part::Ended(steps)),
+            Err(refusal) => {
+                return Err(Refusal {
+                    number: refusal.number,
+                    row: later_row(before, refusal.row),
+                });
             }
         }
         n += 1;
     }
-    Part::More(n, place)
+    Ok(Part::More(n, place))
 }
 
 // Replays all steps of a run, with no values known before.
@@ -182,13 +198,12 @@ fn replay_steps(
     requires { (table ≡ counts_of (rows_of words.now)) × Spanned (rows_of words.now) spans.now }
     ensures { result ≡ replay_rest (rows_of words.now) 0 1 (lines run.now) (values_of present.old after.old) }
 {
-    match replay_part(words, table, spans, run, true, 0, 0, present, after) {
+    match replay_part(words, table, spans, run, true, 0, 0, present, after)? {
         Part::More(n, place) => Err(Refusal {
             number: Refusal::LOG,
             row: 0,
         }), // not of the last part
         Part::Ended(steps) => Ok(steps),
-        Part::Refused(number, row) => Err(Refusal { number, row }),
     }
 }
 

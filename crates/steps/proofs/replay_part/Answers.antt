@@ -1,6 +1,7 @@
-use mathlib.Core.Path.{◌≡◌, refl, ◌∙◌}
+use mathlib.Core.Path.{◌≡◌, refl, ap, ◌∙◌}
 use native.Mathlib.Omega.{arith}
 use lib.ListN.{length}
+use Rattle.std.specs.Prelude.{Ok}
 use borrow.Author.Rules.{rules}
 use Rattle.table.specs.Rows.{rows_of}
 use Rattle.values.specs.Values.{values_of}
@@ -17,22 +18,22 @@ overflow_sub-part c = c.loop-place.invariant.2.within
 pub replay_step-requires : goal.replay_step-requires
 replay_step-requires c = (c.requires.0, c.requires.1)
 
-pub shape_of-present-in-Ended : goal.shape_of-present-in-Ended
-shape_of-present-in-Ended c =
+pub shape_of-present-in-Ok-Ended : goal.shape_of-present-in-Ok-Ended
+shape_of-present-in-Ok-Ended c =
     let present : length c.replay_step.new.present ≡ length c.loop-place.present = search rules in
     present ∙ c.loop-place.invariant.0
 
-pub shape_of-after-in-Ended : goal.shape_of-after-in-Ended
-shape_of-after-in-Ended c =
+pub shape_of-after-in-Ok-Ended : goal.shape_of-after-in-Ok-Ended
+shape_of-after-in-Ok-Ended c =
     let after : length c.replay_step.new.after ≡ length c.loop-place.after = search rules in
     after ∙ c.loop-place.invariant.1
 
-pub returns-in-Ended : goal.returns-in-Ended
-returns-in-Ended c =
+pub returns-in-Ok-Ended : goal.returns-in-Ok-Ended
+returns-in-Ok-Ended c =
     let t = rows_of c.args.words.now in
     record {
       replays_part = part_ended t c.args.before c.args.part.now c.args.last c.args.n (values_of c.args.present.now c.args.after.now) c.loop-place.invariant.2
-          (enough_is t c.args.table c.requires.0 c.args.last _ c.loop-place-test.true) c.replay_step.result (values_of c.replay_step.new.present c.replay_step.new.after) c.replay_step.ensures.replays_step c.replay_step.ensures.begins_within c.in-Ended.steps c.in-Ended.is;
+          (enough_is t c.args.table c.requires.0 c.args.last _ c.loop-place-test.true) c.replay_step.result (values_of c.replay_step.new.present c.replay_step.new.after) c.replay_step.ensures.replays_step c.replay_step.ensures.begins_within c.in-Ok-Ended.steps (c.in-Ok-Ended.is ∙ ap Ok c.in-Ok-Ended.field-0-is);
       stops = tt;
     }
 
@@ -40,26 +41,26 @@ pub later_row-requires : goal.later_row-requires
 later_row-requires c =
     let t = rows_of c.args.words.now in
     let within = refused_within t c.args.before c.args.part.now c.args.last c.args.n (values_of c.args.present.now c.args.after.now) c.loop-place.invariant.2
-    (enough_is t c.args.table c.requires.0 c.args.last _ c.loop-place-test.true) c.replay_step.result (values_of c.replay_step.new.present c.replay_step.new.after) c.replay_step.ensures.replays_step c.replay_step.ensures.begins_within c.in-Refused.number c.in-Refused.row c.in-Refused.is in
+    (enough_is t c.args.table c.requires.0 c.args.last _ c.loop-place-test.true) c.replay_step.result (values_of c.replay_step.new.present c.replay_step.new.after) c.replay_step.ensures.replays_step c.replay_step.ensures.begins_within c.in-Err.refusal c.in-Err.is in
     let small = c.requires.3 in
     omega (arith, within, small)
 
-pub shape_of-present-in-Refused : goal.shape_of-present-in-Refused
-shape_of-present-in-Refused c =
+pub shape_of-present-in-Err : goal.shape_of-present-in-Err
+shape_of-present-in-Err c =
     let present : length c.replay_step.new.present ≡ length c.loop-place.present = search rules in
     present ∙ c.loop-place.invariant.0
 
-pub shape_of-after-in-Refused : goal.shape_of-after-in-Refused
-shape_of-after-in-Refused c =
+pub shape_of-after-in-Err : goal.shape_of-after-in-Err
+shape_of-after-in-Err c =
     let after : length c.replay_step.new.after ≡ length c.loop-place.after = search rules in
     after ∙ c.loop-place.invariant.1
 
-pub returns-in-Refused : goal.returns-in-Refused
-returns-in-Refused c =
+pub returns-in-Err : goal.returns-in-Err
+returns-in-Err c =
     let t = rows_of c.args.words.now in
     record {
       replays_part = part_refused t c.args.before c.args.part.now c.args.last c.args.n (values_of c.args.present.now c.args.after.now) c.loop-place.invariant.2
-          (enough_is t c.args.table c.requires.0 c.args.last _ c.loop-place-test.true) c.replay_step.result (values_of c.replay_step.new.present c.replay_step.new.after) c.replay_step.ensures.replays_step c.replay_step.ensures.begins_within c.in-Refused.number c.in-Refused.row c.in-Refused.is c.later_row.ensures;
+          (enough_is t c.args.table c.requires.0 c.args.last _ c.loop-place-test.true) c.replay_step.result (values_of c.replay_step.new.present c.replay_step.new.after) c.replay_step.ensures.replays_step c.replay_step.ensures.begins_within c.in-Err.refusal c.in-Err.is c.later_row.ensures;
       stops = tt;
     }
 
@@ -67,7 +68,7 @@ pub overflow_add-n : goal.overflow_add-n
 overflow_add-n c =
     let t = rows_of c.args.words.now in
     let next = taken_next t c.args.before c.args.part.now c.args.last c.args.n (values_of c.args.present.now c.args.after.now) c.loop-place.invariant.2
-    (enough_is t c.args.table c.requires.0 c.args.last _ c.loop-place-test.true) c.replay_step.result (values_of c.replay_step.new.present c.replay_step.new.after) c.replay_step.ensures.replays_step c.replay_step.ensures.begins_within c.in-Going.next c.in-Going.is in
+    (enough_is t c.args.table c.requires.0 c.args.last _ c.loop-place-test.true) c.replay_step.result (values_of c.replay_step.new.present c.replay_step.new.after) c.replay_step.ensures.replays_step c.replay_step.ensures.begins_within c.in-Ok-Going.next (c.in-Ok-Going.is ∙ ap Ok c.in-Ok-Going.field-0-is) in
     let small = c.requires.2 in
     let few = next.few in
     let within = next.within in
@@ -77,9 +78,9 @@ pub loop-place-smaller : goal.loop-place-smaller
 loop-place-smaller c =
     let t = rows_of c.args.words.now in
     let further = taken_further t c.args.before c.args.part.now c.args.last c.args.n (values_of c.args.present.now c.args.after.now) c.loop-place.invariant.2
-    (enough_is t c.args.table c.requires.0 c.args.last _ c.loop-place-test.true) c.replay_step.result (values_of c.replay_step.new.present c.replay_step.new.after) c.replay_step.ensures.replays_step c.replay_step.ensures.begins_within c.in-Going.next c.in-Going.is in
+    (enough_is t c.args.table c.requires.0 c.args.last _ c.loop-place-test.true) c.replay_step.result (values_of c.replay_step.new.present c.replay_step.new.after) c.replay_step.ensures.replays_step c.replay_step.ensures.begins_within c.in-Ok-Going.next (c.in-Ok-Going.is ∙ ap Ok c.in-Ok-Going.field-0-is) in
     let next = taken_next t c.args.before c.args.part.now c.args.last c.args.n (values_of c.args.present.now c.args.after.now) c.loop-place.invariant.2
-    (enough_is t c.args.table c.requires.0 c.args.last _ c.loop-place-test.true) c.replay_step.result (values_of c.replay_step.new.present c.replay_step.new.after) c.replay_step.ensures.replays_step c.replay_step.ensures.begins_within c.in-Going.next c.in-Going.is in
+    (enough_is t c.args.table c.requires.0 c.args.last _ c.loop-place-test.true) c.replay_step.result (values_of c.replay_step.new.present c.replay_step.new.after) c.replay_step.ensures.replays_step c.replay_step.ensures.begins_within c.in-Ok-Going.next (c.in-Ok-Going.is ∙ ap Ok c.in-Ok-Going.field-0-is) in
     let within = next.within in
     omega (arith, further, within)
 
@@ -91,7 +92,7 @@ loop-place-preserved c =
       present ∙ c.loop-place.invariant.0,
       after ∙ c.loop-place.invariant.1,
       taken_next t c.args.before c.args.part.now c.args.last c.args.n (values_of c.args.present.now c.args.after.now) c.loop-place.invariant.2
-          (enough_is t c.args.table c.requires.0 c.args.last _ c.loop-place-test.true) c.replay_step.result (values_of c.replay_step.new.present c.replay_step.new.after) c.replay_step.ensures.replays_step c.replay_step.ensures.begins_within c.in-Going.next c.in-Going.is,
+          (enough_is t c.args.table c.requires.0 c.args.last _ c.loop-place-test.true) c.replay_step.result (values_of c.replay_step.new.present c.replay_step.new.after) c.replay_step.ensures.replays_step c.replay_step.ensures.begins_within c.in-Ok-Going.next (c.in-Ok-Going.is ∙ ap Ok c.in-Ok-Going.field-0-is),
     )
 
 pub shape_of-present : goal.shape_of-present
