@@ -54,13 +54,6 @@ module _ (F : ℕ → ℕ) where
   abbrev pub NoneFrom : ℕ → ℕ → Type 0
   NoneFrom s i = (j : ℕ) → s ≤ j → j < i → F j ≡ no_fault
 
-  pub none_next : (s i : ℕ) → NoneFrom s i → F i ≡ no_fault → NoneFrom s (i + 1)
-  none_next s i h e j l k = go (ℕ_discrete j i)
-    where
-      go : Dec (j ≡ i) → F j ≡ no_fault
-      go (yes q) = ap F q ∙ e
-      go (no q) = h j l (omega (arith, q))
-
   pub first_none : (n s : ℕ) → NoneFrom s (s + n) → first_fault (map F (numbers n s)) ≡ no_fault
   unfolding first_fault numbers
   first_none zero s h = refl

@@ -2,17 +2,16 @@
 use mathlib.Core.Path.{◌≡◌, refl, sym, ap, ◌∙◌}
 use mathlib.Core.Bool.{Bool, true, false, not, ◌&&◌, true≢false, beq}
 use Prim.Native.Nat.{ℕ, zero, suc, ◌+◌, ◌-◌, ◌*◌, ◌/◌, ◌%◌, ◌^◌, ◌<◌, ◌≤◌}
-use native.Mathlib.Numerals.{add-one}
 use native.Mathlib.Omega.{arith}
-use native.Mathlib.Nat.{mul-div-le, mod-eq-sub-mul-div, le-div_iff_mul-le, div-lt_iff_lt-mul, mul-zero, div-zero, mod-zero, not-suc-le-zero}
-use borrow.Author.Tests.{ltb-true, ltb-false, eqb-true, eqb-false, leb-true, leb-false, lt-ltb, le-ltb, le-leb, lt-leb, eq-eqb, ne_eqb}
-use lib.Dec.{T, ltb, leb, eqb}
+use native.Mathlib.Nat.{mul-div-le, mod-eq-sub-mul-div, mul-zero, not-suc-le-zero}
+use borrow.Author.Tests.{ltb-true, ltb-false, eqb-true, eqb-false, leb-false, lt-ltb, le-ltb, le-leb, lt-leb, eq-eqb, ne_eqb}
+use lib.Dec.{ltb, leb, eqb}
 use lib.IntN.{ℤ, pos, negsuc, neg_ℤ, nat_abs, sub_ℕ, ◌+ℤ◌, ◌-ℤ◌, ◌*ℤ◌, +ℤ_comm, neg_ℤ-+ℤ, neg_ℤ-neg_ℤ}
-use lib.Signed.{lt_z, le_z, non_neg, mag}
+use lib.Signed.{lt_z, le_z, mag}
 use mir.Syntax.{w64}
-use mir.Val.{Fits, SFits, to_z, of_z}
+use mir.Val.{SFits, to_z, of_z}
 use mir.ValLaws.{to_z_pos, to_z-of_z}
-use Rattle.formula.specs.Values.{number, lessℤ, at_mostℤ, equalℤ, quotientℤ, remainderℤ, whole_number}
+use Rattle.formula.specs.Values.{number, lessℤ, at_mostℤ, equalℤ, remainderℤ}
 use Rattle.answer.specs.Answer.{within}
 use Rattle.std.specs.Prelude.{Ok, Err}
 use Rattle.signed.specs.Found.{Found, found_of}
@@ -24,6 +23,7 @@ use Rattle.signed.specs.declared.Fault.TheVariants.{Outside}
 abbrev pub number_found : ℤ → Found
 number_found z = found_of (within (number z))
 
+-- a number that was found
 abbrev pub found_number : ℤ → Found
 found_number z = Ok (Number z)
 
@@ -56,65 +56,6 @@ sub_below m n h = by (ltb m n) refl
 minus : (m n : ℕ) → pos m +ℤ neg_ℤ (pos n) ≡ sub_ℕ m n
 minus m zero = ap pos (omega arith) ∙ sym (sub_above m 0 (omega arith))
 minus m (suc n) = refl
-
--- ---- −1 − z
-
-minus_one_pos : (n : ℕ) → negsuc 0 -ℤ pos n ≡ negsuc n
-minus_one_pos zero = refl
-minus_one_pos (suc n) = ap (λ (k : ℕ). negsuc (suc k)) (omega arith)
-
-minus_one_neg : (n : ℕ) → negsuc 0 -ℤ negsuc n ≡ pos n
-minus_one_neg n = sub_above (suc n) 1 (omega arith) ∙ ap pos (omega arith)
-
-pub complement_is : (k : ℕ) → k < 2 ^ 63 → negsuc 0 -ℤ to_z w64 k ≡ negsuc k
-complement_is k h = rw (to_z_pos w64 k h) (minus_one_pos k)
-
--- a negative number
-record Below (z : ℤ) : Type 0 where
-  pub k : ℕ
-  pub is : z ≡ negsuc k
-  pub fits : k < 2 ^ 63
-  pub complement : negsuc 0 -ℤ seen z ≡ pos k
-
-below : (z : ℤ) → SFits w64 z → lt_z (seen z) (pos 0) ≡ true → Below z
-below (pos n) f t = let e : lt_z (pos n) (pos 0) ≡ true = rw (to_z-of_z w64 (pos n) f) at t in absurd (not-suc-le-zero (ltb-true n 0 e))
-below (negsuc n) f t = record { k = n; is = refl; fits = f.sfits; complement = rw (to_z-of_z w64 (negsuc n) f) (minus_one_neg n) }
-
--- a number from 0 on
-record Above (z : ℤ) : Type 0 where
-  pub n : ℕ
-  pub is : z ≡ pos n
-  pub fits : n < 2 ^ 63
-
-above : (z : ℤ) → SFits w64 z → lt_z (seen z) (pos 0) ≡ false → Above z
-above (pos n) f t = record { n = n; is = refl; fits = f.sfits }
-above (negsuc n) f t = let e : lt_z (negsuc n) (pos 0) ≡ false = rw (to_z-of_z w64 (negsuc n) f) at t in absurd (true≢false e)
-
--- ---- the magnitude of a number
-
-module _ (z : ℤ) (f : SFits w64 z) (t : lt_z (seen z) (pos 0) ≡ true) where
-  found : Below z
-  found = below z f t
-
-  pub complement_fits : SFits w64 (negsuc 0 -ℤ seen z)
-  complement_fits = rw found.complement (record { sfits = found.fits })
-
-  complement_is_pos : seen (negsuc 0 -ℤ seen z) ≡ pos found.k
-  complement_is_pos = to_z-of_z w64 (negsuc 0 -ℤ seen z) complement_fits ∙ found.complement
-
-  pub complement_casts : T (non_neg (seen (negsuc 0 -ℤ seen z))) × Fits w64 (nat_abs (seen (negsuc 0 -ℤ seen z)))
-  complement_casts = rw complement_is_pos (tt, record { fits = omega (arith, found.fits) })
-
-  pub magnitude_fits : Fits w64 (nat_abs (seen (negsuc 0 -ℤ seen z)) + 1)
-  magnitude_fits = rw complement_is_pos (record { fits = omega (arith, found.fits) })
-
-  pub magnitude_below : nat_abs (seen (negsuc 0 -ℤ seen z)) + 1 ≡ nat_abs z
-  magnitude_below =
-      let e : nat_abs z ≡ suc found.k = ap nat_abs found.is in
-      ap (λ (x : ℤ). nat_abs x + 1) complement_is_pos ∙ add-one found.k ∙ sym e
-
-pub casts_above : (z : ℤ) → SFits w64 z → lt_z (seen z) (pos 0) ≡ false → T (non_neg (seen z)) × Fits w64 (nat_abs (seen z))
-casts_above z f t = let a : Above z = above z f t in rw (to_z-of_z w64 z f, a.is) (tt, record { fits = omega (arith, a.fits) })
 
 -- ---- in range
 
@@ -192,27 +133,11 @@ sum_both false true m n t = absurd (true≢false (sym t))
 sum_both true false m n t = absurd (true≢false (sym t))
 sum_both true true m n t = sum_same true m n
 
-pub sum_less : (p q : Bool) (m n : ℕ) → beq p q ≡ false → m < n → signedℤ p m +ℤ signedℤ q n ≡ signedℤ q (n - m)
-sum_less false false m n t h = absurd (true≢false t)
-sum_less false true m n t h = let l : m ≤ n = omega arith in minus m n ∙ sub_below m n l
-sum_less true false m n t h = let l : m ≤ n = omega arith in +ℤ_comm (neg_ℤ (pos m)) (pos n) ∙ minus n m ∙ sub_above n m l
-sum_less true true m n t h = absurd (true≢false t)
-
-pub sum_more : (p q : Bool) (m n : ℕ) → beq p q ≡ false → n ≤ m → signedℤ p m +ℤ signedℤ q n ≡ signedℤ p (m - n)
-sum_more false false m n t h = absurd (true≢false t)
-sum_more false true m n t h = minus m n ∙ sub_above m n h
-sum_more true false m n t h = +ℤ_comm (neg_ℤ (pos m)) (pos n) ∙ minus n m ∙ sub_below n m h
-sum_more true true m n t h = absurd (true≢false t)
-
 -- ---- the operators by sign and magnitude
 
 of_parts : (z : ℤ) → signedℤ (negative z) (nat_abs z) ≡ z
 of_parts (pos n) = refl
 of_parts (negsuc n) = refl
-
-opposite_parts : (z : ℤ) → signedℤ (not (negative z)) (nat_abs z) ≡ neg_ℤ z
-opposite_parts (pos n) = refl
-opposite_parts (negsuc n) = refl
 
 abbrev apart : ℤ → ℤ → Bool
 apart a b = not (beq (negative a) (negative b))
@@ -222,12 +147,6 @@ product_parts (pos a) (pos b) = refl
 product_parts (pos a) (negsuc b) = refl
 product_parts (negsuc a) (pos b) = refl
 product_parts (negsuc a) (negsuc b) = refl
-
-quotient_parts : (a b : ℤ) → signedℤ (apart a b) (nat_abs a / nat_abs b) ≡ quotientℤ a b
-quotient_parts (pos a) (pos b) = refl
-quotient_parts (pos a) (negsuc b) = refl
-quotient_parts (negsuc a) (pos b) = refl
-quotient_parts (negsuc a) (negsuc b) = refl
 
 neg_neg : (b q : ℕ) → negsuc b *ℤ neg_ℤ (pos q) ≡ pos (suc b * q)
 neg_neg b zero = rw mul-zero
@@ -260,10 +179,6 @@ sign_is : (z : ℤ) → SFits w64 z → lt_z (seen z) (pos 0) ≡ negative z
 sign_is (pos n) f = rw (to_z-of_z w64 (pos n) f) (le-ltb n 0 (omega arith))
 sign_is (negsuc n) f = rw (to_z-of_z w64 (negsuc n) f)
 
-not_sign_is : (z : ℤ) → SFits w64 z → le_z (pos 0) (seen z) ≡ not (negative z)
-not_sign_is (pos n) f = rw (to_z-of_z w64 (pos n) f) (le-leb 0 n (omega arith))
-not_sign_is (negsuc n) f = rw (to_z-of_z w64 (negsuc n) f)
-
 abbrev differ : ℤ → ℤ → Bool
 differ a b = not (beq (lt_z (seen a) (pos 0)) (lt_z (seen b) (pos 0)))
 
@@ -278,57 +193,14 @@ module _ (a b : ℤ) (f : SFits w64 a) (g : SFits w64 b) (m n : ℕ) (d : m ≡ 
   apart_is : differ a b ≡ apart a b
   apart_is = simp (sign_is a f, sign_is b g)
 
-  pub add_is : signedℤ (lt_z (seen a) (pos 0)) m +ℤ signedℤ (lt_z (seen b) (pos 0)) n ≡ a +ℤ b
-  add_is = simp (sign_is a f, sign_is b g, left, right, of_parts)
-
-  pub subtract_is : signedℤ (lt_z (seen a) (pos 0)) m +ℤ signedℤ (le_z (pos 0) (seen b)) n ≡ a -ℤ b
-  subtract_is = simp (sign_is a f, not_sign_is b g, left, right, of_parts, opposite_parts)
-
   pub multiply_is : signedℤ (differ a b) (m * n) ≡ a *ℤ b
   multiply_is = simp (apart_is, left, right) (product_parts a b)
 
   pub multiply_outside : leb (m * n) 9223372036854775808 ≡ false → number_found (a *ℤ b) ≡ Err Outside
   multiply_outside t = ap number_found (sym multiply_is) ∙ outside (differ a b) (m * n) (leb-false (m * n) 9223372036854775808 t)
 
-  pub divide_is : {k : ℕ} → k ≡ m / n → signedℤ (differ a b) k ≡ quotientℤ a b
-  divide_is h = simp (h, apart_is, left, right) (quotient_parts a b)
-
   pub remainder_is : {k : ℕ} → k ≡ m % n → signedℤ (lt_z (seen a) (pos 0)) k ≡ remainderℤ a b
   remainder_is h = simp (h, sign_is a f, left, right) (remainder_parts a b)
-
-pub negate_is : (a : ℤ) → SFits w64 a → (m : ℕ) → m ≡ nat_abs (seen a) → signedℤ (le_z (pos 0) (seen a)) m ≡ neg_ℤ a
-negate_is a f m d = let l : m ≡ nat_abs a = d ∙ ap nat_abs (to_z-of_z w64 a f) in simp (not_sign_is a f, l) (opposite_parts a)
-
--- ---- magnitudes
-
-pub nothing_fits : (m n : ℕ) → n ≡ 0 → true ≡ leb (m * n) 9223372036854775808
-nothing_fits m n e = rw (e, mul-zero) refl
-
--- m × n ≤ h, by a division
-pub quotient_tells : (m n h : ℕ) → 0 < n → leb m (h / n) ≡ leb (m * n) h
-quotient_tells m n h l = by (leb m (h / n)) refl
-  where
-    by : (b : Bool) → leb m (h / n) ≡ b → b ≡ leb (m * n) h
-    by true e = sym (le-leb (m * n) h ((le-div_iff_mul-le l).0 (leb-true m (h / n) e)))
-    by false e = sym (lt-leb (m * n) h ((div-lt_iff_lt-mul l).0 (leb-false m (h / n) e)))
-
-pub quotient_by_none : (m n : ℕ) → n ≡ 0 → 0 ≡ m / n
-quotient_by_none m n e = rw e (sym (div-zero m))
-
-pub remainder_by_none : (m n : ℕ) → n ≡ 0 → m ≡ m % n
-remainder_by_none m n e = rw e (sym (mod-zero m))
-
--- ---- words
-
-pub word_above : (w : ℕ) → w < 2 ^ 63 → to_z w64 w ≡ whole_number w
-word_above w h = to_z_pos w64 w h ∙ sym (simp (lt-ltb w (2 ^ 63) h))
-
--- a word from 2 ^ 63 on stands for a negative number
-pub word_below : (w : ℕ) {z : ℤ} → 2 ^ 63 ≤ w → w < 2 ^ 64 → z ≡ negsuc (18446744073709551615 - w) → seen z ≡ whole_number w
-word_below w h f e =
-    let k : SFits w64 (negsuc (18446744073709551615 - w)) = record { sfits = omega arith } in
-    let s : 18446744073709551616 - w ≡ suc (18446744073709551615 - w) = omega arith in
-    ap (λ (x : ℤ). seen x) e ∙ to_z-of_z w64 (negsuc (18446744073709551615 - w)) k ∙ sym (simp (le-ltb w (2 ^ 63) h) (ap (λ (x : ℕ). neg_ℤ (pos x)) s))
 
 -- ---- comparisons
 

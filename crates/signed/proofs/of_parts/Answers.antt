@@ -1,9 +1,6 @@
 -- Each end of the range, by the sign.
-use Rattle.signed.proofs.Numbers.{parts_below, parts_outside, parts_above, parts_great, has_magnitude}
+use Rattle.signed.proofs.Numbers.{parts_below, parts_outside, parts_above, parts_great}
 use Rattle.signed.proofs.of_parts.Goals as goal
-
-pub overflow_sub-n : goal.overflow_sub-n
-overflow_sub-n c = has_magnitude c.args.negative c.args.n c.if-negative-n.true
 
 pub returns-then-n-le-HALF : goal.returns-then-n-le-HALF
 returns-then-n-le-HALF c =
