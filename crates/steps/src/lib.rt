@@ -199,10 +199,11 @@ fn replay_steps(
     ensures { result ≡ replay_rest (rows_of words.now) 0 1 (lines run.now) (values_of present.old after.old) }
 {
     match replay_part(words, table, spans, run, true, 0, 0, present, after)? {
+        // not of the last part
         Part::More(n, place) => Err(Refusal {
             number: Refusal::LOG,
             row: 0,
-        }), // not of the last part
+        }),
         Part::Ended(steps) => Ok(steps),
     }
 }

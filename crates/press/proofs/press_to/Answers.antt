@@ -13,15 +13,15 @@ use Rattle.press.proofs.press_to.Goals as goal
 
 pub slice_bounds-words-end : goal.slice_bounds-words-end
 slice_bounds-words-end c =
-    (filled c.args.table.now _ c.load.new.words c.in_ok-n.n c.words-2-1.given c.load.ensures.words_after (sym c.load.ensures.value ∙ c.in_ok-n.was)).within
+    (filled c.args.table.now _ c.load.new.words c.in_ok-n.n c.load.auto.words c.load.ensures.words_after (sym c.load.ensures.value ∙ c.in_ok-n.was)).within
 
 pub slice_bounds-press_rows-end : goal.slice_bounds-press_rows-end
 slice_bounds-press_rows-end c =
-    (filled c.args.table.now _ c.load.new.words c.in_ok-n.n c.words-2-1.given c.load.ensures.words_after (sym c.load.ensures.value ∙ c.in_ok-n.was)).size
+    (filled c.args.table.now _ c.load.new.words c.in_ok-n.n c.load.auto.words c.load.ensures.words_after (sym c.load.ensures.value ∙ c.in_ok-n.was)).size
 
 pub press_rows-requires : goal.press_rows-requires
 press_rows-requires c =
-    (filled c.args.table.now _ c.load.new.words c.in_ok-n.n c.words-2-1.given c.load.ensures.words_after (sym c.load.ensures.value ∙ c.in_ok-n.was)).small
+    (filled c.args.table.now _ c.load.new.words c.in_ok-n.n c.load.auto.words c.load.ensures.words_after (sym c.load.ensures.value ∙ c.in_ok-n.was)).small
 
 pub returns-in_err-n : goal.returns-in_err-n
 returns-in_err-n c =
@@ -41,5 +41,5 @@ returns c =
     let words = sym c.load.ensures.value ∙ c.in_ok-n.was in
     let both = as_answers a.values.now (outcome_is bytes a.step.now a.values.now a.sorts.now a.room ∙ ap (λ v. outcome_by v on) (verdict_judged bytes ∙ ap (judged bytes) words)
     ∙ sym (ap (λ ws. outcome_by (judge (rows_of ws)) (press_on (rows_of ws) a.step.now a.values.now a.sorts.now a.room))
-    (filled bytes _ c.load.new.words c.in_ok-n.n c.words-2-1.given c.load.ensures.words_after words).holds)) (c.press_rows.ensures.value, c.press_rows.ensures.values_after) in
+    (filled bytes _ c.load.new.words c.in_ok-n.n c.load.auto.words c.load.ensures.words_after words).holds)) (c.press_rows.ensures.value, c.press_rows.ensures.values_after) in
     record { value = both.0; values_after = both.1 }

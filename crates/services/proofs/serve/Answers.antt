@@ -13,15 +13,15 @@ use Rattle.services.proofs.serve.Goals as goal
 
 pub slice_bounds-words-end : goal.slice_bounds-words-end
 slice_bounds-words-end c =
-    (filled c.args.bytes.now _ c.load.new.words c.in_ok-n.n c.words-2-1.given c.load.ensures.words_after (sym c.load.ensures.value ∙ c.in_ok-n.was)).within
+    (filled c.args.bytes.now _ c.load.new.words c.in_ok-n.n c.load.auto.words c.load.ensures.words_after (sym c.load.ensures.value ∙ c.in_ok-n.was)).within
 
 pub slice_bounds-serve_rows-end : goal.slice_bounds-serve_rows-end
 slice_bounds-serve_rows-end c =
-    (filled c.args.bytes.now _ c.load.new.words c.in_ok-n.n c.words-2-1.given c.load.ensures.words_after (sym c.load.ensures.value ∙ c.in_ok-n.was)).size
+    (filled c.args.bytes.now _ c.load.new.words c.in_ok-n.n c.load.auto.words c.load.ensures.words_after (sym c.load.ensures.value ∙ c.in_ok-n.was)).size
 
 pub serve_rows-requires : goal.serve_rows-requires
 serve_rows-requires c =
-    (filled c.args.bytes.now _ c.load.new.words c.in_ok-n.n c.words-2-1.given c.load.ensures.words_after (sym c.load.ensures.value ∙ c.in_ok-n.was)).small
+    (filled c.args.bytes.now _ c.load.new.words c.in_ok-n.n c.load.auto.words c.load.ensures.words_after (sym c.load.ensures.value ∙ c.in_ok-n.was)).small
 
 pub returns-in_err-n : goal.returns-in_err-n
 returns-in_err-n c =
@@ -35,5 +35,5 @@ returns c =
     let b = c.args.bytes.now in
     let words = sym c.load.ensures.value ∙ c.in_ok-n.was in
     c.serve_rows.ensures
-    ∙ ap (λ ws. serve_by (machine_of (rows_of ws)) (judge (rows_of ws)) c.args.k c.args.request c.args.out.now) (filled b _ c.load.new.words c.in_ok-n.n c.words-2-1.given c.load.ensures.words_after words).holds
+    ∙ ap (λ ws. serve_by (machine_of (rows_of ws)) (judge (rows_of ws)) c.args.k c.args.request c.args.out.now) (filled b _ c.load.new.words c.in_ok-n.n c.load.auto.words c.load.ensures.words_after words).holds
     ∙ sym (ap (λ v. serve_by (machine b) v c.args.k c.args.request c.args.out.now) (verdict_judged b ∙ ap (judged b) words))

@@ -13,15 +13,15 @@ use Rattle.steps.proofs.replay.Goals as goal
 
 pub slice_bounds-words-end : goal.slice_bounds-words-end
 slice_bounds-words-end c =
-    (filled c.args.table.now _ c.load.new.words c.in_ok-n.n c.words-2-1.given c.load.ensures.words_after (sym c.load.ensures.value ∙ c.in_ok-n.was)).within
+    (filled c.args.table.now _ c.load.new.words c.in_ok-n.n c.load.auto.words c.load.ensures.words_after (sym c.load.ensures.value ∙ c.in_ok-n.was)).within
 
 pub slice_bounds-replay_rows-end : goal.slice_bounds-replay_rows-end
 slice_bounds-replay_rows-end c =
-    (filled c.args.table.now _ c.load.new.words c.in_ok-n.n c.words-2-1.given c.load.ensures.words_after (sym c.load.ensures.value ∙ c.in_ok-n.was)).size
+    (filled c.args.table.now _ c.load.new.words c.in_ok-n.n c.load.auto.words c.load.ensures.words_after (sym c.load.ensures.value ∙ c.in_ok-n.was)).size
 
 pub replay_rows-requires : goal.replay_rows-requires
 replay_rows-requires c =
-    (filled c.args.table.now _ c.load.new.words c.in_ok-n.n c.words-2-1.given c.load.ensures.words_after (sym c.load.ensures.value ∙ c.in_ok-n.was)).small
+    (filled c.args.table.now _ c.load.new.words c.in_ok-n.n c.load.auto.words c.load.ensures.words_after (sym c.load.ensures.value ∙ c.in_ok-n.was)).small
 
 pub returns-in_err-n : goal.returns-in_err-n
 returns-in_err-n c =
@@ -35,5 +35,5 @@ returns c =
     let bytes = c.args.table.now in
     let words = sym c.load.ensures.value ∙ c.in_ok-n.was in
     c.replay_rows.ensures
-    ∙ ap (λ ws. replay_by (judge (rows_of ws)) (replay_log (rows_of ws) c.args.run.now)) (filled bytes _ c.load.new.words c.in_ok-n.n c.words-2-1.given c.load.ensures.words_after words).holds
+    ∙ ap (λ ws. replay_by (judge (rows_of ws)) (replay_log (rows_of ws) c.args.run.now)) (filled bytes _ c.load.new.words c.in_ok-n.n c.load.auto.words c.load.ensures.words_after words).holds
     ∙ sym (replay_is bytes c.args.run.now ∙ ap (λ v. replay_by v (replay_log (decoded bytes) c.args.run.now)) (verdict_judged bytes ∙ ap (judged bytes) words))

@@ -10,15 +10,15 @@ use Rattle.verdict.proofs.check.Goals as goal
 
 pub slice_bounds-words-end : goal.slice_bounds-words-end
 slice_bounds-words-end c =
-    (filled c.args.bytes.now _ c.load.new.words c.in_ok-n.n c.words-2-1.given c.load.ensures.words_after (sym c.load.ensures.value ∙ c.in_ok-n.was)).within
+    (filled c.args.bytes.now _ c.load.new.words c.in_ok-n.n c.load.auto.words c.load.ensures.words_after (sym c.load.ensures.value ∙ c.in_ok-n.was)).within
 
 pub slice_bounds-judge-end : goal.slice_bounds-judge-end
 slice_bounds-judge-end c =
-    (filled c.args.bytes.now _ c.load.new.words c.in_ok-n.n c.words-2-1.given c.load.ensures.words_after (sym c.load.ensures.value ∙ c.in_ok-n.was)).size
+    (filled c.args.bytes.now _ c.load.new.words c.in_ok-n.n c.load.auto.words c.load.ensures.words_after (sym c.load.ensures.value ∙ c.in_ok-n.was)).size
 
 pub judge-requires : goal.judge-requires
 judge-requires c =
-    (filled c.args.bytes.now _ c.load.new.words c.in_ok-n.n c.words-2-1.given c.load.ensures.words_after (sym c.load.ensures.value ∙ c.in_ok-n.was)).small
+    (filled c.args.bytes.now _ c.load.new.words c.in_ok-n.n c.load.auto.words c.load.ensures.words_after (sym c.load.ensures.value ∙ c.in_ok-n.was)).small
 
 pub returns-in_err-n : goal.returns-in_err-n
 returns-in_err-n c =
@@ -30,4 +30,4 @@ pub returns : goal.returns
 returns c =
     let b = c.args.bytes.now in
     let words = sym c.load.ensures.value ∙ c.in_ok-n.was in
-    c.judge.ensures ∙ ap (λ ws. judge (rows_of ws)) (filled b _ c.load.new.words c.in_ok-n.n c.words-2-1.given c.load.ensures.words_after words).holds ∙ sym (verdict_judged b ∙ ap (judged b) words)
+    c.judge.ensures ∙ ap (λ ws. judge (rows_of ws)) (filled b _ c.load.new.words c.in_ok-n.n c.load.auto.words c.load.ensures.words_after words).holds ∙ sym (verdict_judged b ∙ ap (judged b) words)
