@@ -16,11 +16,12 @@ ghost use Rattle.values.specs.Values.{values_of};
 ghost use Rattle.bench.specs.State.{updated};
 ghost use Rattle.bench.specs.Press.{answered, after_by, completed};
 
-use evaluate::{evaluate_expression, value_at};
+use evaluate::{Env, evaluate_expression, value_at};
+use nodes::Index;
 use scan::action_row;
 use signed::{Found, Value};
 use state::copy_list;
-use table::{Table, c_at, size, tag, tag_at};
+use table::{Counted, Table, tag};
 use values::{is_state_variable, move_values, put};
 
 // The number of a formula's value; where it has none, the step has a fault.
@@ -35,87 +36,57 @@ fn answered(found: Found) -> i64
 }
 
 // The after value that a 51 gives: the number of its root's value, which reads no after value.
-fn equal_after(words: &[u64], table: Table, present: &[i64], root: u64) -> i64
-    requires { table ≡ counts_of (rows_of words.now) }
-    ensures { result ≡ answered (answer (stored_env (machine_of (rows_of words.now)).type present.now []) (tree_of (rows_of words.now) root)) }
+fn equal_after(table: &Counted, present: &[i64], root: u64) -> i64
+    ensures { result ≡ answered (answer (stored_env (machine_of (rows_of table.now.words.now)).type present.now []) (tree_of (rows_of table.now.words.now) root)) }
 {
-    let found = evaluate_expression(
-        words,
-        table.nodes_start,
-        table.identifiers_start,
+    let env = Env {
+        table,
         present,
-        &present[..0],
-        root,
-    );
-    answered(found)
+        after: &present[..0],
+    };
+    answered(evaluate_expression(&env, root))
 }
 
 // The after value of the variable x: a 51 reads the state before, that of a 52 is given, without an action it keeps its value.
-fn after_by(
-    words: &[u64],
-    table: Table,
-    spans: &[usize],
-    e: u64,
-    x: u64,
-    present: &[i64],
-    after: &[i64],
-) -> i64
-    requires { (table ≡ counts_of (rows_of words.now)) × Spanned (rows_of words.now) spans.now }
-    ensures { result ≡ after_by (rows_of words.now) (values_of present.now after.now) x ((machine_of (rows_of words.now)).action e x) }
+fn after_by(index: &Index, e: u64, x: u64, present: &[i64], after: &[i64]) -> i64
+    ensures { result ≡ after_by (rows_of index.now.table.words.now) (values_of present.now after.now) x ((machine_of (rows_of index.now.table.words.now)).action e x) }
 {
-    let i = action_row(words, spans, e, x);
-    if size(words) <= i {
+    let i = action_row(index.table.words, index.spans, e, x);
+    if index.table.size() <= i {
         return value_at(present, x);
     }
-    if tag_at(words, i) == tag::BECOMES_EQUAL {
-        return equal_after(words, table, present, c_at(words, i));
+    if index.table.tag_at(i) == tag::BECOMES_EQUAL {
+        return equal_after(&index.table, present, index.table.c_at(i));
     }
     value_at(after, x)
 }
 
 // Stores the after value of the identifier x, where it is a variable of the concrete machine.
-fn complete_value(
-    words: &[u64],
-    table: Table,
-    spans: &[usize],
-    e: u64,
-    x: u64,
-    present: &[i64],
-    after: &mut [i64],
-)
-    requires { (table ≡ counts_of (rows_of words.now)) × Spanned (rows_of words.now) spans.now }
-    ensures { after.new ≡ pick (is_state_variable (rows_of words.now) x) (set after.old x (after_by (rows_of words.now) (values_of present.now after.old) x ((machine_of (rows_of words.now)).action e x))) after.old }
+fn complete_value(index: &Index, e: u64, x: u64, present: &[i64], after: &mut [i64])
+    ensures { after.new ≡ pick (is_state_variable (rows_of index.now.table.words.now) x) (set after.old x (after_by (rows_of index.now.table.words.now) (values_of present.now after.old) x ((machine_of (rows_of index.now.table.words.now)).action e x))) after.old }
 {
-    if is_state_variable(words, table, x) {
-        let value = after_by(words, table, spans, e, x, present, after);
+    if is_state_variable(&index.table, x) {
+        let value = after_by(index, e, x, present, after);
         put(after, x, value);
     }
 }
 
 // The after values of all variables of a step of the event e, of which those of its 52 actions are given.
-pub fn complete_values(
-    words: &[u64],
-    table: Table,
-    spans: &[usize],
-    e: u64,
-    present: &[i64],
-    after: &mut [i64],
-)
-    requires { (table ≡ counts_of (rows_of words.now)) × Spanned (rows_of words.now) spans.now }
-    ensures { values_of present.now after.new ≡ completed (rows_of words.now) e (values_of present.now after.old) }
+pub fn complete_values(index: &Index, e: u64, present: &[i64], after: &mut [i64])
+    ensures { values_of present.now after.new ≡ completed (rows_of index.now.table.words.now) e (values_of present.now after.old) }
 {
-    for x in 0..table.identifiers {
-        complete_value(words, table, spans, e, x + 1, present, after);
+    for x in 0..index.table.counts.identifiers {
+        complete_value(index, e, x + 1, present, after);
     }
 }
 
 // "updates the variables' records": the values of a state after a step.
-pub fn update_values(words: &[u64], table: Table, after: &[i64], values: &mut [i64])
-    requires { (table ≡ counts_of (rows_of words.now)) × (count (rows_of words.now) identifier_tag ≤ 64) × (length values.old ≡ count (rows_of words.now) identifier_tag) × (length after.now ≡ 65) }
-    ensures { values.new ≡ updated (rows_of words.now) after.now values.old }
+pub fn update_values(table: &Counted, after: &[i64], values: &mut [i64])
+    requires { (count (rows_of table.now.words.now) identifier_tag ≤ 64) × (length values.old ≡ count (rows_of table.now.words.now) identifier_tag) × (length after.now ≡ 65) }
+    ensures { values.new ≡ updated (rows_of table.now.words.now) after.now values.old }
 {
     let mut left = [0i64; Table::IDENTIFIERS as usize + 1];
     copy_list(values, &mut left[1..]);
-    move_values(words, table, &mut left, after);
+    move_values(table, &mut left, after);
     copy_list(&left[1..], values);
 }

@@ -15,22 +15,22 @@ ghost use Rattle.entries.specs.Sequent.{goal_at, hypothesis_count};
 ghost use Rattle.entries.specs.Seek.{cursor_at, entry_at, Stands, SoughtEntry};
 ghost use Rattle.entries.specs.Written.{numbers_row, hypothesis_rows, entry_rows};
 
+use nodes::Index;
 use reply::tags;
 use row::Row;
 use segments::{Segment, goal_of, segment_at, segment_entry};
 use select::{Each, Sought, seek_row};
 use sequent::Entry;
-use table::Table;
 use walk::{Slot, header_item, header_kind};
 
 // The goal of a slot's sequent.
-pub fn goal_at(words: &[u64], table: Table, spans: &[usize], slot: Slot) -> Entry
-    requires { (table ≡ counts_of (rows_of words.now)) × Noted (rows_of words.now) spans.now × (slot.row < (rows_of words.now).size) }
-    ensures { result ≡ numbers_of (goal_at (rows_of words.now) slot) }
+pub fn goal_at(index: &Index, slot: Slot) -> Entry
+    requires { slot.row < (rows_of index.now.table.words.now).size }
+    ensures { result ≡ numbers_of (goal_at (rows_of index.now.table.words.now) slot) }
 {
-    let kind = header_kind(words, table, spans, slot);
-    let item = header_item(words, table, spans, slot);
-    goal_of(words, table, kind, slot.event, item)
+    let kind = header_kind(index, slot);
+    let item = header_item(index, slot);
+    goal_of(&index.table, kind, slot.event, item)
 }
 
 // A place in the walk of a slot's hypotheses: a row of a segment, and how many hypotheses are left to pass. Past the last segment is the end.
@@ -89,21 +89,21 @@ impl Cursor {
 }
 
 // Walks on from a place to the hypothesis after as many as are left to pass, or to the end.
-fn seek_entry(words: &[u64], table: Table, spans: &[usize], slot: Slot, from: Cursor) -> Cursor
-    requires table_value { (table ≡ counts_of (rows_of words.now)) × Noted (rows_of words.now) spans.now × (slot.row < (rows_of words.now).size) }
-    requires stands { Stands (rows_of words.now) slot from }
-    ensures { SoughtEntry (rows_of words.now) slot from result }
+fn seek_entry(index: &Index, slot: Slot, from: Cursor) -> Cursor
+    requires table_value { slot.row < (rows_of index.now.table.words.now).size }
+    requires stands { Stands (rows_of index.now.table.words.now) slot from }
+    ensures { SoughtEntry (rows_of index.now.table.words.now) slot from result }
 {
     let mut cursor = from;
     while cursor.segment < Segment::COUNT {
-        let part = segment_at(words, table, slot, cursor.segment);
+        let part = segment_at(&index.table, slot, cursor.segment);
         let rows = part.rows;
         let end = part.before;
         let at = Sought {
             row: cursor.row,
             left: cursor.left,
         };
-        let found = seek_row(words, table, spans, rows, Each::One, end, at);
+        let found = seek_row(index, rows, Each::One, end, at);
         if found.row < end {
             return cursor.at(found);
         }
@@ -113,35 +113,35 @@ fn seek_entry(words: &[u64], table: Table, spans: &[usize], slot: Slot, from: Cu
 }
 
 // How many hypotheses a slot's sequents have: as many as a walk passes that has more to pass than there are.
-fn count_hypotheses(words: &[u64], table: Table, spans: &[usize], slot: Slot) -> u64
-    requires { (table ≡ counts_of (rows_of words.now)) × Noted (rows_of words.now) spans.now × (slot.row < (rows_of words.now).size) }
-    ensures { result ≡ hypothesis_count (rows_of words.now) slot }
+fn count_hypotheses(index: &Index, slot: Slot) -> u64
+    requires { slot.row < (rows_of index.now.table.words.now).size }
+    ensures { result ≡ hypothesis_count (rows_of index.now.table.words.now) slot }
 {
-    let most = 2 * words.len() as u64;
-    let end = seek_entry(words, table, spans, slot, Cursor::start(most));
+    let most = 2 * index.table.words.len() as u64;
+    let end = seek_entry(index, slot, Cursor::start(most));
     most - end.left
 }
 
 // How many entries: the hypotheses and the goal.
-pub fn count_entries(words: &[u64], table: Table, spans: &[usize], slot: Slot) -> u64
-    requires { (table ≡ counts_of (rows_of words.now)) × Noted (rows_of words.now) spans.now × (slot.row < (rows_of words.now).size) }
-    ensures { result ≡ hypothesis_count (rows_of words.now) slot + 1 }
+pub fn count_entries(index: &Index, slot: Slot) -> u64
+    requires { slot.row < (rows_of index.now.table.words.now).size }
+    ensures { result ≡ hypothesis_count (rows_of index.now.table.words.now) slot + 1 }
 {
-    count_hypotheses(words, table, spans, slot) + 1
+    count_hypotheses(index, slot) + 1
 }
 
 // Entry k of a slot's sequent, counted from 0: a hypothesis, or behind them the goal.
-pub fn entry_at(words: &[u64], table: Table, spans: &[usize], slot: Slot, k: u64) -> Entry
-    requires table_value { (table ≡ counts_of (rows_of words.now)) × Noted (rows_of words.now) spans.now × (slot.row < (rows_of words.now).size) }
-    requires k_bound { k ≤ hypothesis_count (rows_of words.now) slot }
-    ensures { result ≡ numbers_of (entry_at (rows_of words.now) slot k) }
+pub fn entry_at(index: &Index, slot: Slot, k: u64) -> Entry
+    requires table_value { slot.row < (rows_of index.now.table.words.now).size }
+    requires k_bound { k ≤ hypothesis_count (rows_of index.now.table.words.now) slot }
+    ensures { result ≡ numbers_of (entry_at (rows_of index.now.table.words.now) slot k) }
 {
-    let found = seek_entry(words, table, spans, slot, Cursor::start(k));
+    let found = seek_entry(index, slot, Cursor::start(k));
     let segment = found.segment;
     if segment < Segment::COUNT {
-        return segment_entry(words, table, spans, slot, segment, found.row);
+        return segment_entry(index, slot, segment, found.row);
     }
-    goal_at(words, table, spans, slot)
+    goal_at(index, slot)
 }
 
 // The row of an entry.
@@ -157,44 +157,32 @@ fn entry_row(tag: u64, entry: Entry) -> Row
 }
 
 // Writes rows 81 for a slot's hypotheses, and says how many bytes they are.
-fn write_hypotheses(
-    words: &[u64],
-    table: Table,
-    spans: &[usize],
-    slot: Slot,
-    out: &mut [u8],
-) -> usize
-    requires table_value { (table ≡ counts_of (rows_of words.now)) × Noted (rows_of words.now) spans.now × (slot.row < (rows_of words.now).size) }
-    requires slot_in_bounds { row_length width * hypothesis_count (rows_of words.now) slot ≤ length out.old }
-    ensures value { result ≡ row_length width * hypothesis_count (rows_of words.now) slot }
-    ensures out_after { out.new ≡ over (rows_bytes (hypothesis_rows (rows_of words.now) slot)) out.old }
+fn write_hypotheses(index: &Index, slot: Slot, out: &mut [u8]) -> usize
+    requires table_value { slot.row < (rows_of index.now.table.words.now).size }
+    requires slot_in_bounds { row_length width * hypothesis_count (rows_of index.now.table.words.now) slot ≤ length out.old }
+    ensures value { result ≡ row_length width * hypothesis_count (rows_of index.now.table.words.now) slot }
+    ensures out_after { out.new ≡ over (rows_bytes (hypothesis_rows (rows_of index.now.table.words.now) slot)) out.old }
 {
-    let mut cursor = seek_entry(words, table, spans, slot, Cursor::start(0));
+    let mut cursor = seek_entry(index, slot, Cursor::start(0));
     let mut at = 0;
     while cursor.segment < Segment::COUNT {
-        let entry = segment_entry(words, table, spans, slot, cursor.segment, cursor.row);
+        let entry = segment_entry(index, slot, cursor.segment, cursor.row);
         entry_row(tags::HYPOTHESIS, entry).write(&mut out[at..]);
-        cursor = seek_entry(words, table, spans, slot, cursor.passing());
+        cursor = seek_entry(index, slot, cursor.passing());
         at += Row::LENGTH;
     }
     at
 }
 
 // Writes a slot's sequent without its header: rows 81 for the hypotheses, then row 82 for the goal; and says how many bytes they are.
-pub fn write_entries(
-    words: &[u64],
-    table: Table,
-    spans: &[usize],
-    slot: Slot,
-    out: &mut [u8],
-) -> usize
-    requires table_value { (table ≡ counts_of (rows_of words.now)) × Noted (rows_of words.now) spans.now × (slot.row < (rows_of words.now).size) }
-    requires slot_in_bounds { row_length width * (hypothesis_count (rows_of words.now) slot + 1) ≤ length out.old }
-    ensures value { result ≡ row_length width * (hypothesis_count (rows_of words.now) slot + 1) }
-    ensures out_after { out.new ≡ over (rows_bytes (entry_rows (rows_of words.now) slot)) out.old }
+pub fn write_entries(index: &Index, slot: Slot, out: &mut [u8]) -> usize
+    requires table_value { slot.row < (rows_of index.now.table.words.now).size }
+    requires slot_in_bounds { row_length width * (hypothesis_count (rows_of index.now.table.words.now) slot + 1) ≤ length out.old }
+    ensures value { result ≡ row_length width * (hypothesis_count (rows_of index.now.table.words.now) slot + 1) }
+    ensures out_after { out.new ≡ over (rows_bytes (entry_rows (rows_of index.now.table.words.now) slot)) out.old }
 {
-    let at = write_hypotheses(words, table, spans, slot, out);
-    let goal = goal_at(words, table, spans, slot);
+    let at = write_hypotheses(index, slot, out);
+    let goal = goal_at(index, slot);
     entry_row(tags::GOAL, goal).write(&mut out[at..]);
     at + Row::LENGTH
 }

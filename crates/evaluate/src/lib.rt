@@ -19,7 +19,7 @@ use operands::{
 };
 use operators::find_operator;
 use signed::{Found, Value, of_word};
-use table::{Table, field, operand, operator, sort};
+use table::{Counted, Table, operand, operator, sort};
 
 // What an operator gives of its operands' answers, one by one in 01's order.
 fn combine(operator: u64, left: Found, right: Found) -> Found
@@ -118,43 +118,27 @@ pub fn value_at(values: &[i64], x: u64) -> i64
     values.get(x as usize).copied().unwrap_or(0)
 }
 
-// A column of a node: 1 operator, 2 and 3 operands. Where the nodes and the identifiers start is handed on by itself, as every node's call takes it.
-fn node_column(words: &[u64], nodes: u64, n: u64, column: usize) -> u64
-    requires { (nodes ≡ start (rows_of words.now) node_tag) × (column < 4) }
-    ensures { result ≡ get_or words.now (4 * row_of (rows_of words.now) node_tag n + column) 0 }
-{
-    field(words, nodes, n, column)
-}
-
-// The type of an identifier.
-fn identifier_type(words: &[u64], identifiers: u64, x: u64) -> u64
-    requires { identifiers ≡ start (rows_of words.now) identifier_tag }
-    ensures { result ≡ type_of (rows_of words.now) x }
-{
-    field(words, identifiers, x, Table::TYPE)
+// The values at which a table's formulas are read: identifiers' present values and after values, by number.
+#[derive(Clone, Copy)]
+pub struct Env<'a> {
+    pub table: &'a Counted<'a>,
+    pub present: &'a [i64],
+    pub after: &'a [i64],
 }
 
 // A leaf's answer. 01, Rows: "1 literal (b its value), 2 identifier (b), 3 after value of a variable (b), 4 TRUE, 5 FALSE", "30 ⊤, 31 ⊥".
-fn leaf(
-    words: &[u64],
-    identifiers: u64,
-    present: &[i64],
-    after: &[i64],
-    operator: u64,
-    b: u64,
-) -> Found
-    requires { identifiers ≡ start (rows_of words.now) identifier_tag }
-    ensures { result ≡ found_of (leaf_answer (stored_env (machine_of (rows_of words.now)).type present.now after.now) (operator_numbered operator) b) }
+fn leaf(env: &Env, operator: u64, b: u64) -> Found
+    ensures { result ≡ found_of (leaf_answer (stored_env (machine_of (rows_of env.now.table.now.words.now)).type env.now.present.now env.now.after.now) (operator_numbered operator) b) }
 {
     match operator {
         operator::LITERAL => Ok(Value::Number(of_word(b))),
         operator::IDENTIFIER => {
-            let sort = identifier_type(words, identifiers, b);
-            Ok(stored_value(sort, value_at(present, b)))
+            let sort = env.table.identifier_field(b, Table::TYPE);
+            Ok(stored_value(sort, value_at(env.present, b)))
         }
         operator::AFTER => {
-            let sort = identifier_type(words, identifiers, b);
-            Ok(stored_value(sort, value_at(after, b)))
+            let sort = env.table.identifier_field(b, Table::TYPE);
+            Ok(stored_value(sort, value_at(env.after, b)))
         }
         operator::TRUE | operator::TOP => Ok(Value::Truth(true)),
         _ => Ok(Value::Truth(false)), // FALSE, ⊥, unknown, or no leaf
@@ -162,94 +146,60 @@ fn leaf(
 }
 
 // The operator of node n; of node 0, which is none, that of ⊥.
-fn operator_at(words: &[u64], nodes: u64, n: u64) -> u64
-    requires { nodes ≡ start (rows_of words.now) node_tag }
-    ensures { result ≡ operator_at (rows_of words.now) n }
+fn operator_at(table: &Counted, n: u64) -> u64
+    ensures { result ≡ operator_at (rows_of table.now.words.now) n }
 {
     if n == 0 {
         return operator::BOTTOM;
     }
-    node_column(words, nodes, n, Table::OPERATOR)
+    table.node_field(n, Table::OPERATOR)
 }
 
 // The answer of node n, an expression.
 #[cycle(evaluate_expression_evaluate_node_evaluate_operand_evaluate_predicate)]
-pub fn evaluate_expression(
-    words: &[u64],
-    nodes: u64,
-    identifiers: u64,
-    present: &[i64],
-    after: &[i64],
-    n: u64,
-) -> Found
-    requires { (nodes ≡ start (rows_of words.now) node_tag) × (identifiers ≡ start (rows_of words.now) identifier_tag) }
-    ensures { result ≡ found_of (answer (stored_env (machine_of (rows_of words.now)).type present.now after.now) (tree_of (rows_of words.now) n)) }
+pub fn evaluate_expression(env: &Env, n: u64) -> Found
+    ensures { result ≡ found_of (answer (stored_env (machine_of (rows_of env.now.table.now.words.now)).type env.now.present.now env.now.after.now) (tree_of (rows_of env.now.table.now.words.now) n)) }
 {
-    evaluate_node(words, nodes, identifiers, present, after, n)
+    evaluate_node(env, n)
 }
 
 // The answer of node n, a predicate.
 #[cycle(evaluate_expression_evaluate_node_evaluate_operand_evaluate_predicate)]
-pub fn evaluate_predicate(
-    words: &[u64],
-    nodes: u64,
-    identifiers: u64,
-    present: &[i64],
-    after: &[i64],
-    n: u64,
-) -> Found
-    requires { (nodes ≡ start (rows_of words.now) node_tag) × (identifiers ≡ start (rows_of words.now) identifier_tag) }
-    ensures { result ≡ found_of (answer (stored_env (machine_of (rows_of words.now)).type present.now after.now) (tree_of (rows_of words.now) n)) }
+pub fn evaluate_predicate(env: &Env, n: u64) -> Found
+    ensures { result ≡ found_of (answer (stored_env (machine_of (rows_of env.now.table.now.words.now)).type env.now.present.now env.now.after.now) (tree_of (rows_of env.now.table.now.words.now) n)) }
 {
-    evaluate_node(words, nodes, identifiers, present, after, n)
+    evaluate_node(env, n)
 }
 
 // The answer of node n, an operand of this operator: a predicate or an expression, as the operator takes it.
 #[cycle(evaluate_expression_evaluate_node_evaluate_operand_evaluate_predicate)]
-fn evaluate_operand(
-    words: &[u64],
-    nodes: u64,
-    identifiers: u64,
-    present: &[i64],
-    after: &[i64],
-    operator: u64,
-    n: u64,
-) -> Found
-    requires { (nodes ≡ start (rows_of words.now) node_tag) × (identifiers ≡ start (rows_of words.now) identifier_tag) }
-    ensures { result ≡ found_of (answer (stored_env (machine_of (rows_of words.now)).type present.now after.now) (tree_of (rows_of words.now) n)) }
+fn evaluate_operand(env: &Env, operator: u64, n: u64) -> Found
+    ensures { result ≡ found_of (answer (stored_env (machine_of (rows_of env.now.table.now.words.now)).type env.now.present.now env.now.after.now) (tree_of (rows_of env.now.table.now.words.now) n)) }
 {
     let found = find_operator(operator);
     if found.operands == sort::PREDICATE {
-        return evaluate_predicate(words, nodes, identifiers, present, after, n);
+        return evaluate_predicate(env, n);
     }
-    evaluate_expression(words, nodes, identifiers, present, after, n)
+    evaluate_expression(env, n)
 }
 
 // The answer of node n by its operator, from those of its operands. The right one is evaluated only where it is read.
 #[cycle(evaluate_expression_evaluate_node_evaluate_operand_evaluate_predicate)]
-fn evaluate_node(
-    words: &[u64],
-    nodes: u64,
-    identifiers: u64,
-    present: &[i64],
-    after: &[i64],
-    n: u64,
-) -> Found
-    requires { (nodes ≡ start (rows_of words.now) node_tag) × (identifiers ≡ start (rows_of words.now) identifier_tag) }
-    ensures { result ≡ found_of (answer (stored_env (machine_of (rows_of words.now)).type present.now after.now) (tree_of (rows_of words.now) n)) }
+fn evaluate_node(env: &Env, n: u64) -> Found
+    ensures { result ≡ found_of (answer (stored_env (machine_of (rows_of env.now.table.now.words.now)).type env.now.present.now env.now.after.now) (tree_of (rows_of env.now.table.now.words.now) n)) }
 {
-    let operator = operator_at(words, nodes, n);
-    let b = node_column(words, nodes, n, Table::LEFT);
+    let operator = operator_at(env.table, n);
+    let b = env.table.node_field(n, Table::LEFT);
     if is_leaf(operator) {
-        return leaf(words, identifiers, present, after, operator, b);
+        return leaf(env, operator, b);
     }
     let x = operand(n, b);
-    let left = evaluate_operand(words, nodes, identifiers, present, after, operator, x);
+    let left = evaluate_operand(env, operator, x);
     let mut right = left;
     if reads_right(operator, left) {
-        let c = node_column(words, nodes, n, Table::RIGHT);
+        let c = env.table.node_field(n, Table::RIGHT);
         let y = operand(n, c);
-        right = evaluate_operand(words, nodes, identifiers, present, after, operator, y);
+        right = evaluate_operand(env, operator, y);
     }
     combine(operator, left, right)
 }

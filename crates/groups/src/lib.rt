@@ -16,7 +16,7 @@ use events::{
 };
 use select::{Each, Item, Selection};
 use sequent::kind;
-use table::{Table, event, event_field, identifier, tag};
+use table::{Counted, Table, event, identifier, tag};
 
 // Rows where a test passes.
 pub fn when(test: bool, rows: Selection) -> Selection
@@ -129,65 +129,59 @@ fn rows_of(event: u64, tag: u64) -> Selection
 }
 
 // The variables that an event assigns, and those that it assigns by a 52.
-fn assigned(words: &[u64], table: Table, event: u64) -> Selection
-    requires { table ≡ counts_of (rows_of words.now) }
-    ensures { result ≡ of_event event (Assigned (own_kind (rows_of words.now) event) event) }
+fn assigned(table: &Counted, event: u64) -> Selection
+    ensures { result ≡ of_event event (Assigned (own_kind (rows_of table.now.words.now) event) event) }
 {
-    let kind = own_kind(words, table, event);
+    let kind = own_kind(table, event);
     of_event(event, Selection::Assigned { kind, event })
 }
 
-fn such_that(words: &[u64], table: Table, event: u64) -> Selection
-    requires { table ≡ counts_of (rows_of words.now) }
-    ensures { result ≡ of_event event (SuchThat (own_kind (rows_of words.now) event) event) }
+fn such_that(table: &Counted, event: u64) -> Selection
+    ensures { result ≡ of_event event (SuchThat (own_kind (rows_of table.now.words.now) event) event) }
 {
-    let kind = own_kind(words, table, event);
+    let kind = own_kind(table, event);
     of_event(event, Selection::SuchThat { kind, event })
 }
 
 // The invariants of its machine.
-fn own_invariants(words: &[u64], table: Table, event: u64) -> Selection
-    requires { table ≡ counts_of (rows_of words.now) }
-    ensures { result ≡ of_event event (Tagged (own_invariant_tag (rows_of words.now) event)) }
+fn own_invariants(table: &Counted, event: u64) -> Selection
+    ensures { result ≡ of_event event (Tagged (own_invariant_tag (rows_of table.now.words.now) event)) }
 {
-    let tag = own_invariant_tag(words, table, event);
+    let tag = own_invariant_tag(table, event);
     of_event(event, Selection::Tagged(tag))
 }
 
 // Which of their INV are listed.
-fn invariant_each(words: &[u64], table: Table, event: u64) -> Each
-    requires { table ≡ counts_of (rows_of words.now) }
-    ensures { result ≡ invariant_each (rows_of words.now) event }
+fn invariant_each(table: &Counted, event: u64) -> Each
+    ensures { result ≡ invariant_each (rows_of table.now.words.now) event }
 {
-    if keeps_all(words, table, event) {
+    if keeps_all(table, event) {
         return Each::One;
     }
     Each::Touched(event)
 }
 
 // The guards of the event that an event refines.
-fn refined_guards(words: &[u64], table: Table, event: u64) -> Selection
-    requires { table ≡ counts_of (rows_of words.now) }
-    ensures { result ≡ of_event event (when (is_refining (rows_of words.now) event) (OfEvent guard_tag (refined_by (rows_of words.now) event))) }
+fn refined_guards(table: &Counted, event: u64) -> Selection
+    ensures { result ≡ of_event event (when (is_refining (rows_of table.now.words.now) event) (OfEvent guard_tag (refined_by (rows_of table.now.words.now) event))) }
 {
-    let refined = event_field(words, table, event, Table::REFINED);
+    let refined = table.event_field(event, Table::REFINED);
     let guards = Selection::OfEvent {
         tag: tag::GUARD,
         event: refined,
     };
-    of_event(event, when(is_refining(words, table, event), guards))
+    of_event(event, when(is_refining(table, event), guards))
 }
 
 // The abstract variables, shared ones among them, of an event that is matched; the shared ones of a convergent or anticipated event.
-fn simulated(words: &[u64], table: Table, event: u64) -> Selection
-    requires { table ≡ counts_of (rows_of words.now) }
-    ensures { result ≡ of_event event (simulated_rows (rows_of words.now) event) }
+fn simulated(table: &Counted, event: u64) -> Selection
+    ensures { result ≡ of_event event (simulated_rows (rows_of table.now.words.now) event) }
 {
-    if is_matched(words, table, event) {
+    if is_matched(table, event) {
         return of_event(event, Selection::Variables(identifier::ABSTRACT_VARIABLE));
     }
     let shared = Selection::Identifiers(identifier::SHARED_VARIABLE);
-    of_event(event, when(is_new(words, table, event), shared))
+    of_event(event, when(is_new(table, event), shared))
 }
 
 // The variant, of an event for which a test passes.
@@ -198,9 +192,8 @@ fn variant_when(event: u64, test: bool) -> Selection
 }
 
 // A group of an event, by number: the table of groups.
-pub fn group_at(words: &[u64], table: Table, event: u64, group: u64) -> Group
-    requires { table ≡ counts_of (rows_of words.now) }
-    ensures { result ≡ group_at (rows_of words.now) event group }
+pub fn group_at(table: &Counted, event: u64, group: u64) -> Group
+    ensures { result ≡ group_at (rows_of table.now.words.now) event group }
 {
     match group {
         Group::AXIOM => Group::formulas(event, tag::AXIOM),
@@ -208,30 +201,30 @@ pub fn group_at(words: &[u64], table: Table, event: u64, group: u64) -> Group
         Group::CONCRETE_INVARIANT => Group::formulas(event, tag::CONCRETE_INVARIANT),
         Group::VARIANT => Group::formulas(event, tag::VARIANT),
         Group::GUARD => Group::defined(rows_of(event, tag::GUARD), Item::B, event),
-        Group::ACTION => Group::defined(assigned(words, table, event), Item::Action, event),
-        Group::FIS => Group::whole(kind::FIS, such_that(words, table, event), Item::Identifier),
+        Group::ACTION => Group::defined(assigned(table, event), Item::Action, event),
+        Group::FIS => Group::whole(kind::FIS, such_that(table, event), Item::Identifier),
         Group::WITNESS => Group::new(
             kind::WD,
             rows_of(event, tag::WITNESS),
             Item::C,
             Each::Witness,
         ),
-        Group::GRD => Group::whole(kind::GRD, refined_guards(words, table, event), Item::B),
-        Group::SIM => Group::whole(kind::SIM, simulated(words, table, event), Item::Identifier),
+        Group::GRD => Group::whole(kind::GRD, refined_guards(table, event), Item::B),
+        Group::SIM => Group::whole(kind::SIM, simulated(table, event), Item::Identifier),
         Group::INV => Group::new(
             kind::INV,
-            own_invariants(words, table, event),
+            own_invariants(table, event),
             Item::A,
-            invariant_each(words, table, event),
+            invariant_each(table, event),
         ),
         Group::NAT => Group::whole(
             kind::NAT,
-            variant_when(event, is_convergent(words, table, event)),
+            variant_when(event, is_convergent(table, event)),
             Item::A,
         ),
         Group::VAR => Group::whole(
             kind::VAR,
-            variant_when(event, is_new(words, table, event)),
+            variant_when(event, is_new(table, event)),
             Item::A,
         ),
         _ => Group::whole(kind::WD, Selection::None, Item::A),

@@ -14,15 +14,14 @@ ghost use Rattle.recording.specs.Faults.{differs, fault_of, step_fault};
 ghost use Rattle.bench.specs.Press.{press_fault};
 ghost use Rattle.judge.specs.Judge.{number_of, fault_number, step_fault_of, is_judged, judged_root, root_fault, row_fault, first_untrue, action_fault, variable_fault, first_not_allowed};
 
-use evaluate::{evaluate_expression, evaluate_predicate, stored_value, value_at};
+use evaluate::{Env, evaluate_expression, evaluate_predicate, stored_value, value_at};
 use events::is_initial;
+use nodes::Index;
 use operands::equal_values;
 use rules::Refusal;
 use scan::{action_row, span_at};
 use signed::{Fault, Found, Value};
-use table::{
-    Table, a_at, b_at, c_at, identifier, identifier_field, is_variable_of, size, tag, tag_at,
-};
+use table::{Counted, Table, a_at, b_at, identifier, is_variable_of, tag, tag_at};
 
 // What is wrong with a step: "16 marks an evaluated term outside 64 bits and 17 an undefined one"; 18 "a step that isn't allowed".
 #[derive(Clone, Copy, PartialEq, Eq)]
@@ -74,18 +73,15 @@ fn fault_of(expected: Value, found: Found) -> Result<(), StepFault>
 }
 
 // An axiom's or a guard's formula, which has to be true; it reads no after value.
-fn root_fault(words: &[u64], table: Table, present: &[i64], root: u64) -> Result<(), StepFault>
-    requires { table ≡ counts_of (rows_of words.now) }
-    ensures { fault_number result ≡ root_fault (rows_of words.now) present.now root }
+fn root_fault(table: &Counted, present: &[i64], root: u64) -> Result<(), StepFault>
+    ensures { fault_number result ≡ root_fault (rows_of table.now.words.now) present.now root }
 {
-    let found = evaluate_predicate(
-        words,
-        table.nodes_start,
-        table.identifiers_start,
+    let env = Env {
+        table,
         present,
-        &present[..0],
-        root,
-    );
+        after: &present[..0],
+    };
+    let found = evaluate_predicate(&env, root);
     fault_of(Value::Truth(true), found)
 }
 
@@ -107,38 +103,23 @@ fn judged_root(words: &[u64], tag: u64, i: usize) -> u64
 }
 
 // What is wrong with row i.
-fn row_fault(
-    words: &[u64],
-    table: Table,
-    present: &[i64],
-    tag: u64,
-    e: u64,
-    i: usize,
-) -> Result<(), StepFault>
-    requires { table ≡ counts_of (rows_of words.now) }
-    ensures { fault_number result ≡ row_fault (rows_of words.now) present.now tag e i }
+fn row_fault(table: &Counted, present: &[i64], tag: u64, e: u64, i: usize) -> Result<(), StepFault>
+    ensures { fault_number result ≡ row_fault (rows_of table.now.words.now) present.now tag e i }
 {
-    if is_judged(words, tag, e, i) {
-        return root_fault(words, table, present, judged_root(words, tag, i));
+    if is_judged(table.words, tag, e, i) {
+        return root_fault(table, present, judged_root(table.words, tag, i));
     }
     Ok(())
 }
 
 // The first fault of the axioms, or of the guards of the event e. Only the rows are read between which those of the tag stand.
-fn first_untrue(
-    words: &[u64],
-    table: Table,
-    spans: &[usize],
-    present: &[i64],
-    tag: u64,
-    e: u64,
-) -> Result<(), StepFault>
-    requires { (table ≡ counts_of (rows_of words.now)) × Spanned (rows_of words.now) spans.now × (tag ≤ 50) }
-    ensures { fault_number result ≡ first_untrue (rows_of words.now) present.now tag e }
+fn first_untrue(index: &Index, present: &[i64], tag: u64, e: u64) -> Result<(), StepFault>
+    requires { tag ≤ 50 }
+    ensures { fault_number result ≡ first_untrue (rows_of index.now.table.words.now) present.now tag e }
 {
-    let span = span_at(words, spans, tag);
+    let span = span_at(index.table.words, index.spans, tag);
     for i in span.from..span.to {
-        row_fault(words, table, present, tag, e, i)?;
+        row_fault(&index.table, present, tag, e, i)?;
     }
     Ok(())
 }
@@ -146,130 +127,84 @@ fn first_untrue(
 // What is wrong with the after value of the variable x: "51: the root in the state before against the logged value; 52: the predicate with the logged after value;
 // unassigned: unchanged".
 fn action_fault(
-    words: &[u64],
-    table: Table,
-    spans: &[usize],
+    index: &Index,
     present: &[i64],
     after: &[i64],
     e: u64,
     x: u64,
 ) -> Result<(), StepFault>
-    requires { (table ≡ counts_of (rows_of words.now)) × Spanned (rows_of words.now) spans.now }
-    ensures { fault_number result ≡ action_fault (rows_of words.now) present.now after.now e x }
+    ensures { fault_number result ≡ action_fault (rows_of index.now.table.words.now) present.now after.now e x }
 {
-    let i = action_row(words, spans, e, x);
-    let sort = identifier_field(words, table, x, Table::TYPE);
+    let i = action_row(index.table.words, index.spans, e, x);
+    let sort = index.table.identifier_field(x, Table::TYPE);
     let moved = stored_value(sort, value_at(after, x));
-    if size(words) <= i {
+    if index.table.size() <= i {
         return differs(moved, stored_value(sort, value_at(present, x)));
     }
-    let root = c_at(words, i);
-    if tag_at(words, i) == tag::BECOMES_EQUAL {
-        let found = evaluate_expression(
-            words,
-            table.nodes_start,
-            table.identifiers_start,
-            present,
-            after,
-            root,
-        );
-        return fault_of(moved, found);
-    }
-    let met = evaluate_predicate(
-        words,
-        table.nodes_start,
-        table.identifiers_start,
+    let root = index.table.c_at(i);
+    let env = Env {
+        table: &index.table,
         present,
         after,
-        root,
-    );
+    };
+    if index.table.tag_at(i) == tag::BECOMES_EQUAL {
+        let found = evaluate_expression(&env, root);
+        return fault_of(moved, found);
+    }
+    let met = evaluate_predicate(&env, root);
     fault_of(Value::Truth(true), met)
 }
 
 // The same of the identifier x, where it is a variable of the concrete machine.
 fn variable_fault(
-    words: &[u64],
-    table: Table,
-    spans: &[usize],
+    index: &Index,
     present: &[i64],
     after: &[i64],
     e: u64,
     x: u64,
 ) -> Result<(), StepFault>
-    requires { (table ≡ counts_of (rows_of words.now)) × Spanned (rows_of words.now) spans.now }
-    ensures { fault_number result ≡ variable_fault (rows_of words.now) present.now after.now e x }
+    ensures { fault_number result ≡ variable_fault (rows_of index.now.table.words.now) present.now after.now e x }
 {
-    let kind = identifier_field(words, table, x, Table::KIND);
+    let kind = index.table.identifier_field(x, Table::KIND);
     if is_variable_of(identifier::CONCRETE_VARIABLE, kind) {
-        return action_fault(words, table, spans, present, after, e, x);
+        return action_fault(index, present, after, e, x);
     }
     Ok(())
 }
 
 // The first fault of the variables, in identifier order.
-fn first_not_allowed(
-    words: &[u64],
-    table: Table,
-    spans: &[usize],
-    present: &[i64],
-    after: &[i64],
-    e: u64,
-) -> Result<(), StepFault>
-    requires { (table ≡ counts_of (rows_of words.now)) × Spanned (rows_of words.now) spans.now }
-    ensures { fault_number result ≡ first_not_allowed (rows_of words.now) present.now after.now e }
+fn first_not_allowed(index: &Index, present: &[i64], after: &[i64], e: u64) -> Result<(), StepFault>
+    ensures { fault_number result ≡ first_not_allowed (rows_of index.now.table.words.now) present.now after.now e }
 {
-    for x in 0..table.identifiers {
-        variable_fault(words, table, spans, present, after, e, x + 1)?;
+    for x in 0..index.table.counts.identifiers {
+        variable_fault(index, present, after, e, x + 1)?;
     }
     Ok(())
 }
 
 // The first fault of the axioms, where the event is an initialisation.
-fn axiom_fault(
-    words: &[u64],
-    table: Table,
-    spans: &[usize],
-    present: &[i64],
-    e: u64,
-) -> Result<(), StepFault>
-    requires { (table ≡ counts_of (rows_of words.now)) × Spanned (rows_of words.now) spans.now }
-    ensures { fault_number result ≡ pick (is_initial (rows_of words.now) e) (first_untrue (rows_of words.now) present.now 30 e) 0 }
+fn axiom_fault(index: &Index, present: &[i64], e: u64) -> Result<(), StepFault>
+    ensures { fault_number result ≡ pick (is_initial (rows_of index.now.table.words.now) e) (first_untrue (rows_of index.now.table.words.now) present.now 30 e) 0 }
 {
-    if is_initial(words, table, e) {
-        return first_untrue(words, table, spans, present, tag::AXIOM, e);
+    if is_initial(&index.table, e) {
+        return first_untrue(index, present, tag::AXIOM, e);
     }
     Ok(())
 }
 
 // The first fault of a step of the event e.
-pub fn step_fault(
-    words: &[u64],
-    table: Table,
-    spans: &[usize],
-    present: &[i64],
-    after: &[i64],
-    e: u64,
-) -> Result<(), StepFault>
-    requires { (table ≡ counts_of (rows_of words.now)) × Spanned (rows_of words.now) spans.now }
-    ensures { fault_number result ≡ step_fault (rows_of words.now) e present.now after.now }
+pub fn step_fault(index: &Index, present: &[i64], after: &[i64], e: u64) -> Result<(), StepFault>
+    ensures { fault_number result ≡ step_fault (rows_of index.now.table.words.now) e present.now after.now }
 {
-    axiom_fault(words, table, spans, present, e)?;
-    first_untrue(words, table, spans, present, tag::GUARD, e)?;
-    first_not_allowed(words, table, spans, present, after, e)
+    axiom_fault(index, present, e)?;
+    first_untrue(index, present, tag::GUARD, e)?;
+    first_not_allowed(index, present, after, e)
 }
 
 // The first fault of a step of the event e that is pressed: "by replay's rules, axioms read first each time".
-pub fn press_fault(
-    words: &[u64],
-    table: Table,
-    spans: &[usize],
-    present: &[i64],
-    after: &[i64],
-    e: u64,
-) -> Result<(), StepFault>
-    requires { (table ≡ counts_of (rows_of words.now)) × Spanned (rows_of words.now) spans.now }
-    ensures { fault_number result ≡ press_fault (rows_of words.now) e present.now after.now }
+pub fn press_fault(index: &Index, present: &[i64], after: &[i64], e: u64) -> Result<(), StepFault>
+    ensures { fault_number result ≡ press_fault (rows_of index.now.table.words.now) e present.now after.now }
 {
-    first_untrue(words, table, spans, present, tag::AXIOM, e)?;
-    step_fault(words, table, spans, present, after, e)
+    first_untrue(index, present, tag::AXIOM, e)?;
+    step_fault(index, present, after, e)
 }

@@ -2,6 +2,8 @@
 // and whether it divides, and of each event the set of those that it assigns.
 #![tactic(auto)]
 
+mod index;
+
 ghost use Rattle.std.specs.Prelude.{◌≡◌, ◌&&◌, ◌+◌, ◌≤◌, ◌<◌, leb, length};
 ghost use Rattle.table.specs.Rows.{rows_of, is_action};
 ghost use Rattle.table.specs.Counts.{counts_of};
@@ -12,11 +14,12 @@ ghost use Rattle.nodes.specs.Notes.{node_limit, note_in, noted_tree, assigned_se
 ghost use Rattle.nodes.specs.Steps.{stored, Cleared, NotedTo};
 
 use conditions::find_condition;
+pub use index::Index;
 use notes::{Note, empty_note, shaped_note};
 use operators::find_operator;
 use scan::{Span, fill_spans, span_at};
 use sets::{meets, single};
-use table::{Table, a_at, b_at, node_field, one_if, operand, tag, tag_at};
+use table::{Counted, Table, a_at, b_at, one_if, operand, tag, tag_at};
 
 // The note of node n, as it is stored: three numbers.
 fn load(spans: &[usize], n: u64) -> Note
@@ -92,13 +95,13 @@ fn note_actions(words: &[u64], spans: &mut [usize])
 }
 
 // The note of node n, from its row and the notes of its operands, which come before it.
-fn make_note(words: &[u64], table: Table, spans: &[usize], n: u64) -> Note
-    requires { (table ≡ counts_of (rows_of words.now)) × (1 ≤ n) × (n ≤ node_limit) × NotedTo (rows_of words.now) n (rows_of words.now).size spans.now }
-    ensures { result ≡ note_of (tree_of (rows_of words.now) n) }
+fn make_note(table: &Counted, spans: &[usize], n: u64) -> Note
+    requires { (1 ≤ n) × (n ≤ node_limit) × NotedTo (rows_of table.now.words.now) n (rows_of table.now.words.now).size spans.now }
+    ensures { result ≡ note_of (tree_of (rows_of table.now.words.now) n) }
 {
-    let operator = node_field(words, table, n, Table::OPERATOR);
-    let b = node_field(words, table, n, Table::LEFT);
-    let c = node_field(words, table, n, Table::RIGHT);
+    let operator = table.node_field(n, Table::OPERATOR);
+    let b = table.node_field(n, Table::LEFT);
+    let c = table.node_field(n, Table::RIGHT);
     let found = find_operator(operator);
     let shape = found.shape;
     let condition = find_condition(operator);
@@ -108,65 +111,62 @@ fn make_note(words: &[u64], table: Table, spans: &[usize], n: u64) -> Note
 }
 
 // Notes node n.
-fn note_node(words: &[u64], table: Table, spans: &mut [usize], n: u64)
-    requires { (table ≡ counts_of (rows_of words.now)) × (1 ≤ n) × (n ≤ node_limit) × NotedTo (rows_of words.now) n (rows_of words.now).size spans.old }
-    ensures { NotedTo (rows_of words.now) (n + 1) (rows_of words.now).size spans.new }
+fn note_node(table: &Counted, spans: &mut [usize], n: u64)
+    requires { (1 ≤ n) × (n ≤ node_limit) × NotedTo (rows_of table.now.words.now) n (rows_of table.now.words.now).size spans.old }
+    ensures { NotedTo (rows_of table.now.words.now) (n + 1) (rows_of table.now.words.now).size spans.new }
 {
-    let made = make_note(words, table, spans, n);
+    let made = make_note(table, spans, n);
     store(spans, n, made);
 }
 
 // Notes the nodes up to the limit, operands first.
-fn note_nodes(words: &[u64], table: Table, spans: &mut [usize])
-    requires { (table ≡ counts_of (rows_of words.now)) × NotedTo (rows_of words.now) 1 (rows_of words.now).size spans.old }
-    ensures { Noted (rows_of words.now) spans.new }
+fn note_nodes(table: &Counted, spans: &mut [usize])
+    requires { NotedTo (rows_of table.now.words.now) 1 (rows_of table.now.words.now).size spans.old }
+    ensures { Noted (rows_of table.now.words.now) spans.new }
 {
-    let last = table.nodes.min(Table::NODES);
+    let last = table.counts.nodes.min(Table::NODES);
     for n in 1..=last {
-        note_node(words, table, spans, n);
+        note_node(table, spans, n);
     }
 }
 
 // Fills the spans of a table's rows and notes its nodes and events.
-pub fn fill_notes(words: &[u64], table: Table, spans: &mut [usize])
-    requires { (table ≡ counts_of (rows_of words.now)) × (length spans.old ≡ span_words) }
-    ensures { Noted (rows_of words.now) spans.new }
+pub fn fill_notes(table: &Counted, spans: &mut [usize])
+    requires { length spans.old ≡ span_words }
+    ensures { Noted (rows_of table.now.words.now) spans.new }
 {
-    fill_spans(words, spans);
+    fill_spans(table.words, spans);
     clear_notes(spans);
-    note_actions(words, spans);
-    note_nodes(words, table, spans);
+    note_actions(table.words, spans);
+    note_nodes(table, spans);
 }
 
 // What is noted of node n; above the limit, which no accepted table has, nothing.
-pub fn note_at(words: &[u64], spans: &[usize], n: u64) -> Note
-    requires { Noted (rows_of words.now) spans.now }
-    ensures { result ≡ note_of (noted_tree (rows_of words.now) n) }
+pub fn note_at(index: &Index, n: u64) -> Note
+    ensures { result ≡ note_of (noted_tree (rows_of index.now.table.words.now) n) }
 {
     if Table::NODES < n {
         return empty_note();
     }
-    load(spans, n)
+    load(index.spans, n)
 }
 
 // The set of the identifiers that an event assigns.
-pub fn assigned_by(words: &[u64], spans: &[usize], event: u64) -> u64
-    requires { Noted (rows_of words.now) spans.now }
-    ensures { result ≡ assigned_set (rows_of words.now) event }
+pub fn assigned_by(index: &Index, event: u64) -> u64
+    ensures { result ≡ assigned_set (rows_of index.now.table.words.now) event }
 {
     if Table::EVENTS < event {
         return 0;
     }
     let at = event_at(event);
-    spans[at] as u64
+    index.spans[at] as u64
 }
 
 // Whether an event assigns an identifier that the formula of node n mentions.
-pub fn touches(words: &[u64], spans: &[usize], event: u64, n: u64) -> bool
-    requires { Noted (rows_of words.now) spans.now }
-    ensures { result ≡ touches (rows_of words.now) event n }
+pub fn touches(index: &Index, event: u64, n: u64) -> bool
+    ensures { result ≡ touches (rows_of index.now.table.words.now) event n }
 {
-    let noted = note_at(words, spans, n);
-    let assigned = assigned_by(words, spans, event);
+    let noted = note_at(index, n);
+    let assigned = assigned_by(index, event);
     meets(noted.mentioned, assigned)
 }

@@ -16,7 +16,7 @@ ghost use Rattle.obligations.specs.Output.{StandsAt, slot_bytes};
 ghost use Rattle.obligations.specs.Held.{Waits, written_to, enough, room};
 
 use input::read_full;
-use nodes::fill_notes;
+use nodes::Index;
 use output::Printer;
 use reply::tags;
 use row::Row;
@@ -94,21 +94,19 @@ impl Batch {
 // Writes the sequent in a slot, which is listed, behind what is held, where it is what the output goes on with, and prints once enough is held.
 fn print_slot(
     bytes: &[u8],
-    words: &[u64],
-    table: Table,
-    spans: &[usize],
+    index: &Index,
     slot: Slot,
     batch: Batch,
     out: &mut [u8],
 ) -> io::Result<Batch>
-    requires table_value { (table ≡ counts_of (rows_of words.now)) × Noted (rows_of words.now) spans.now × (slot.row < (rows_of words.now).size) }
-    requires waits { Waits bytes.now batch out.old × (batch.held < enough) × (room (rows_of words.now).size ≤ length out.old) }
-    requires stands_at { StandsAt bytes.now (written_to batch) (slot_bytes (rows_of words.now) slot) × ListedSlot (rows_of words.now) slot }
-    ensures { IfOk result (λ after. Waits bytes.now after out.new × (after.held < enough) × (written_to after ≡ written_to batch + length (slot_bytes (rows_of words.now) slot))) }
+    requires table_value { slot.row < (rows_of index.now.table.words.now).size }
+    requires waits { Waits bytes.now batch out.old × (batch.held < enough) × (room (rows_of index.now.table.words.now).size ≤ length out.old) }
+    requires stands_at { StandsAt bytes.now (written_to batch) (slot_bytes (rows_of index.now.table.words.now) slot) × ListedSlot (rows_of index.now.table.words.now) slot }
+    ensures { IfOk result (λ after. Waits bytes.now after out.new × (after.held < enough) × (written_to after ≡ written_to batch + length (slot_bytes (rows_of index.now.table.words.now) slot))) }
 {
     let printer = batch.printer;
     let start = batch.held;
-    let held = start + write_slot(words, table, spans, slot, &mut out[start..]);
+    let held = start + write_slot(index, slot, &mut out[start..]);
     Batch { printer, held }.pass_on(bytes, out)
 }
 
@@ -116,43 +114,33 @@ fn print_slot(
 fn print_sequents(
     stdout: Stdout,
     bytes: &[u8],
-    words: &[u64],
-    table: Table,
-    spans: &[usize],
+    index: &Index,
     count: u64,
     out: &mut [u8],
 ) -> io::Result<Printer>
-    requires table_value { (table ≡ counts_of (rows_of words.now)) × Noted (rows_of words.now) spans.now }
-    requires words_value { (words.now ≡ words_of bytes.now) × (verdict_of bytes.now ≡ Ok count) × (room (rows_of words.now).size ≤ length out.old) }
+    requires { (index.now.table.words.now ≡ words_of bytes.now) × (verdict_of bytes.now ≡ Ok count) × (room (rows_of index.now.table.words.now).size ≤ length out.old) }
     ensures { IfOk result (λ printer. printer.at ≡ length (output bytes.now)) }
 {
     let mut batch = Batch::start(stdout);
-    let mut slot = seek(words, table, spans, Slot::start(0));
+    let mut slot = seek(index, Slot::start(0));
     let mut done = 0;
     while done < count {
-        batch = print_slot(bytes, words, table, spans, slot, batch, out)?;
-        slot = seek(words, table, spans, slot.after());
+        batch = print_slot(bytes, index, slot, batch, out)?;
+        slot = seek(index, slot.after());
         done += 1;
     }
     batch.flush(bytes, out)
 }
 
 // Prints the sequents of a table with these words, or its refusal by checks 3 to 12, by the counts of the rows and what is noted of them.
-fn print_judged(
-    stdout: Stdout,
-    bytes: &[u8],
-    words: &[u64],
-    table: Table,
-    spans: &[usize],
-    out: &mut [u8],
-) -> io::Result<Printer>
-    requires table_value { (table ≡ counts_of (rows_of words.now)) × Noted (rows_of words.now) spans.now × (length words.now ≤ most_words) }
-    requires words_value { (words.now ≡ words_of bytes.now) × (verdict_of bytes.now ≡ judge_of (rows_of words.now)) × (room most_rows ≤ length out.old) }
+fn print_judged(stdout: Stdout, bytes: &[u8], index: &Index, out: &mut [u8]) -> io::Result<Printer>
+    requires table_value { length index.now.table.words.now ≤ most_words }
+    requires words_value { (index.now.table.words.now ≡ words_of bytes.now) × (verdict_of bytes.now ≡ judge_of (rows_of index.now.table.words.now)) × (room most_rows ≤ length out.old) }
     ensures { IfOk result (λ printer. printer.at ≡ length (output bytes.now)) }
 {
-    match judge_with(words, table, spans) {
+    match judge_with(index) {
         Err(refusal) => print_refusal(stdout, bytes, refusal),
-        Ok(count) => print_sequents(stdout, bytes, words, table, spans, count, out),
+        Ok(count) => print_sequents(stdout, bytes, index, count, out),
     }
 }
 
@@ -163,9 +151,8 @@ fn print_rows(stdout: Stdout, bytes: &[u8], words: &[u64], out: &mut [u8]) -> io
     ensures { IfOk result (λ printer. printer.at ≡ length (output bytes.now)) }
 {
     let mut spans = [0usize; Span::WORDS];
-    let table = Table::of(words);
-    fill_notes(words, table, &mut spans);
-    print_judged(stdout, bytes, words, table, &spans, out)
+    let index = Index::of(words, &mut spans);
+    print_judged(stdout, bytes, &index, out)
 }
 
 // Prints the whole output for a table.

@@ -20,7 +20,7 @@ ghost use Rattle.press.specs.Numbers.{choice_of, room_for};
 
 use after::{complete_values, update_values};
 use judge::press_fault;
-use nodes::fill_notes;
+use nodes::Index;
 use reader::next_row;
 use row::{Place, Read};
 use rules::Refusal;
@@ -43,42 +43,32 @@ fn chosen_to(e: u64, end: usize, length: usize) -> Option<u64>
 
 // Reads the rows 91 of a choice of the event e, the last of its rows.
 fn choose_values(
-    words: &[u64],
-    table: Table,
-    spans: &[usize],
+    index: &Index,
     step: &[u8],
     e: u64,
     place: Place,
     present: &mut [i64],
     after: &mut [i64],
 ) -> Option<u64>
-    requires { (table ≡ counts_of (rows_of words.now)) × Spanned (rows_of words.now) spans.now × (place.at ≡ row_length width) × (place.at ≤ length step.now) }
-    ensures { choice_of result (values_of present.new after.new) ≡ choice_found e (read_values (rows_of words.now) e (asked (rows_of words.now) e) 2 (lines_at step.now place.at) (values_of present.old after.old)) }
+    requires { (place.at ≡ row_length width) × (place.at ≤ length step.now) }
+    ensures { choice_of result (values_of present.new after.new) ≡ choice_found e (read_values (rows_of index.now.table.words.now) e (asked (rows_of index.now.table.words.now) e) 2 (lines_at step.now place.at) (values_of present.old after.old)) }
 {
-    match read_values(words, table, spans, true, step, e, place, present, after) {
+    match read_values(index, true, step, e, place, present, after) {
         Err(_) => None,
         Ok(end) => chosen_to(e, end.at, step.len()),
     }
 }
 
 // Reads the rows of a choice: row 90 of a concrete event that is no initialisation, then its rows 91.
-fn choose(
-    words: &[u64],
-    table: Table,
-    spans: &[usize],
-    step: &[u8],
-    present: &mut [i64],
-    after: &mut [i64],
-) -> Option<u64>
-    requires { (table ≡ counts_of (rows_of words.now)) × Spanned (rows_of words.now) spans.now }
-    ensures { choice_of result (values_of present.new after.new) ≡ choice (rows_of words.now) (lines step.now) (values_of present.old after.old) }
+fn choose(index: &Index, step: &[u8], present: &mut [i64], after: &mut [i64]) -> Option<u64>
+    ensures { choice_of result (values_of present.new after.new) ≡ choice (rows_of index.now.table.words.now) (lines step.now) (values_of present.old after.old) }
 {
     match next_row(Place::start(), step) {
         Read::End => None,
         Read::Malformed => None,
         Read::Next(row, next) => {
-            if is_step_row(words, table, false, row) {
-                return choose_values(words, table, spans, step, row.a, next, present, after);
+            if is_step_row(&index.table, false, row) {
+                return choose_values(index, step, row.a, next, present, after);
             }
             None
         }
@@ -87,86 +77,74 @@ fn choose(
 
 // Performs a step of the event e, whose values are stored, and updates the state's values; or tells the first fault.
 fn press_event(
-    words: &[u64],
-    table: Table,
-    spans: &[usize],
+    index: &Index,
     e: u64,
     present: &[i64],
     after: &mut [i64],
     values: &mut [i64],
 ) -> Result<(), Refusal>
-    requires { (table ≡ counts_of (rows_of words.now)) × Spanned (rows_of words.now) spans.now × (count (rows_of words.now) identifier_tag ≤ 64) × (length values.old ≡ count (rows_of words.now) identifier_tag) × (length after.old ≡ 65) }
-    ensures value { result ≡ reply_of (press_choice (rows_of words.now) values.old (chosen e (values_of present.now after.old))) }
-    ensures values_after { values.new ≡ kept_or (λ zs. zs) values.old (press_choice (rows_of words.now) values.old (chosen e (values_of present.now after.old))) }
+    requires { (count (rows_of index.now.table.words.now) identifier_tag ≤ 64) × (length values.old ≡ count (rows_of index.now.table.words.now) identifier_tag) × (length after.old ≡ 65) }
+    ensures value { result ≡ reply_of (press_choice (rows_of index.now.table.words.now) values.old (chosen e (values_of present.now after.old))) }
+    ensures values_after { values.new ≡ kept_or (λ zs. zs) values.old (press_choice (rows_of index.now.table.words.now) values.old (chosen e (values_of present.now after.old))) }
 {
-    complete_values(words, table, spans, e, present, after);
-    if let Err(fault) = press_fault(words, table, spans, present, after, e) {
+    complete_values(index, e, present, after);
+    if let Err(fault) = press_fault(index, present, after, e) {
         return Err(Refusal {
             number: fault.number(),
             row: 0,
         });
     }
-    update_values(words, table, after, values);
+    update_values(&index.table, after, values);
     Ok(())
 }
 
 // The same of the event that the rows of a step choose.
 fn press_step(
-    words: &[u64],
-    table: Table,
-    spans: &[usize],
+    index: &Index,
     step: &[u8],
     present: &mut [i64],
     after: &mut [i64],
     values: &mut [i64],
 ) -> Result<(), Refusal>
-    requires { (table ≡ counts_of (rows_of words.now)) × Spanned (rows_of words.now) spans.now × (count (rows_of words.now) identifier_tag ≤ 64) × (length values.old ≡ count (rows_of words.now) identifier_tag) × (length after.old ≡ 65) }
-    ensures value { result ≡ reply_of (press_choice (rows_of words.now) values.old (choice (rows_of words.now) (lines step.now) (values_of present.old after.old))) }
-    ensures values_after { values.new ≡ kept_or (λ zs. zs) values.old (press_choice (rows_of words.now) values.old (choice (rows_of words.now) (lines step.now) (values_of present.old after.old))) }
+    requires { (count (rows_of index.now.table.words.now) identifier_tag ≤ 64) × (length values.old ≡ count (rows_of index.now.table.words.now) identifier_tag) × (length after.old ≡ 65) }
+    ensures value { result ≡ reply_of (press_choice (rows_of index.now.table.words.now) values.old (choice (rows_of index.now.table.words.now) (lines step.now) (values_of present.old after.old))) }
+    ensures values_after { values.new ≡ kept_or (λ zs. zs) values.old (press_choice (rows_of index.now.table.words.now) values.old (choice (rows_of index.now.table.words.now) (lines step.now) (values_of present.old after.old))) }
 {
-    match choose(words, table, spans, step, present, after) {
+    match choose(index, step, present, after) {
         None => Err(Refusal {
             number: Refusal::LOG,
             row: 0,
         }),
-        Some(e) => press_event(words, table, spans, e, present, after, values),
+        Some(e) => press_event(index, e, present, after, values),
     }
 }
 
 // The same with the state's values at hand.
-fn press_values(
-    words: &[u64],
-    table: Table,
-    spans: &[usize],
-    step: &[u8],
-    values: &mut [i64],
-) -> Result<(), Refusal>
-    requires { (table ≡ counts_of (rows_of words.now)) × Spanned (rows_of words.now) spans.now × (count (rows_of words.now) identifier_tag ≤ 64) × (length values.old ≡ count (rows_of words.now) identifier_tag) }
-    ensures value { result ≡ reply_of (press_choice (rows_of words.now) values.old (choice (rows_of words.now) (lines step.now) (at_hand (rows_of words.now) values.old))) }
-    ensures values_after { values.new ≡ kept_or (λ zs. zs) values.old (press_choice (rows_of words.now) values.old (choice (rows_of words.now) (lines step.now) (at_hand (rows_of words.now) values.old))) }
+fn press_values(index: &Index, step: &[u8], values: &mut [i64]) -> Result<(), Refusal>
+    requires { (count (rows_of index.now.table.words.now) identifier_tag ≤ 64) × (length values.old ≡ count (rows_of index.now.table.words.now) identifier_tag) }
+    ensures value { result ≡ reply_of (press_choice (rows_of index.now.table.words.now) values.old (choice (rows_of index.now.table.words.now) (lines step.now) (at_hand (rows_of index.now.table.words.now) values.old))) }
+    ensures values_after { values.new ≡ kept_or (λ zs. zs) values.old (press_choice (rows_of index.now.table.words.now) values.old (choice (rows_of index.now.table.words.now) (lines step.now) (at_hand (rows_of index.now.table.words.now) values.old))) }
 {
     let mut present = [0i64; Table::IDENTIFIERS as usize + 1];
     let mut after = [0i64; Table::IDENTIFIERS as usize + 1];
     copy_list(values, &mut present[1..]);
-    press_step(words, table, spans, step, &mut present, &mut after, values)
+    press_step(index, step, &mut present, &mut after, values)
 }
 
 // Presses on a state of the table of these rows, which is accepted, where all is right that is looked at "before any term is read".
 fn press_state(
-    words: &[u64],
-    table: Table,
-    spans: &[usize],
+    index: &Index,
     step: &[u8],
     values: &mut [i64],
     sorts: &[u64],
     room: usize,
 ) -> Result<(), Refusal>
-    requires { (table ≡ counts_of (rows_of words.now)) × Spanned (rows_of words.now) spans.now × (count (rows_of words.now) identifier_tag ≤ 64) }
-    ensures value { result ≡ reply_of (press_on (rows_of words.now) step.now values.old sorts.now room) }
-    ensures values_after { values.new ≡ kept_or (λ zs. zs) values.old (press_on (rows_of words.now) step.now values.old sorts.now room) }
+    requires { count (rows_of index.now.table.words.now) identifier_tag ≤ 64 }
+    ensures value { result ≡ reply_of (press_on (rows_of index.now.table.words.now) step.now values.old sorts.now room) }
+    ensures values_after { values.new ≡ kept_or (λ zs. zs) values.old (press_on (rows_of index.now.table.words.now) step.now values.old sorts.now room) }
 {
-    if is_state(words, table, values, sorts) & (room as u64 == table.identifiers) {
-        return press_values(words, table, spans, step, values);
+    if is_state(&index.table, values, sorts) & (room as u64 == index.table.counts.identifiers) {
+        return press_values(index, step, values);
     }
     Err(Refusal {
         number: Refusal::LOG,
@@ -176,20 +154,18 @@ fn press_state(
 
 // The same of a table that may be refused, which has its own number and row.
 fn press_judged(
-    words: &[u64],
-    table: Table,
-    spans: &[usize],
+    index: &Index,
     step: &[u8],
     values: &mut [i64],
     sorts: &[u64],
     room: usize,
 ) -> Result<(), Refusal>
-    requires { (table ≡ counts_of (rows_of words.now)) × Noted (rows_of words.now) spans.now × (length words.now ≤ most_words) }
-    ensures value { result ≡ reply_of (outcome_by (judge_of (rows_of words.now)) (press_on (rows_of words.now) step.now values.old sorts.now room)) }
-    ensures values_after { values.new ≡ kept_or (λ zs. zs) values.old (outcome_by (judge_of (rows_of words.now)) (press_on (rows_of words.now) step.now values.old sorts.now room)) }
+    requires { length index.now.table.words.now ≤ most_words }
+    ensures value { result ≡ reply_of (outcome_by (judge_of (rows_of index.now.table.words.now)) (press_on (rows_of index.now.table.words.now) step.now values.old sorts.now room)) }
+    ensures values_after { values.new ≡ kept_or (λ zs. zs) values.old (outcome_by (judge_of (rows_of index.now.table.words.now)) (press_on (rows_of index.now.table.words.now) step.now values.old sorts.now room)) }
 {
-    judge_with(words, table, spans)?;
-    press_state(words, table, spans, step, values, sorts, room)
+    judge_with(index)?;
+    press_state(index, step, values, sorts, room)
 }
 
 // The same of the rows alone.
@@ -205,9 +181,8 @@ fn press_rows(
     ensures values_after { values.new ≡ kept_or (λ zs. zs) values.old (outcome_by (judge_of (rows_of words.now)) (press_on (rows_of words.now) step.now values.old sorts.now room)) }
 {
     let mut spans = [0usize; Span::WORDS];
-    let table = Table::of(words);
-    fill_notes(words, table, &mut spans);
-    press_judged(words, table, &spans, step, values, sorts, room)
+    let index = Index::of(words, &mut spans);
+    press_judged(&index, step, values, sorts, room)
 }
 
 // Presses on a state whose new values go to a list of so many records.

@@ -14,7 +14,7 @@ ghost use Rattle.replay.specs.Reply.{reply_row};
 
 use failure::Failure;
 use input::read_full;
-use nodes::fill_notes;
+use nodes::Index;
 use reply::tags;
 use row::Row;
 use rules::Refusal;
@@ -88,15 +88,13 @@ fn read_on<R: Read>(file: &mut R, window: &mut [u8], held: usize) -> io::Result<
 // Replays the log that a file holds, with no values known before.
 fn replay_parts<R: Read>(
     rt: &impl Print,
-    words: &[u64],
-    table: Table,
-    spans: &[usize],
+    index: &Index,
     log: &mut R,
     window: &mut [u8],
     present: &mut [i64],
     after: &mut [i64],
 ) -> Result<(), Failure>
-    requires { (table ≡ counts_of (rows_of words.now)) × Spanned (rows_of words.now) spans.now × (length window.old ≡ 65536) }
+    requires { length window.old ≡ 65536 }
 {
     let mut held = 0;
     let mut n = 0;
@@ -106,7 +104,7 @@ fn replay_parts<R: Read>(
         held = read_on(log, window, held).map_err(Failure::Log)?;
         let last = held < WINDOW;
         let part = &window[..held];
-        match replay_part(words, table, spans, part, last, n, before, present, after) {
+        match replay_part(index, part, last, n, before, present, after) {
             Ok(Part::More(steps, next)) => {
                 n = steps;
                 before += (next.at / Row::LENGTH) as u64;
@@ -121,43 +119,20 @@ fn replay_parts<R: Read>(
 }
 
 // Replays the log that a file holds, of the table of these rows, which is accepted.
-fn replay_log<R: Read>(
-    rt: &impl Print,
-    words: &[u64],
-    table: Table,
-    spans: &[usize],
-    log: &mut R,
-) -> Result<(), Failure>
-    requires { (table ≡ counts_of (rows_of words.now)) × Spanned (rows_of words.now) spans.now }
-{
+fn replay_log<R: Read>(rt: &impl Print, index: &Index, log: &mut R) -> Result<(), Failure> {
     let mut window = [0u8; WINDOW];
     let mut present = [0i64; Table::IDENTIFIERS as usize + 1];
     let mut after = [0i64; Table::IDENTIFIERS as usize + 1];
-    replay_parts(
-        rt,
-        words,
-        table,
-        spans,
-        log,
-        &mut window,
-        &mut present,
-        &mut after,
-    )
+    replay_parts(rt, index, log, &mut window, &mut present, &mut after)
 }
 
 // The same of a table that may be refused.
-fn replay_judged<R: Read>(
-    rt: &impl Print,
-    words: &[u64],
-    table: Table,
-    spans: &[usize],
-    log: &mut R,
-) -> Result<(), Failure>
-    requires { (table ≡ counts_of (rows_of words.now)) × Noted (rows_of words.now) spans.now × (length words.now ≤ most_words) }
+fn replay_judged<R: Read>(rt: &impl Print, index: &Index, log: &mut R) -> Result<(), Failure>
+    requires { length index.now.table.words.now ≤ most_words }
 {
-    match judge_with(words, table, spans) {
+    match judge_with(index) {
         Err(refusal) => print(rt, Err(refusal)),
-        Ok(_) => replay_log(rt, words, table, spans, log),
+        Ok(_) => replay_log(rt, index, log),
     }
 }
 
@@ -166,9 +141,8 @@ fn replay_rows<R: Read>(rt: &impl Print, words: &[u64], log: &mut R) -> Result<(
     requires { length words.now ≤ most_words }
 {
     let mut spans = [0usize; Span::WORDS];
-    let table = Table::of(words);
-    fill_notes(words, table, &mut spans);
-    replay_judged(rt, words, table, &spans, log)
+    let index = Index::of(words, &mut spans);
+    replay_judged(rt, &index, log)
 }
 
 // The same of a table's bytes.

@@ -8,77 +8,73 @@ ghost use Rattle.table.specs.Counts.{counts_of};
 ghost use Rattle.scan.specs.Spans.{Spanned};
 ghost use Rattle.rules.specs.Rules.{action_wanted, witness_wanted, lacks_for, assigned, has_witness, event_lacks, missing};
 
+use nodes::Index;
 use scan::{Query, some_row, span_at};
-use table::{
-    Table, a_at, b_at, c_at, event, identifier, number_in, size, tag, tag_at, variable_kind,
-};
+use table::{event, identifier, number_in, tag, variable_kind};
 
 // Whether the event at row i, whose number is event, needs an action for the identifier at row j, whose number is target, and has none.
 // 02, request 2: of a shared variable "both initialisations must".
-fn lacks_action(words: &[u64], spans: &[usize], i: usize, j: usize, event: u64, target: u64) -> bool
-    requires { Spanned (rows_of words.now) spans.now }
-    ensures { result ≡ action_wanted (rows_of words.now) i j && not (assigned (rows_of words.now) event target) }
+fn lacks_action(index: &Index, i: usize, j: usize, event: u64, target: u64) -> bool
+    ensures { result ≡ action_wanted (rows_of index.now.table.words.now) i j && not (assigned (rows_of index.now.table.words.now) event target) }
 {
-    let variable = variable_kind(a_at(words, j), a_at(words, i));
-    if (b_at(words, i) == event::INITIALISATION) & variable {
-        return !some_row(words, spans, Query::Assigns { event, target }, size(words));
+    let variable = variable_kind(index.table.a_at(j), index.table.a_at(i));
+    if (index.table.b_at(i) == event::INITIALISATION) & variable {
+        return !some_row(
+            index.table.words,
+            index.spans,
+            Query::Assigns { event, target },
+            index.table.size(),
+        );
     }
     false
 }
 
 // The same of a witness.
-fn lacks_witness(
-    words: &[u64],
-    spans: &[usize],
-    i: usize,
-    j: usize,
-    event: u64,
-    target: u64,
-) -> bool
-    requires { Spanned (rows_of words.now) spans.now }
-    ensures { result ≡ witness_wanted (rows_of words.now) i j && not (has_witness (rows_of words.now) event target) }
+fn lacks_witness(index: &Index, i: usize, j: usize, event: u64, target: u64) -> bool
+    ensures { result ≡ witness_wanted (rows_of index.now.table.words.now) i j && not (has_witness (rows_of index.now.table.words.now) event target) }
 {
-    let kind = a_at(words, j);
-    let refining = (a_at(words, i) == event::CONCRETE) & (b_at(words, i) < event::CONVERGENT);
+    let kind = index.table.a_at(j);
+    let refining = (index.table.a_at(i) == event::CONCRETE)
+        & (index.table.b_at(i) < event::CONVERGENT);
     if refining
         & ((kind == identifier::ABSTRACT_VARIABLE)
-            | ((kind == identifier::ABSTRACT_PARAMETER) & (c_at(words, j) == c_at(words, i))))
+            | ((kind == identifier::ABSTRACT_PARAMETER)
+                & (index.table.c_at(j) == index.table.c_at(i))))
     {
         return !some_row(
-            words,
-            spans,
+            index.table.words,
+            index.spans,
             Query::Witnesses { event, target },
-            size(words),
+            index.table.size(),
         );
     }
     false
 }
 
 // Whether row j is an identifier for which the event at row i lacks an action or a witness.
-fn lacks_for(words: &[u64], table: Table, spans: &[usize], i: usize, j: usize) -> bool
-    requires { (table ≡ counts_of (rows_of words.now)) × Spanned (rows_of words.now) spans.now × (i < 2 ^ 63) × (j < 2 ^ 63) }
-    ensures { result ≡ lacks_for (rows_of words.now) i j }
+fn lacks_for(index: &Index, i: usize, j: usize) -> bool
+    requires { (i < 2 ^ 63) × (j < 2 ^ 63) }
+    ensures { result ≡ lacks_for (rows_of index.now.table.words.now) i j }
 {
-    if tag_at(words, j) != tag::IDENTIFIER {
+    if index.table.tag_at(j) != tag::IDENTIFIER {
         return false;
     }
-    let event = number_in(table.events_start, i);
-    let target = number_in(table.identifiers_start, j);
-    lacks_action(words, spans, i, j, event, target)
-        | lacks_witness(words, spans, i, j, event, target)
+    let event = number_in(index.table.counts.events_start, i);
+    let target = number_in(index.table.counts.identifiers_start, j);
+    lacks_action(index, i, j, event, target) | lacks_witness(index, i, j, event, target)
 }
 
 // Whether row i is an event that lacks an action or a witness for some identifier.
-fn event_lacks(words: &[u64], table: Table, spans: &[usize], i: usize) -> bool
-    requires { (table ≡ counts_of (rows_of words.now)) × Spanned (rows_of words.now) spans.now × (i < 2 ^ 63) }
-    ensures { result ≡ event_lacks (rows_of words.now) i }
+fn event_lacks(index: &Index, i: usize) -> bool
+    requires { i < 2 ^ 63 }
+    ensures { result ≡ event_lacks (rows_of index.now.table.words.now) i }
 {
-    if tag_at(words, i) != tag::EVENT {
+    if index.table.tag_at(i) != tag::EVENT {
         return false;
     }
-    let identifiers = span_at(words, spans, tag::IDENTIFIER);
+    let identifiers = span_at(index.table.words, index.spans, tag::IDENTIFIER);
     for j in identifiers.from..identifiers.to {
-        if lacks_for(words, table, spans, i, j) {
+        if lacks_for(index, i, j) {
             return true;
         }
     }
@@ -86,13 +82,12 @@ fn event_lacks(words: &[u64], table: Table, spans: &[usize], i: usize) -> bool
 }
 
 // Whether some event does.
-fn some_event_lacks(words: &[u64], table: Table, spans: &[usize]) -> bool
-    requires { (table ≡ counts_of (rows_of words.now)) × Spanned (rows_of words.now) spans.now }
-    ensures { result ≡ some_below (event_lacks (rows_of words.now)) (rows_of words.now).size }
+fn some_event_lacks(index: &Index) -> bool
+    ensures { result ≡ some_below (event_lacks (rows_of index.now.table.words.now)) (rows_of index.now.table.words.now).size }
 {
-    let events = span_at(words, spans, tag::EVENT);
+    let events = span_at(index.table.words, index.spans, tag::EVENT);
     for i in events.from..events.to {
-        if event_lacks(words, table, spans, i) {
+        if event_lacks(index, i) {
             return true;
         }
     }
@@ -100,17 +95,41 @@ fn some_event_lacks(words: &[u64], table: Table, spans: &[usize]) -> bool
 }
 
 // 12: an initialisation of either machine, an action or a witness, a variant for class 2, or class 2 or 3 for a variant.
-pub fn missing(words: &[u64], table: Table, spans: &[usize]) -> bool
-    requires { (table ≡ counts_of (rows_of words.now)) × Spanned (rows_of words.now) spans.now }
-    ensures { result ≡ missing (rows_of words.now) }
+pub fn missing(index: &Index) -> bool
+    ensures { result ≡ missing (rows_of index.now.table.words.now) }
 {
-    let rows = size(words);
-    let abstract_initialised = some_row(words, spans, Query::Initialises(event::ABSTRACT), rows);
-    let concrete_initialised = some_row(words, spans, Query::Initialises(event::CONCRETE), rows);
-    let lacks = some_event_lacks(words, table, spans);
-    let convergent = some_row(words, spans, Query::OfClass(event::CONVERGENT), rows);
-    let anticipated = some_row(words, spans, Query::OfClass(event::ANTICIPATED), rows);
-    let variant = some_row(words, spans, Query::Tagged(tag::VARIANT), rows);
+    let rows = index.table.size();
+    let abstract_initialised = some_row(
+        index.table.words,
+        index.spans,
+        Query::Initialises(event::ABSTRACT),
+        rows,
+    );
+    let concrete_initialised = some_row(
+        index.table.words,
+        index.spans,
+        Query::Initialises(event::CONCRETE),
+        rows,
+    );
+    let lacks = some_event_lacks(index);
+    let convergent = some_row(
+        index.table.words,
+        index.spans,
+        Query::OfClass(event::CONVERGENT),
+        rows,
+    );
+    let anticipated = some_row(
+        index.table.words,
+        index.spans,
+        Query::OfClass(event::ANTICIPATED),
+        rows,
+    );
+    let variant = some_row(
+        index.table.words,
+        index.spans,
+        Query::Tagged(tag::VARIANT),
+        rows,
+    );
     let lacks_variant = convergent & !variant;
     let lacks_new_event = variant & !(convergent | anticipated);
     !abstract_initialised | (!concrete_initialised | (lacks | (lacks_variant | lacks_new_event)))

@@ -7,99 +7,100 @@ ghost use Rattle.scan.specs.Spans.{Spanned};
 ghost use Rattle.table.specs.Counts.{counts_of};
 ghost use Rattle.rules.specs.Rules.{abstract_ordinary_event, good_refined, out_of_order, event_offends, owner_event, good_owner, identifier_offends};
 
+use nodes::Index;
 use scan::{Query, some_row};
-use table::{Table, a_at, b_at, c_at, event, event_field, identifier, named_event, tag, tag_at};
+use table::{Counted, Table, event, identifier, tag};
 
 // Whether a number names an abstract ordinary event, which a concrete one may refine.
-fn abstract_ordinary_event(words: &[u64], table: Table, f: u64) -> bool
-    requires { table ≡ counts_of (rows_of words.now) }
-    ensures { result ≡ abstract_ordinary_event (rows_of words.now) f }
+fn abstract_ordinary_event(table: &Counted, f: u64) -> bool
+    ensures { result ≡ abstract_ordinary_event (rows_of table.now.words.now) f }
 {
-    let machine = event_field(words, table, f, Table::MACHINE);
-    let class = event_field(words, table, f, Table::CLASS);
-    named_event(words, table, f) & ((machine == event::ABSTRACT) & (class == event::ORDINARY))
+    let machine = table.event_field(f, Table::MACHINE);
+    let class = table.event_field(f, Table::CLASS);
+    table.named_event(f) & ((machine == event::ABSTRACT) & (class == event::ORDINARY))
 }
 
 // Whether the refined event of an event's row is right.
-fn good_refined(words: &[u64], table: Table, i: usize) -> bool
-    requires { table ≡ counts_of (rows_of words.now) }
-    ensures { result ≡ good_refined (rows_of words.now) i }
+fn good_refined(table: &Counted, i: usize) -> bool
+    ensures { result ≡ good_refined (rows_of table.now.words.now) i }
 {
-    let refined = c_at(words, i);
-    if (a_at(words, i) == event::CONCRETE) & (b_at(words, i) == event::ORDINARY) {
-        return abstract_ordinary_event(words, table, refined);
+    let refined = table.c_at(i);
+    if (table.a_at(i) == event::CONCRETE) & (table.b_at(i) == event::ORDINARY) {
+        return abstract_ordinary_event(table, refined);
     }
     refined == 0
 }
 
 // Whether an event stands after one that it must stand before.
-fn out_of_order(words: &[u64], spans: &[usize], i: usize) -> bool
-    requires { Spanned (rows_of words.now) spans.now × (i ≤ (rows_of words.now).size) }
-    ensures { result ≡ out_of_order (rows_of words.now) i }
+fn out_of_order(index: &Index, i: usize) -> bool
+    requires { i ≤ (rows_of index.now.table.words.now).size }
+    ensures { result ≡ out_of_order (rows_of index.now.table.words.now) i }
 {
-    let machine = a_at(words, i);
+    let machine = index.table.a_at(i);
     let after_concrete = (machine == event::ABSTRACT)
-        & some_row(words, spans, Query::Event(event::CONCRETE), i);
+        & some_row(
+            index.table.words,
+            index.spans,
+            Query::Event(event::CONCRETE),
+            i,
+        );
     after_concrete
-        | ((b_at(words, i) == event::INITIALISATION)
-            & some_row(words, spans, Query::Event(machine), i))
+        | ((index.table.b_at(i) == event::INITIALISATION)
+            & some_row(index.table.words, index.spans, Query::Event(machine), i))
 }
 
 // 5: bad machine, class or refined event, or out of order. Only an event's row is compared with the events before it.
-pub fn event_offends(words: &[u64], table: Table, spans: &[usize], i: usize) -> bool
-    requires { (table ≡ counts_of (rows_of words.now)) × Spanned (rows_of words.now) spans.now × (i ≤ (rows_of words.now).size) }
-    ensures { result ≡ event_offends (rows_of words.now) i }
+pub fn event_offends(index: &Index, i: usize) -> bool
+    requires { i ≤ (rows_of index.now.table.words.now).size }
+    ensures { result ≡ event_offends (rows_of index.now.table.words.now) i }
 {
-    if tag_at(words, i) != tag::EVENT {
+    if index.table.tag_at(i) != tag::EVENT {
         return false;
     }
-    let machine = a_at(words, i);
-    let class = b_at(words, i);
+    let machine = index.table.a_at(i);
+    let class = index.table.b_at(i);
     let good_machine = (machine == event::ABSTRACT) | (machine == event::CONCRETE);
     let good_class = (class < event::CONVERGENT)
         | (((class == event::CONVERGENT) | (class == event::ANTICIPATED))
             & (machine == event::CONCRETE));
-    let rest = good_refined(words, table, i) & !out_of_order(words, spans, i);
+    let rest = good_refined(&index.table, i) & !out_of_order(index, i);
     !(good_machine & (good_class & rest))
 }
 
 // Whether a number names an event of a machine that may have parameters.
-fn owner_event(words: &[u64], table: Table, machine: u64, e: u64) -> bool
-    requires { table ≡ counts_of (rows_of words.now) }
-    ensures { result ≡ owner_event (rows_of words.now) machine e }
+fn owner_event(table: &Counted, machine: u64, e: u64) -> bool
+    ensures { result ≡ owner_event (rows_of table.now.words.now) machine e }
 {
-    let owner = event_field(words, table, e, Table::MACHINE);
-    let class = event_field(words, table, e, Table::CLASS);
-    named_event(words, table, e) & ((owner == machine) & (class != event::INITIALISATION))
+    let owner = table.event_field(e, Table::MACHINE);
+    let class = table.event_field(e, Table::CLASS);
+    table.named_event(e) & ((owner == machine) & (class != event::INITIALISATION))
 }
 
 // Whether the owner of an identifier's row is right.
-fn good_owner(words: &[u64], table: Table, i: usize) -> bool
-    requires { table ≡ counts_of (rows_of words.now) }
-    ensures { result ≡ good_owner (rows_of words.now) i }
+fn good_owner(table: &Counted, i: usize) -> bool
+    ensures { result ≡ good_owner (rows_of table.now.words.now) i }
 {
-    let kind = a_at(words, i);
-    let owner = c_at(words, i);
+    let kind = table.a_at(i);
+    let owner = table.c_at(i);
     if kind == identifier::ABSTRACT_PARAMETER {
-        return owner_event(words, table, event::ABSTRACT, owner);
+        return owner_event(table, event::ABSTRACT, owner);
     }
     if kind == identifier::CONCRETE_PARAMETER {
-        return owner_event(words, table, event::CONCRETE, owner);
+        return owner_event(table, event::CONCRETE, owner);
     }
     owner == 0
 }
 
 // 6: bad kind, type or owner.
-pub fn identifier_offends(words: &[u64], table: Table, i: usize) -> bool
-    requires { table ≡ counts_of (rows_of words.now) }
-    ensures { result ≡ identifier_offends (rows_of words.now) i }
+pub fn identifier_offends(table: &Counted, i: usize) -> bool
+    ensures { result ≡ identifier_offends (rows_of table.now.words.now) i }
 {
-    if tag_at(words, i) != tag::IDENTIFIER {
+    if table.tag_at(i) != tag::IDENTIFIER {
         return false;
     }
-    let kind = a_at(words, i);
-    let sort = b_at(words, i);
+    let kind = table.a_at(i);
+    let sort = table.b_at(i);
     let good_type = (sort == identifier::INTEGER) | (sort == identifier::BOOLEAN);
     !(((identifier::CONSTANT <= kind) & (kind <= identifier::SHARED_VARIABLE))
-        & (good_type & good_owner(words, table, i)))
+        & (good_type & good_owner(table, i)))
 }

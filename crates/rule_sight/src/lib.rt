@@ -9,20 +9,16 @@ ghost use Rattle.rules.specs.Rules.{sight_offends};
 
 use operators::{Shape, find_operator};
 use rule_references::{names_root, root_at};
-use table::{
-    Table, a_at, b_at, event, event_field, identifier, identifier_field, is_variable_of,
-    node_field, operand, tag, tag_at, variable_kind,
-};
+use table::{Counted, Table, event, identifier, is_variable_of, operand, tag, variable_kind};
 
 // "guard and action, constants, the event's own parameters and its machine's variables"; an initialisation mentions no present variable value.
-fn event_sees(words: &[u64], table: Table, e: u64, x: u64) -> bool
-    requires { table ≡ counts_of (rows_of words.now) }
-    ensures { result ≡ event_sees (rows_of words.now) e x }
+fn event_sees(table: &Counted, e: u64, x: u64) -> bool
+    ensures { result ≡ event_sees (rows_of table.now.words.now) e x }
 {
-    let kind = identifier_field(words, table, x, Table::KIND);
-    let owner = identifier_field(words, table, x, Table::OWNER);
-    let machine = event_field(words, table, e, Table::MACHINE);
-    let class = event_field(words, table, e, Table::CLASS);
+    let kind = table.identifier_field(x, Table::KIND);
+    let owner = table.identifier_field(x, Table::OWNER);
+    let machine = table.event_field(e, Table::MACHINE);
+    let class = table.event_field(e, Table::CLASS);
     let variable = variable_kind(kind, machine);
     (kind == identifier::CONSTANT)
         | ((((kind == identifier::ABSTRACT_PARAMETER) | (kind == identifier::CONCRETE_PARAMETER))
@@ -31,16 +27,15 @@ fn event_sees(words: &[u64], table: Table, e: u64, x: u64) -> bool
 }
 
 // Whether the formula of row i may mention the identifier x; 02, request 2: a shared variable "where either kind of variable is allowed".
-fn may_mention(words: &[u64], table: Table, i: usize, x: u64) -> bool
-    requires { table ≡ counts_of (rows_of words.now) }
-    ensures { result ≡ may_mention (rows_of words.now) i x }
+fn may_mention(table: &Counted, i: usize, x: u64) -> bool
+    ensures { result ≡ may_mention (rows_of table.now.words.now) i x }
 {
-    let kind = identifier_field(words, table, x, Table::KIND);
+    let kind = table.identifier_field(x, Table::KIND);
     let abstract_variable = is_variable_of(identifier::ABSTRACT_VARIABLE, kind);
     let concrete_variable = is_variable_of(identifier::CONCRETE_VARIABLE, kind);
-    let event = event_sees(words, table, a_at(words, i), x);
-    let b = b_at(words, i);
-    let tag = tag_at(words, i);
+    let event = event_sees(table, table.a_at(i), x);
+    let b = table.b_at(i);
+    let tag = table.tag_at(i);
     if tag == tag::AXIOM {
         return kind == identifier::CONSTANT;
     }
@@ -62,15 +57,14 @@ fn may_mention(words: &[u64], table: Table, i: usize, x: u64) -> bool
 
 // Whether the formula of row i may mention the after value of x: "52 also the after value it sets", a variable witness "concrete after values, and its own
 // after value".
-fn may_mention_after(words: &[u64], table: Table, i: usize, x: u64) -> bool
-    requires { table ≡ counts_of (rows_of words.now) }
-    ensures { result ≡ may_mention_after (rows_of words.now) i x }
+fn may_mention_after(table: &Counted, i: usize, x: u64) -> bool
+    ensures { result ≡ may_mention_after (rows_of table.now.words.now) i x }
 {
-    let b = b_at(words, i);
-    let kind = identifier_field(words, table, x, Table::KIND);
-    let target = identifier_field(words, table, b, Table::KIND);
+    let b = table.b_at(i);
+    let kind = table.identifier_field(x, Table::KIND);
+    let target = table.identifier_field(b, Table::KIND);
     let concrete_variable = is_variable_of(identifier::CONCRETE_VARIABLE, kind);
-    let tag = tag_at(words, i);
+    let tag = table.tag_at(i);
     if tag == tag::BECOMES_SUCH {
         return x == b;
     }
@@ -81,35 +75,33 @@ fn may_mention_after(words: &[u64], table: Table, i: usize, x: u64) -> bool
 }
 
 // Whether the tree of the node n mentions only what the formula of row i may.
-fn sees_only(words: &[u64], table: Table, i: usize, n: u64) -> bool
-    requires { table ≡ counts_of (rows_of words.now) }
-    ensures { result ≡ sees_only (rows_of words.now) i n }
+fn sees_only(table: &Counted, i: usize, n: u64) -> bool
+    ensures { result ≡ sees_only (rows_of table.now.words.now) i n }
 {
     if n == 0 {
         return true;
     }
-    let b = node_field(words, table, n, Table::LEFT);
-    let c = node_field(words, table, n, Table::RIGHT);
-    let found = find_operator(node_field(words, table, n, Table::OPERATOR));
+    let b = table.node_field(n, Table::LEFT);
+    let c = table.node_field(n, Table::RIGHT);
+    let found = find_operator(table.node_field(n, Table::OPERATOR));
     let shape = found.shape;
     match shape {
         Shape::Value => true,
-        Shape::Identifier => may_mention(words, table, i, b),
-        Shape::Variable => may_mention_after(words, table, i, b),
+        Shape::Identifier => may_mention(table, i, b),
+        Shape::Variable => may_mention_after(table, i, b),
         Shape::NoOperand => true,
-        Shape::OneOperand => sees_only(words, table, i, operand(n, b)),
-        Shape::TwoOperands => sees_only(words, table, i, operand(n, b))
-            & sees_only(words, table, i, operand(n, c)),
+        Shape::OneOperand => sees_only(table, i, operand(n, b)),
+        Shape::TwoOperands => sees_only(table, i, operand(n, b))
+            & sees_only(table, i, operand(n, c)),
         Shape::Unknown => true,
     }
 }
 
 // Whether row i offends against check 10.
-pub fn sight_offends(words: &[u64], table: Table, i: usize) -> bool
-    requires { table ≡ counts_of (rows_of words.now) }
-    ensures { result ≡ sight_offends (rows_of words.now) i }
+pub fn sight_offends(table: &Counted, i: usize) -> bool
+    ensures { result ≡ sight_offends (rows_of table.now.words.now) i }
 {
-    let names = names_root(words, i);
-    let sees = sees_only(words, table, i, root_at(words, i));
+    let names = names_root(table.words, i);
+    let sees = sees_only(table, i, root_at(table.words, i));
     names & !sees
 }

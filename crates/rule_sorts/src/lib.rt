@@ -18,20 +18,17 @@ ghost use Rattle.rules.specs.Rules.{good_operands, root_sort, sort_offends, use_
 use operators::{find_operator, names_identifier, operand_count};
 use rule_references::{names_root, root_at};
 use scan::clear;
-use table::{
-    Table, a_at, b_at, c_at, identifier_field, node_field, number_in, size, sort, tag, tag_at,
-};
+use table::{Counted, Table, a_at, b_at, c_at, number_in, sort, tag, tag_at};
 
 // The sort of a node, from its operator, whatever its operands are.
-pub fn sort_of(words: &[u64], table: Table, n: u64) -> u64
-    requires { table ≡ counts_of (rows_of words.now) }
-    ensures { result ≡ sort_of (rows_of words.now) n }
+pub fn sort_of(table: &Counted, n: u64) -> u64
+    ensures { result ≡ sort_of (rows_of table.now.words.now) n }
 {
-    let found = find_operator(node_field(words, table, n, Table::OPERATOR));
+    let found = find_operator(table.node_field(n, Table::OPERATOR));
     let shape = found.shape;
     if names_identifier(shape) {
-        let identifier = node_field(words, table, n, Table::LEFT);
-        return identifier_field(words, table, identifier, Table::TYPE);
+        let identifier = table.node_field(n, Table::LEFT);
+        return table.identifier_field(identifier, Table::TYPE);
     }
     found.sort
 }
@@ -47,33 +44,31 @@ fn fits(wanted: u64, sort: u64) -> bool
 }
 
 // Whether the operands of the node at row i have the sorts that its operator wants.
-fn good_operands(words: &[u64], table: Table, i: usize) -> bool
-    requires { table ≡ counts_of (rows_of words.now) }
-    ensures { result ≡ good_operands (rows_of words.now) (operand_count (shape_of ((rows_of words.now).a i))) i }
+fn good_operands(table: &Counted, i: usize) -> bool
+    ensures { result ≡ good_operands (rows_of table.now.words.now) (operand_count (shape_of ((rows_of table.now.words.now).a i))) i }
 {
-    let found = find_operator(a_at(words, i));
+    let found = find_operator(table.a_at(i));
     let shape = found.shape;
     let wanted = found.operands;
     let count = operand_count(shape);
     if count == 0 {
         return true;
     }
-    let left = sort_of(words, table, b_at(words, i));
+    let left = sort_of(table, table.b_at(i));
     if count == 1 {
         return fits(wanted, left);
     }
-    let right = sort_of(words, table, c_at(words, i));
+    let right = sort_of(table, table.c_at(i));
     fits(wanted, left) & (fits(wanted, right) & (!(wanted == sort::SAME_TYPE) | (left == right)))
 }
 
 // "Roots are predicates, but 51 takes the variable's type and 70 an integer."
-fn root_sort(words: &[u64], table: Table, i: usize) -> u64
-    requires { table ≡ counts_of (rows_of words.now) }
-    ensures { result ≡ root_sort (rows_of words.now) i }
+fn root_sort(table: &Counted, i: usize) -> u64
+    ensures { result ≡ root_sort (rows_of table.now.words.now) i }
 {
-    let tag = tag_at(words, i);
+    let tag = table.tag_at(i);
     if tag == tag::BECOMES_EQUAL {
-        return identifier_field(words, table, b_at(words, i), Table::TYPE);
+        return table.identifier_field(table.b_at(i), Table::TYPE);
     }
     if tag == tag::VARIANT {
         return sort::INTEGER;
@@ -82,29 +77,27 @@ fn root_sort(words: &[u64], table: Table, i: usize) -> u64
 }
 
 // Whether row i offends against check 8: a node by its operands, another row by its root.
-fn sort_offends(words: &[u64], table: Table, i: usize) -> bool
-    requires { table ≡ counts_of (rows_of words.now) }
-    ensures { result ≡ sort_offends (rows_of words.now) i }
+fn sort_offends(table: &Counted, i: usize) -> bool
+    ensures { result ≡ sort_offends (rows_of table.now.words.now) i }
 {
-    if tag_at(words, i) == tag::NODE {
-        return !good_operands(words, table, i);
+    if table.tag_at(i) == tag::NODE {
+        return !good_operands(table, i);
     }
-    if !names_root(words, i) {
+    if !names_root(table.words, i) {
         return false;
     }
-    !(sort_of(words, table, root_at(words, i)) == root_sort(words, table, i))
+    !(sort_of(table, root_at(table.words, i)) == root_sort(table, i))
 }
 
 // The sort of what row i holds: of a node the one that its operator makes, of another row the one that its root is to have.
-fn sort_at(words: &[u64], table: Table, i: usize) -> u64
-    requires { table ≡ counts_of (rows_of words.now) }
-    ensures { result ≡ pick (tagged (rows_of words.now) node_tag i) (result_sort ((rows_of words.now).a i)) (root_sort (rows_of words.now) i) }
+fn sort_at(table: &Counted, i: usize) -> u64
+    ensures { result ≡ pick (tagged (rows_of table.now.words.now) node_tag i) (result_sort ((rows_of table.now.words.now).a i)) (root_sort (rows_of table.now.words.now) i) }
 {
-    if tag_at(words, i) == tag::NODE {
-        let found = find_operator(a_at(words, i));
+    if table.tag_at(i) == tag::NODE {
+        let found = find_operator(table.a_at(i));
         return found.sort;
     }
-    root_sort(words, table, i)
+    root_sort(table, i)
 }
 
 // The row where it offends, else the one found before.
@@ -117,50 +110,37 @@ fn fault_or(offends: bool, row: usize, found: usize) -> usize
 // The first row before row i that offends against check 8, or `found`. Judges the row before i if it is of an expression, and hands it to
 // `first_predicate` if it is of a predicate; so the node number falls, and no operand is followed.
 #[cycle(first_expression_first_predicate)]
-fn first_expression(words: &[u64], table: Table, i: usize, found: usize) -> usize
-    requires { table ≡ counts_of (rows_of words.now) }
-    ensures { result ≡ first_before (sort_offends (rows_of words.now)) i found }
+fn first_expression(table: &Counted, i: usize, found: usize) -> usize
+    ensures { result ≡ first_before (sort_offends (rows_of table.now.words.now)) i found }
 {
     if i == 0 {
         return found;
     }
     let row = i - 1;
-    if sort_at(words, table, row) == sort::PREDICATE {
-        return first_predicate(words, table, i, found);
+    if sort_at(table, row) == sort::PREDICATE {
+        return first_predicate(table, i, found);
     }
-    first_expression(
-        words,
-        table,
-        row,
-        fault_or(sort_offends(words, table, row), row, found),
-    )
+    first_expression(table, row, fault_or(sort_offends(table, row), row, found))
 }
 
 // The same, judging the row before i as a predicate's.
 #[cycle(first_expression_first_predicate)]
-fn first_predicate(words: &[u64], table: Table, i: usize, found: usize) -> usize
-    requires { table ≡ counts_of (rows_of words.now) }
-    ensures { result ≡ first_before (sort_offends (rows_of words.now)) i found }
+fn first_predicate(table: &Counted, i: usize, found: usize) -> usize
+    ensures { result ≡ first_before (sort_offends (rows_of table.now.words.now)) i found }
 {
     if i == 0 {
         return found;
     }
     let row = i - 1;
-    first_expression(
-        words,
-        table,
-        row,
-        fault_or(sort_offends(words, table, row), row, found),
-    )
+    first_expression(table, row, fault_or(sort_offends(table, row), row, found))
 }
 
 // The first row that offends against check 8, or the number of rows.
-pub fn first_unsorted(words: &[u64], table: Table) -> usize
-    requires { table ≡ counts_of (rows_of words.now) }
-    ensures { result ≡ first_row (rows_of words.now) 8 }
+pub fn first_unsorted(table: &Counted) -> usize
+    ensures { result ≡ first_row (rows_of table.now.words.now) 8 }
 {
-    let rows = size(words);
-    first_expression(words, table, rows, rows)
+    let rows = table.size();
+    first_expression(table, rows, rows)
 }
 
 // Counts one use more of the node n, where a test passes.
@@ -206,25 +186,25 @@ fn count_uses(words: &[u64], uses: &mut [usize])
 }
 
 // Whether row i is a node without its one use.
-fn use_offends(words: &[u64], table: Table, uses: &[usize], i: usize) -> bool
-    requires { (table ≡ counts_of (rows_of words.now)) × UsedTo (rows_of words.now) (rows_of words.now).size uses.now × (i < most_rows) }
-    ensures { result ≡ use_offends (rows_of words.now) i }
+fn use_offends(table: &Counted, uses: &[usize], i: usize) -> bool
+    requires { UsedTo (rows_of table.now.words.now) (rows_of table.now.words.now).size uses.now × (i < most_rows) }
+    ensures { result ≡ use_offends (rows_of table.now.words.now) i }
 {
-    if tag_at(words, i) != tag::NODE {
+    if table.tag_at(i) != tag::NODE {
         return false;
     }
-    let n = number_in(table.nodes_start, i) as usize;
+    let n = number_in(table.counts.nodes_start, i) as usize;
     !(uses[n] == 1)
 }
 
 // The first row that offends against check 9, or the number of rows, by the uses of every node.
-fn find_unused(words: &[u64], table: Table, uses: &[usize]) -> usize
-    requires { (table ≡ counts_of (rows_of words.now)) × UsedTo (rows_of words.now) (rows_of words.now).size uses.now × ((rows_of words.now).size ≤ most_rows) }
-    ensures { result ≡ first_row (rows_of words.now) 9 }
+fn find_unused(table: &Counted, uses: &[usize]) -> usize
+    requires { UsedTo (rows_of table.now.words.now) (rows_of table.now.words.now).size uses.now × ((rows_of table.now.words.now).size ≤ most_rows) }
+    ensures { result ≡ first_row (rows_of table.now.words.now) 9 }
 {
-    let rows = size(words);
+    let rows = table.size();
     for i in 0..rows {
-        if use_offends(words, table, uses, i) {
+        if use_offends(table, uses, i) {
             return i;
         }
     }
@@ -232,11 +212,11 @@ fn find_unused(words: &[u64], table: Table, uses: &[usize]) -> usize
 }
 
 // The first row that offends against check 9, or the number of rows.
-pub fn first_unused(words: &[u64], table: Table) -> usize
-    requires { (table ≡ counts_of (rows_of words.now)) × (length words.now ≤ most_words) }
-    ensures { result ≡ first_row (rows_of words.now) 9 }
+pub fn first_unused(table: &Counted) -> usize
+    requires { length table.now.words.now ≤ most_words }
+    ensures { result ≡ first_row (rows_of table.now.words.now) 9 }
 {
     let mut uses = [0usize; Table::ROWS + 1];
-    count_uses(words, &mut uses);
-    find_unused(words, table, &uses)
+    count_uses(table.words, &mut uses);
+    find_unused(table, &uses)
 }

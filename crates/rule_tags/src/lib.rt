@@ -8,8 +8,9 @@ ghost use Rattle.scan.specs.Spans.{Spanned};
 ghost use Rattle.rules.specs.Tags.{columns_used, row_limit};
 ghost use Rattle.rules.specs.Rules.{tag_offends, full_offends, twice_offends};
 
+use nodes::Index;
 use scan::{Query, some_row, span_at, span_tag};
-use table::{Table, a_at, b_at, c_at, tag, tag_at};
+use table::{Table, b_at, c_at, tag, tag_at};
 
 // How many of the columns a, b, c a tag uses, and how many rows it may have; none of an unknown tag.
 #[derive(Clone, Copy)]
@@ -92,25 +93,30 @@ pub fn tag_offends(words: &[u64], i: usize) -> bool
 }
 
 // 4: as many rows before it as its tag may have. Where tags never fall these are all rows from the first of its tag on.
-pub fn full_offends(words: &[u64], spans: &[usize], i: usize) -> bool
-    requires { Spanned (rows_of words.now) spans.now × Rising (rows_of words.now) × (i < (rows_of words.now).size) × ((rows_of words.now).tag i ≤ variant_tag) }
-    ensures { result ≡ full_offends (rows_of words.now) i }
+pub fn full_offends(index: &Index, i: usize) -> bool
+    requires { Rising (rows_of index.now.table.words.now) × (i < (rows_of index.now.table.words.now).size) × ((rows_of index.now.table.words.now).tag i ≤ variant_tag) }
+    ensures { result ≡ full_offends (rows_of index.now.table.words.now) i }
 {
-    let tag = tag_at(words, i);
-    let before = i - span_at(words, spans, span_tag(tag)).from;
+    let tag = index.table.tag_at(i);
+    let before = i - span_at(index.table.words, index.spans, span_tag(tag)).from;
     tag_limits(tag).most <= before as u64
 }
 
 // 11: an action or a witness whose event and target an earlier one has. It is compared with the actions, or the witnesses, before it.
-pub fn twice_offends(words: &[u64], spans: &[usize], i: usize) -> bool
-    requires { Spanned (rows_of words.now) spans.now × (i ≤ (rows_of words.now).size) }
-    ensures { result ≡ twice_offends (rows_of words.now) i }
+pub fn twice_offends(index: &Index, i: usize) -> bool
+    requires { i ≤ (rows_of index.now.table.words.now).size }
+    ensures { result ≡ twice_offends (rows_of index.now.table.words.now) i }
 {
-    let tag = tag_at(words, i);
+    let tag = index.table.tag_at(i);
     if !(((tag == tag::BECOMES_EQUAL) | (tag == tag::BECOMES_SUCH)) | (tag == tag::WITNESS)) {
         return false;
     }
-    let event = a_at(words, i);
-    let target = b_at(words, i);
-    some_row(words, spans, Query::SameTarget { tag, event, target }, i)
+    let event = index.table.a_at(i);
+    let target = index.table.b_at(i);
+    some_row(
+        index.table.words,
+        index.spans,
+        Query::SameTarget { tag, event, target },
+        i,
+    )
 }

@@ -15,9 +15,10 @@ ghost use Rattle.segments.specs.Segments.{segment_at, segment_entry};
 
 use events::{is_abstract, is_convergent, is_initial, is_new, matched_by, own_kind};
 use groups::{Group, when};
+use nodes::Index;
 use select::{Item, Selection, item_at};
 use sequent::{Entry, form, kind};
-use table::{Table, b_at, identifier, is_variable, size, tag};
+use table::{Counted, identifier, size, tag};
 use walk::Slot;
 
 // "those before it": in one group only rows before the slot's own.
@@ -38,59 +39,53 @@ fn of_none(slot: Slot) -> bool
 }
 
 // "except for initialisations, the abstract invariants"
-fn has_abstract(words: &[u64], table: Table, slot: Slot) -> bool
-    requires { table ≡ counts_of (rows_of words.now) }
-    ensures { result ≡ has_abstract (rows_of words.now) slot }
+fn has_abstract(table: &Counted, slot: Slot) -> bool
+    ensures { result ≡ has_abstract (rows_of table.now.words.now) slot }
 {
     if of_none(slot) {
         return Group::ABSTRACT_INVARIANT <= slot.group;
     }
-    !is_initial(words, table, slot.event)
+    !is_initial(table, slot.event)
 }
 
 // "and, for concrete events, the concrete ones"
-fn has_concrete(words: &[u64], table: Table, slot: Slot) -> bool
-    requires { table ≡ counts_of (rows_of words.now) }
-    ensures { result ≡ has_concrete (rows_of words.now) slot }
+fn has_concrete(table: &Counted, slot: Slot) -> bool
+    ensures { result ≡ has_concrete (rows_of table.now.words.now) slot }
 {
     if of_none(slot) {
         return Group::CONCRETE_INVARIANT <= slot.group;
     }
-    !is_initial(words, table, slot.event) & !is_abstract(words, table, slot.event)
+    !is_initial(table, slot.event) & !is_abstract(table, slot.event)
 }
 
 // SIM, INV, VAR, and "moves for a variable witness".
-fn has_moves(words: &[u64], table: Table, slot: Slot) -> bool
-    requires { table ≡ counts_of (rows_of words.now) }
-    ensures { result ≡ has_moves (rows_of words.now) slot }
+fn has_moves(table: &Counted, slot: Slot) -> bool
+    ensures { result ≡ has_moves (rows_of table.now.words.now) slot }
 {
     let group = slot.group;
-    let variable = is_variable(words, table, b_at(words, slot.row));
+    let variable = table.is_variable(table.b_at(slot.row));
     ((group == Group::SIM) | ((group == Group::INV) | (group == Group::VAR)))
         | ((group == Group::WITNESS) & variable)
 }
 
 // SIM and INV, but of a convergent or anticipated event.
-fn has_witnesses(words: &[u64], table: Table, slot: Slot) -> bool
-    requires { table ≡ counts_of (rows_of words.now) }
-    ensures { result ≡ has_witnesses (rows_of words.now) slot }
+fn has_witnesses(table: &Counted, slot: Slot) -> bool
+    ensures { result ≡ has_witnesses (rows_of table.now.words.now) slot }
 {
     let group = slot.group;
-    ((group == Group::SIM) | (group == Group::INV)) & !is_new(words, table, slot.event)
+    ((group == Group::SIM) | (group == Group::INV)) & !is_new(table, slot.event)
 }
 
 // "for a convergent event form 4 of each abstract variable instead of witnesses", and so for an anticipated one; a shared variable's is among the moves
-fn has_abstract_moves(words: &[u64], table: Table, slot: Slot) -> bool
-    requires { table ≡ counts_of (rows_of words.now) }
-    ensures { result ≡ has_abstract_moves (rows_of words.now) slot }
+fn has_abstract_moves(table: &Counted, slot: Slot) -> bool
+    ensures { result ≡ has_abstract_moves (rows_of table.now.words.now) slot }
 {
-    (slot.group == Group::INV) & is_new(words, table, slot.event)
+    (slot.group == Group::INV) & is_new(table, slot.event)
 }
 
 // Its witnesses; of GRD "parameter witnesses".
-fn witness_rows(words: &[u64], table: Table, slot: Slot) -> Selection
-    requires { table ≡ counts_of (rows_of words.now) }
-    ensures { result ≡ witness_rows (rows_of words.now) slot }
+fn witness_rows(table: &Counted, slot: Slot) -> Selection
+    ensures { result ≡ witness_rows (rows_of table.now.words.now) slot }
 {
     let event = slot.event;
     if slot.group == Group::GRD {
@@ -100,7 +95,7 @@ fn witness_rows(words: &[u64], table: Table, slot: Slot) -> Selection
         tag: tag::WITNESS,
         event,
     };
-    when(has_witnesses(words, table, slot), witnesses)
+    when(has_witnesses(table, slot), witnesses)
 }
 
 // A part of the hypotheses: an entry for each row of a selection before a row, of a form and with a number from the row.
@@ -177,41 +172,40 @@ fn moves(words: &[u64], has: bool, variables: Selection) -> Segment
 }
 
 // A segment of a slot, by number: the table of segments.
-pub fn segment_at(words: &[u64], table: Table, slot: Slot, segment: u64) -> Segment
-    requires { table ≡ counts_of (rows_of words.now) }
-    ensures { result ≡ segment_at (rows_of words.now) slot segment }
+pub fn segment_at(table: &Counted, slot: Slot, segment: u64) -> Segment
+    ensures { result ≡ segment_at (rows_of table.now.words.now) slot segment }
 {
     match segment {
-        Segment::AXIOMS => formulas(words, slot, true, tag::AXIOM, Group::AXIOM),
+        Segment::AXIOMS => formulas(table.words, slot, true, tag::AXIOM, Group::AXIOM),
         Segment::ABSTRACT_INVARIANTS => formulas(
-            words,
+            table.words,
             slot,
-            has_abstract(words, table, slot),
+            has_abstract(table, slot),
             tag::ABSTRACT_INVARIANT,
             Group::ABSTRACT_INVARIANT,
         ),
         Segment::CONCRETE_INVARIANTS => formulas(
-            words,
+            table.words,
             slot,
-            has_concrete(words, table, slot),
+            has_concrete(table, slot),
             tag::CONCRETE_INVARIANT,
             Group::CONCRETE_INVARIANT,
         ),
-        Segment::GUARDS => guards(words, slot),
+        Segment::GUARDS => guards(table.words, slot),
         Segment::MOVES => moves(
-            words,
-            has_moves(words, table, slot),
-            Selection::Variables(own_kind(words, table, slot.event)),
+            table.words,
+            has_moves(table, slot),
+            Selection::Variables(own_kind(table, slot.event)),
         ),
         Segment::WITNESSES => Segment::new(
-            witness_rows(words, table, slot),
-            size(words),
+            witness_rows(table, slot),
+            table.size(),
             form::WRITTEN,
             Item::C,
         ),
         Segment::ABSTRACT_MOVES => moves(
-            words,
-            has_abstract_moves(words, table, slot),
+            table.words,
+            has_abstract_moves(table, slot),
             Selection::Identifiers(identifier::ABSTRACT_VARIABLE),
         ),
         _ => Segment::new(Selection::None, 0, form::WRITTEN, Item::A),
@@ -241,59 +235,49 @@ fn of_event(form: u64, event: u64, x: u64) -> Entry
 }
 
 // The goal of SIM: form 10 of a convergent or anticipated event, else form 4 of the event that its steps are matched by.
-fn sim_goal(words: &[u64], table: Table, event: u64, x: u64) -> Entry
-    requires { table ≡ counts_of (rows_of words.now) }
-    ensures { result ≡ numbers_of (sim_goal (rows_of words.now) event x) }
+fn sim_goal(table: &Counted, event: u64, x: u64) -> Entry
+    ensures { result ≡ numbers_of (sim_goal (rows_of table.now.words.now) event x) }
 {
-    if is_new(words, table, event) {
+    if is_new(table, event) {
         return of_one(form::UNCHANGED, x);
     }
-    of_event(form::MOVES, matched_by(words, table, event), x)
+    of_event(form::MOVES, matched_by(table, event), x)
 }
 
 // The goal of VAR: form 8 of a convergent event, form 9 of an anticipated one.
-fn variant_goal(words: &[u64], table: Table, event: u64, root: u64) -> Entry
-    requires { table ≡ counts_of (rows_of words.now) }
-    ensures { result ≡ numbers_of (variant_goal (rows_of words.now) event root) }
+fn variant_goal(table: &Counted, event: u64, root: u64) -> Entry
+    ensures { result ≡ numbers_of (variant_goal (rows_of table.now.words.now) event root) }
 {
-    if is_convergent(words, table, event) {
+    if is_convergent(table, event) {
         return of_one(form::DECREASES, root);
     }
     of_one(form::NOT_INCREASED, root)
 }
 
 // The goal of a kind, for an event and an item.
-pub fn goal_of(words: &[u64], table: Table, kind: u64, event: u64, item: u64) -> Entry
-    requires { table ≡ counts_of (rows_of words.now) }
-    ensures { result ≡ numbers_of (goal_of (rows_of words.now) kind event item) }
+pub fn goal_of(table: &Counted, kind: u64, event: u64, item: u64) -> Entry
+    ensures { result ≡ numbers_of (goal_of (rows_of table.now.words.now) kind event item) }
 {
     match kind {
         kind::INV => of_one(form::PRIMED, item),
         kind::FIS => of_event(form::FEASIBLE, event, item),
         kind::GRD => of_one(form::WRITTEN, item),
-        kind::SIM => sim_goal(words, table, event, item),
+        kind::SIM => sim_goal(table, event, item),
         kind::WFIS => of_event(form::WITNESSED, event, item),
         kind::NAT => of_one(form::NATURAL, item),
-        kind::VAR => variant_goal(words, table, event, item),
+        kind::VAR => variant_goal(table, event, item),
         _ => of_one(form::DEFINED, item),
     }
 }
 
 // The entry of row j in a segment.
-pub fn segment_entry(
-    words: &[u64],
-    table: Table,
-    spans: &[usize],
-    slot: Slot,
-    segment: u64,
-    j: usize,
-) -> Entry
-    requires { (table ≡ counts_of (rows_of words.now)) × Noted (rows_of words.now) spans.now × (j < (rows_of words.now).size) }
-    ensures { result ≡ numbers_of (segment_entry (rows_of words.now) slot segment j) }
+pub fn segment_entry(index: &Index, slot: Slot, segment: u64, j: usize) -> Entry
+    requires { j < (rows_of index.now.table.words.now).size }
+    ensures { result ≡ numbers_of (segment_entry (rows_of index.now.table.words.now) slot segment j) }
 {
-    let part = segment_at(words, table, slot, segment);
+    let part = segment_at(&index.table, slot, segment);
     let item = part.item;
-    let x = item_at(words, spans, item, slot.event, j);
+    let x = item_at(index, item, slot.event, j);
     if part.form == form::MOVES {
         return of_event(form::MOVES, slot.event, x);
     }

@@ -9,12 +9,9 @@ ghost use Rattle.select.specs.Selection.{row_of_event, parameter_witness, identi
 ghost use Rattle.select.specs.Each.{item_at, divisions, weight, count_at};
 ghost use Rattle.select.specs.Sought.{Passed};
 
-use nodes::{note_at, touches};
+use nodes::{Index, note_at, touches};
 use scan::{Span, span_at};
-use table::{
-    Table, a_at, b_at, c_at, identifier_field, is_variable, is_variable_of, one_if, size, tag,
-    tag_at,
-};
+use table::{Counted, Table, a_at, is_variable_of, one_if, tag, tag_at};
 
 // Rows of a tag; or the rows 0, 1, .. in their stead that stand for the identifiers 1, 2, ..
 #[derive(Clone, Copy)]
@@ -45,147 +42,128 @@ fn row_of_event(words: &[u64], tag: u64, event: u64, j: usize) -> bool
 }
 
 // Whether it is an event's witness for a parameter.
-fn parameter_witness(words: &[u64], table: Table, event: u64, j: usize) -> bool
-    requires { table ≡ counts_of (rows_of words.now) }
-    ensures { result ≡ parameter_witness (rows_of words.now) event j }
+fn parameter_witness(table: &Counted, event: u64, j: usize) -> bool
+    ensures { result ≡ parameter_witness (rows_of table.now.words.now) event j }
 {
-    !is_variable(words, table, b_at(words, j)) & row_of_event(words, tag::WITNESS, event, j)
+    !table.is_variable(table.b_at(j)) & row_of_event(table.words, tag::WITNESS, event, j)
 }
 
 // Whether there is an identifier j + 1, of a kind.
-fn identifier_at(words: &[u64], table: Table, kind: u64, j: usize) -> bool
-    requires { table ≡ counts_of (rows_of words.now) }
-    ensures { result ≡ identifier_at (rows_of words.now) kind j }
+fn identifier_at(table: &Counted, kind: u64, j: usize) -> bool
+    ensures { result ≡ identifier_at (rows_of table.now.words.now) kind j }
 {
     let x = j as u64;
-    if x < table.identifiers {
-        return identifier_field(words, table, x + 1, Table::KIND) == kind;
+    if x < table.counts.identifiers {
+        return table.identifier_field(x + 1, Table::KIND) == kind;
     }
     false
 }
 
 // Whether that identifier is a variable of the machine whose own have a kind.
-fn variable_at(words: &[u64], table: Table, own: u64, j: usize) -> bool
-    requires { table ≡ counts_of (rows_of words.now) }
-    ensures { result ≡ variable_at (rows_of words.now) own j }
+fn variable_at(table: &Counted, own: u64, j: usize) -> bool
+    ensures { result ≡ variable_at (rows_of table.now.words.now) own j }
 {
     let x = j as u64;
-    if x < table.identifiers {
-        return is_variable_of(own, identifier_field(words, table, x + 1, Table::KIND));
+    if x < table.counts.identifiers {
+        return is_variable_of(own, table.identifier_field(x + 1, Table::KIND));
     }
     false
 }
 
 // The row of an event's action for a variable; the number of rows where it is unassigned.
-pub fn action_row(words: &[u64], spans: &[usize], event: u64, x: u64) -> usize
-    requires { Noted (rows_of words.now) spans.now }
-    ensures { result ≡ action_row (rows_of words.now) event x }
+pub fn action_row(index: &Index, event: u64, x: u64) -> usize
+    ensures { result ≡ action_row (rows_of index.now.table.words.now) event x }
 {
-    scan::action_row(words, spans, event, x)
+    scan::action_row(index.table.words, index.spans, event, x)
 }
 
 // Whether it is assigned.
-fn is_assigned(words: &[u64], spans: &[usize], event: u64, x: u64) -> bool
-    requires { Noted (rows_of words.now) spans.now }
-    ensures { result ≡ is_assigned (rows_of words.now) event x }
+fn is_assigned(index: &Index, event: u64, x: u64) -> bool
+    ensures { result ≡ is_assigned (rows_of index.now.table.words.now) event x }
 {
-    action_row(words, spans, event, x) < size(words)
+    action_row(index, event, x) < index.table.size()
 }
 
 // Whether that action is a 52.
-fn becomes_such(words: &[u64], spans: &[usize], event: u64, x: u64) -> bool
-    requires { Noted (rows_of words.now) spans.now }
-    ensures { result ≡ becomes_such (rows_of words.now) event x }
+fn becomes_such(index: &Index, event: u64, x: u64) -> bool
+    ensures { result ≡ becomes_such (rows_of index.now.table.words.now) event x }
 {
-    let row = action_row(words, spans, event, x);
-    (row < size(words)) & !(tag_at(words, row) == tag::BECOMES_EQUAL)
+    let row = action_row(index, event, x);
+    (row < index.table.size()) & !(index.table.tag_at(row) == tag::BECOMES_EQUAL)
 }
 
 // Whether row j stands for a variable that an event has an action for.
-fn assigned_at(
-    words: &[u64],
-    table: Table,
-    spans: &[usize],
-    kind: u64,
-    event: u64,
-    j: usize,
-) -> bool
-    requires { (table ≡ counts_of (rows_of words.now)) × Noted (rows_of words.now) spans.now }
-    ensures { result ≡ variable_at (rows_of words.now) kind j && is_assigned (rows_of words.now) event (j + 1) }
+fn assigned_at(index: &Index, kind: u64, event: u64, j: usize) -> bool
+    ensures { result ≡ variable_at (rows_of index.now.table.words.now) kind j && is_assigned (rows_of index.now.table.words.now) event (j + 1) }
 {
-    if variable_at(words, table, kind, j) {
-        return is_assigned(words, spans, event, j as u64 + 1);
+    if variable_at(&index.table, kind, j) {
+        return is_assigned(index, event, j as u64 + 1);
     }
     false
 }
 
 // The same of a 52.
-fn such_at(words: &[u64], table: Table, spans: &[usize], kind: u64, event: u64, j: usize) -> bool
-    requires { (table ≡ counts_of (rows_of words.now)) × Noted (rows_of words.now) spans.now }
-    ensures { result ≡ variable_at (rows_of words.now) kind j && becomes_such (rows_of words.now) event (j + 1) }
+fn such_at(index: &Index, kind: u64, event: u64, j: usize) -> bool
+    ensures { result ≡ variable_at (rows_of index.now.table.words.now) kind j && becomes_such (rows_of index.now.table.words.now) event (j + 1) }
 {
-    if variable_at(words, table, kind, j) {
-        return becomes_such(words, spans, event, j as u64 + 1);
+    if variable_at(&index.table, kind, j) {
+        return becomes_such(index, event, j as u64 + 1);
     }
     false
 }
 
 // Whether a selection has the row j.
-pub fn selects(words: &[u64], table: Table, spans: &[usize], selection: Selection, j: usize) -> bool
-    requires { (table ≡ counts_of (rows_of words.now)) × Noted (rows_of words.now) spans.now }
-    ensures { result ≡ selects (rows_of words.now) selection j }
+pub fn selects(index: &Index, selection: Selection, j: usize) -> bool
+    ensures { result ≡ selects (rows_of index.now.table.words.now) selection j }
 {
     match selection {
         Selection::None => false,
-        Selection::Tagged(tag) => tag_at(words, j) == tag,
-        Selection::OfEvent { tag, event } => row_of_event(words, tag, event, j),
-        Selection::ForParameters(event) => parameter_witness(words, table, event, j),
-        Selection::Identifiers(kind) => identifier_at(words, table, kind, j),
-        Selection::Variables(own) => variable_at(words, table, own, j),
-        Selection::Assigned { kind, event } => assigned_at(words, table, spans, kind, event, j),
-        Selection::SuchThat { kind, event } => such_at(words, table, spans, kind, event, j),
+        Selection::Tagged(tag) => index.table.tag_at(j) == tag,
+        Selection::OfEvent { tag, event } => row_of_event(index.table.words, tag, event, j),
+        Selection::ForParameters(event) => parameter_witness(&index.table, event, j),
+        Selection::Identifiers(kind) => identifier_at(&index.table, kind, j),
+        Selection::Variables(own) => variable_at(&index.table, own, j),
+        Selection::Assigned { kind, event } => assigned_at(index, kind, event, j),
+        Selection::SuchThat { kind, event } => such_at(index, kind, event, j),
     }
 }
 
 // The rows between which those of a tag stand; of a number that is no tag, all.
-fn section_span(words: &[u64], spans: &[usize], tag: u64) -> Span
-    requires { Noted (rows_of words.now) spans.now }
-    ensures { result ≡ section_span (rows_of words.now) tag }
+fn section_span(index: &Index, tag: u64) -> Span
+    ensures { result ≡ section_span (rows_of index.now.table.words.now) tag }
 {
     if tag <= tag::VARIANT {
-        return span_at(words, spans, tag);
+        return span_at(index.table.words, index.spans, tag);
     }
     Span {
         from: 0,
-        to: size(words),
+        to: index.table.size(),
     }
 }
 
 // The rows 0, 1, .. that stand for the identifiers.
-fn identifier_span(words: &[u64], table: Table) -> Span
-    requires { table ≡ counts_of (rows_of words.now) }
-    ensures { result ≡ between 0 (count (rows_of words.now) 10) }
+fn identifier_span(table: &Counted) -> Span
+    ensures { result ≡ between 0 (count (rows_of table.now.words.now) 10) }
 {
     Span {
         from: 0,
-        to: table.identifiers as usize,
+        to: table.counts.identifiers as usize,
     }
 }
 
 // The rows between which a selection's stand.
-fn selected_span(words: &[u64], table: Table, spans: &[usize], selection: Selection) -> Span
-    requires { (table ≡ counts_of (rows_of words.now)) × Noted (rows_of words.now) spans.now }
-    ensures { result ≡ selected_span (rows_of words.now) selection }
+fn selected_span(index: &Index, selection: Selection) -> Span
+    ensures { result ≡ selected_span (rows_of index.now.table.words.now) selection }
 {
     match selection {
         Selection::None => Span { from: 0, to: 0 },
-        Selection::Tagged(tag) => section_span(words, spans, tag),
-        Selection::OfEvent { tag, event } => section_span(words, spans, tag),
-        Selection::ForParameters(event) => section_span(words, spans, tag::WITNESS),
-        Selection::Identifiers(kind) => identifier_span(words, table),
-        Selection::Variables(own) => identifier_span(words, table),
-        Selection::Assigned { kind, event } => identifier_span(words, table),
-        Selection::SuchThat { kind, event } => identifier_span(words, table),
+        Selection::Tagged(tag) => section_span(index, tag),
+        Selection::OfEvent { tag, event } => section_span(index, tag),
+        Selection::ForParameters(event) => section_span(index, tag::WITNESS),
+        Selection::Identifiers(kind) => identifier_span(&index.table),
+        Selection::Variables(own) => identifier_span(&index.table),
+        Selection::Assigned { kind, event } => identifier_span(&index.table),
+        Selection::SuchThat { kind, event } => identifier_span(&index.table),
     }
 }
 
@@ -200,15 +178,15 @@ pub enum Item {
 }
 
 // The item that row i gives.
-pub fn item_at(words: &[u64], spans: &[usize], item: Item, event: u64, i: usize) -> u64
-    requires { Noted (rows_of words.now) spans.now × (i < (rows_of words.now).size) }
-    ensures { result ≡ item_at (rows_of words.now) item event i }
+pub fn item_at(index: &Index, item: Item, event: u64, i: usize) -> u64
+    requires { i < (rows_of index.now.table.words.now).size }
+    ensures { result ≡ item_at (rows_of index.now.table.words.now) item event i }
 {
     match item {
-        Item::A => a_at(words, i),
-        Item::B => b_at(words, i),
-        Item::C => c_at(words, i),
-        Item::Action => c_at(words, action_row(words, spans, event, i as u64 + 1)),
+        Item::A => index.table.a_at(i),
+        Item::B => index.table.b_at(i),
+        Item::C => index.table.c_at(i),
+        Item::Action => index.table.c_at(action_row(index, event, i as u64 + 1)),
         Item::Identifier => i as u64 + 1,
     }
 }
@@ -227,44 +205,34 @@ pub enum Each {
 }
 
 // One where the formula of a node divides.
-pub fn divisions(words: &[u64], spans: &[usize], n: u64) -> u64
-    requires { Noted (rows_of words.now) spans.now }
-    ensures value { result ≡ divisions (rows_of words.now) n }
+pub fn divisions(index: &Index, n: u64) -> u64
+    ensures value { result ≡ divisions (rows_of index.now.table.words.now) n }
     ensures upper_bound { result ≤ 1 }
 {
-    let note = note_at(words, spans, n);
+    let note = note_at(index, n);
     one_if(note.divides)
 }
 
 // How many there are of row i.
-fn weight(words: &[u64], spans: &[usize], each: Each, i: usize) -> u64
-    requires { Noted (rows_of words.now) spans.now × (i < (rows_of words.now).size) }
-    ensures { result ≡ weight (rows_of words.now) each i }
+fn weight(index: &Index, each: Each, i: usize) -> u64
+    requires { i < (rows_of index.now.table.words.now).size }
+    ensures { result ≡ weight (rows_of index.now.table.words.now) each i }
 {
     match each {
         Each::One => 1,
-        Each::Defined { item, event } => {
-            divisions(words, spans, item_at(words, spans, item, event, i))
-        }
-        Each::Witness => divisions(words, spans, c_at(words, i)) + 1,
-        Each::Touched(event) => one_if(touches(words, spans, event, a_at(words, i))),
+        Each::Defined { item, event } => { divisions(index, item_at(index, item, event, i)) }
+        Each::Witness => divisions(index, index.table.c_at(i)) + 1,
+        Each::Touched(event) => one_if(touches(index, event, index.table.a_at(i))),
     }
 }
 
 // The same of a row of a selection, and none of another.
-fn count_at(
-    words: &[u64],
-    table: Table,
-    spans: &[usize],
-    rows: Selection,
-    each: Each,
-    i: usize,
-) -> u64
-    requires { (table ≡ counts_of (rows_of words.now)) × Noted (rows_of words.now) spans.now × (i < (rows_of words.now).size) }
-    ensures { result ≡ count_at (rows_of words.now) rows each i }
+fn count_at(index: &Index, rows: Selection, each: Each, i: usize) -> u64
+    requires { i < (rows_of index.now.table.words.now).size }
+    ensures { result ≡ count_at (rows_of index.now.table.words.now) rows each i }
 {
-    if selects(words, table, spans, rows, i) {
-        return weight(words, spans, each, i);
+    if selects(index, rows, i) {
+        return weight(index, each, i);
     }
     0
 }
@@ -278,25 +246,16 @@ pub struct Sought {
 
 // Walks on from a row, counting what there is of each selected row, until what is left to pass over lies in one, or to the end. It looks at no row outside the selection's
 // span.
-pub fn seek_row(
-    words: &[u64],
-    table: Table,
-    spans: &[usize],
-    rows: Selection,
-    each: Each,
-    end: usize,
-    from: Sought,
-) -> Sought
-    requires table_value { (table ≡ counts_of (rows_of words.now)) × Noted (rows_of words.now) spans.now }
-    requires row_le_end { (from.row ≤ end) × (end ≤ (rows_of words.now).size) }
-    ensures { Passed (count_at (rows_of words.now) rows each) end from result }
+pub fn seek_row(index: &Index, rows: Selection, each: Each, end: usize, from: Sought) -> Sought
+    requires { (from.row ≤ end) × (end ≤ (rows_of index.now.table.words.now).size) }
+    ensures { Passed (count_at (rows_of index.now.table.words.now) rows each) end from result }
 {
-    let span = selected_span(words, table, spans, rows);
+    let span = selected_span(index, rows);
     let last = span.to.min(end);
     let start = from.row.max(span.from).min(end);
     let mut left = from.left;
     for row in start..last {
-        let count = count_at(words, table, spans, rows, each, row);
+        let count = count_at(index, rows, each, row);
         if left < count {
             return Sought { row, left };
         }

@@ -19,7 +19,7 @@ ghost use Rattle.services.specs.Found.{header_row, goal_row, rest_rows, outcome,
 
 use entries::{count_entries, entry_at, goal_at, write_entries};
 use mentioned::mentioned_row;
-use nodes::fill_notes;
+use nodes::Index;
 use reply::tags;
 use row::Row;
 use rules::Refusal;
@@ -30,110 +30,96 @@ use verdict::{judge_with, load};
 use walk::{Slot, header_item, header_kind, seek};
 
 // The slot of sequent k, and which of its sequents it is.
-pub fn find_sequent(words: &[u64], table: Table, spans: &[usize], k: u64) -> Slot
-    requires table_value { (table ≡ counts_of (rows_of words.now)) × Noted (rows_of words.now) spans.now }
-    requires passes { Passes (rows_of words.now) × (1 ≤ k) × (k ≤ length (sequents (machine_of (rows_of words.now)))) }
-    ensures { Located (rows_of words.now) k result }
+pub fn find_sequent(index: &Index, k: u64) -> Slot
+    requires { Passes (rows_of index.now.table.words.now) × (1 ≤ k) × (k ≤ length (sequents (machine_of (rows_of index.now.table.words.now)))) }
+    ensures { Located (rows_of index.now.table.words.now) k result }
 {
-    seek(words, table, spans, Slot::start(k - 1))
+    seek(index, Slot::start(k - 1))
 }
 
 // The row 80 of a slot's sequent.
-fn header(words: &[u64], table: Table, spans: &[usize], slot: Slot) -> Row
-    requires { (table ≡ counts_of (rows_of words.now)) × Noted (rows_of words.now) spans.now × (slot.row < (rows_of words.now).size) }
-    ensures { result ≡ header_row (rows_of words.now) slot }
+fn header(index: &Index, slot: Slot) -> Row
+    requires { slot.row < (rows_of index.now.table.words.now).size }
+    ensures { result ≡ header_row (rows_of index.now.table.words.now) slot }
 {
-    let item = header_item(words, table, spans, slot);
+    let item = header_item(index, slot);
     Row {
         tag: tags::SEQUENT,
-        a: header_kind(words, table, spans, slot),
+        a: header_kind(index, slot),
         b: slot.event,
         c: item,
     }
 }
 
 // The row 84 of a slot's sequent, which is listed: what its goal mentions.
-fn mentioned(words: &[u64], table: Table, spans: &[usize], slot: Slot) -> Row
-    requires table_value { (table ≡ counts_of (rows_of words.now)) × Noted (rows_of words.now) spans.now × (slot.row < (rows_of words.now).size) }
-    requires listed_slot { ListedSlot (rows_of words.now) slot }
-    ensures { result ≡ goal_row (rows_of words.now) slot }
+fn mentioned(index: &Index, slot: Slot) -> Row
+    requires table_value { slot.row < (rows_of index.now.table.words.now).size }
+    requires listed_slot { ListedSlot (rows_of index.now.table.words.now) slot }
+    ensures { result ≡ goal_row (rows_of index.now.table.words.now) slot }
 {
-    mentioned_row(words, spans, goal_at(words, table, spans, slot))
+    mentioned_row(index, goal_at(index, slot))
 }
 
 // Writes a slot's sequent without its row 80: row 84, then its entries into what is left of the buffer; and says how many bytes they are.
-fn write_rest(words: &[u64], table: Table, spans: &[usize], slot: Slot, out: &mut [u8]) -> usize
-    requires table_value { (table ≡ counts_of (rows_of words.now)) × Noted (rows_of words.now) spans.now × (slot.row < (rows_of words.now).size) }
-    requires listed_slot { ListedSlot (rows_of words.now) slot × (row_length width * (2 + hypothesis_count (rows_of words.now) slot) ≤ length out.old) }
-    ensures value { result ≡ row_length width * (2 + hypothesis_count (rows_of words.now) slot) }
-    ensures out_after { out.new ≡ over (rows_bytes (rest_rows (rows_of words.now) slot)) out.old }
+fn write_rest(index: &Index, slot: Slot, out: &mut [u8]) -> usize
+    requires table_value { slot.row < (rows_of index.now.table.words.now).size }
+    requires listed_slot { ListedSlot (rows_of index.now.table.words.now) slot × (row_length width * (2 + hypothesis_count (rows_of index.now.table.words.now) slot) ≤ length out.old) }
+    ensures value { result ≡ row_length width * (2 + hypothesis_count (rows_of index.now.table.words.now) slot) }
+    ensures out_after { out.new ≡ over (rows_bytes (rest_rows (rows_of index.now.table.words.now) slot)) out.old }
 {
-    mentioned(words, table, spans, slot).write(out);
-    Row::LENGTH + write_entries(words, table, spans, slot, &mut out[Row::LENGTH..])
+    mentioned(index, slot).write(out);
+    Row::LENGTH + write_entries(index, slot, &mut out[Row::LENGTH..])
 }
 
 // Writes a slot's sequent, which is listed: row 80, then the rest into what is left of the buffer; and says how many bytes they are.
-pub fn write_slot(words: &[u64], table: Table, spans: &[usize], slot: Slot, out: &mut [u8]) -> usize
-    requires table_value { (table ≡ counts_of (rows_of words.now)) × Noted (rows_of words.now) spans.now × (slot.row < (rows_of words.now).size) }
-    requires listed_slot { ListedSlot (rows_of words.now) slot × (row_length width * (3 + hypothesis_count (rows_of words.now) slot) ≤ length out.old) }
-    ensures value { result ≡ row_length width * (3 + hypothesis_count (rows_of words.now) slot) }
-    ensures out_after { out.new ≡ over (rows_bytes (sequent_rows (machine_of (rows_of words.now)) (slot_sequent (rows_of words.now) slot))) out.old }
+pub fn write_slot(index: &Index, slot: Slot, out: &mut [u8]) -> usize
+    requires table_value { slot.row < (rows_of index.now.table.words.now).size }
+    requires listed_slot { ListedSlot (rows_of index.now.table.words.now) slot × (row_length width * (3 + hypothesis_count (rows_of index.now.table.words.now) slot) ≤ length out.old) }
+    ensures value { result ≡ row_length width * (3 + hypothesis_count (rows_of index.now.table.words.now) slot) }
+    ensures out_after { out.new ≡ over (rows_bytes (sequent_rows (machine_of (rows_of index.now.table.words.now)) (slot_sequent (rows_of index.now.table.words.now) slot))) out.old }
 {
-    header(words, table, spans, slot).write(out);
-    Row::LENGTH + write_rest(words, table, spans, slot, &mut out[Row::LENGTH..])
+    header(index, slot).write(out);
+    Row::LENGTH + write_rest(index, slot, &mut out[Row::LENGTH..])
 }
 
 // Writes a slot's sequent, which is listed, where the buffer has room for it: rows 80 and 84 besides the entries.
-fn write_found(
-    words: &[u64],
-    table: Table,
-    spans: &[usize],
-    slot: Slot,
-    out: &mut [u8],
-) -> Result<u64, Refusal>
-    requires table_value { (table ≡ counts_of (rows_of words.now)) × Noted (rows_of words.now) spans.now × (slot.row < (rows_of words.now).size) }
-    requires listed_slot { ListedSlot (rows_of words.now) slot }
-    ensures { outcome result out.new ≡ write_rows (sequent_rows (machine_of (rows_of words.now)) (slot_sequent (rows_of words.now) slot)) out.old }
+fn write_found(index: &Index, slot: Slot, out: &mut [u8]) -> Result<u64, Refusal>
+    requires table_value { slot.row < (rows_of index.now.table.words.now).size }
+    requires listed_slot { ListedSlot (rows_of index.now.table.words.now) slot }
+    ensures { outcome result out.new ≡ write_rows (sequent_rows (machine_of (rows_of index.now.table.words.now)) (slot_sequent (rows_of index.now.table.words.now) slot)) out.old }
 {
-    let wanted = count_entries(words, table, spans, slot) + 2;
+    let wanted = count_entries(index, slot) + 2;
     if ((out.len() / Row::LENGTH) as u64) < wanted {
         return Err(Refusal {
             number: Refusal::ROOM,
             row: 0,
         });
     }
-    write_slot(words, table, spans, slot, out);
+    write_slot(index, slot, out);
     Ok(wanted)
 }
 
 // Spells an entry where the buffer has room for it. The first call counts its rows: a buffer of one byte has room for none.
-fn spell_found(
-    words: &[u64],
-    table: Table,
-    spans: &[usize],
-    slot: Slot,
-    j: u64,
-    out: &mut [u8],
-) -> Result<u64, Refusal>
-    requires { (table ≡ counts_of (rows_of words.now)) × Noted (rows_of words.now) spans.now × (slot.row < (rows_of words.now).size) }
-    ensures { outcome result out.new ≡ spell_at (machine_of (rows_of words.now)) (slot_sequent (rows_of words.now) slot) j out.old }
+fn spell_found(index: &Index, slot: Slot, j: u64, out: &mut [u8]) -> Result<u64, Refusal>
+    requires { slot.row < (rows_of index.now.table.words.now).size }
+    ensures { outcome result out.new ≡ spell_at (machine_of (rows_of index.now.table.words.now)) (slot_sequent (rows_of index.now.table.words.now) slot) j out.old }
 {
-    if !among(j, count_entries(words, table, spans, slot)) {
+    if !among(j, count_entries(index, slot)) {
         return Err(Refusal {
             number: Refusal::ENTRY,
             row: 0,
         });
     }
-    let entry = entry_at(words, table, spans, slot, j - 1);
+    let entry = entry_at(index, slot, j - 1);
     let mut none = [0u8; 1];
-    let rows = spell(words, table, entry, &mut none);
+    let rows = spell(&index.table, entry, &mut none);
     if ((out.len() / Row::LENGTH) as u64) < rows {
         return Err(Refusal {
             number: Refusal::ROOM,
             row: 0,
         });
     }
-    spell(words, table, entry, out);
+    spell(&index.table, entry, out);
     Ok(rows)
 }
 
@@ -145,37 +131,27 @@ pub enum Request {
 }
 
 // Does what is asked of the sequent in a slot, which is listed.
-fn serve_found(
-    words: &[u64],
-    table: Table,
-    spans: &[usize],
-    slot: Slot,
-    request: Request,
-    out: &mut [u8],
-) -> Result<u64, Refusal>
-    requires table_value { (table ≡ counts_of (rows_of words.now)) × Noted (rows_of words.now) spans.now × (slot.row < (rows_of words.now).size) }
-    requires listed_slot { ListedSlot (rows_of words.now) slot }
-    ensures { outcome result out.new ≡ serve_at (machine_of (rows_of words.now)) request out.old (slot_sequent (rows_of words.now) slot) }
+fn serve_found(index: &Index, slot: Slot, request: Request, out: &mut [u8]) -> Result<u64, Refusal>
+    requires table_value { slot.row < (rows_of index.now.table.words.now).size }
+    requires listed_slot { ListedSlot (rows_of index.now.table.words.now) slot }
+    ensures { outcome result out.new ≡ serve_at (machine_of (rows_of index.now.table.words.now)) request out.old (slot_sequent (rows_of index.now.table.words.now) slot) }
 {
     match request {
-        Request::Write => write_found(words, table, spans, slot, out),
-        Request::Spell(j) => spell_found(words, table, spans, slot, j, out),
+        Request::Write => write_found(index, slot, out),
+        Request::Spell(j) => spell_found(index, slot, j, out),
     }
 }
 
 // Does what is asked of sequent k of an accepted table with so many sequents.
 fn serve_accepted(
-    words: &[u64],
-    table: Table,
-    spans: &[usize],
+    index: &Index,
     count: u64,
     k: u64,
     request: Request,
     out: &mut [u8],
 ) -> Result<u64, Refusal>
-    requires table_value { (table ≡ counts_of (rows_of words.now)) × Noted (rows_of words.now) spans.now }
-    requires words_value { judge_of (rows_of words.now) ≡ Ok count }
-    ensures { outcome result out.new ≡ serve_by (machine_of (rows_of words.now)) (Ok count) k request out.old }
+    requires { judge_of (rows_of index.now.table.words.now) ≡ Ok count }
+    ensures { outcome result out.new ≡ serve_by (machine_of (rows_of index.now.table.words.now)) (Ok count) k request out.old }
 {
     if !among(k, count) {
         return Err(Refusal {
@@ -183,24 +159,17 @@ fn serve_accepted(
             row: 0,
         });
     }
-    let slot = find_sequent(words, table, spans, k);
-    serve_found(words, table, spans, slot, request, out)
+    let slot = find_sequent(index, k);
+    serve_found(index, slot, request, out)
 }
 
 // Does what is asked of sequent k of the table of these rows, where it is accepted.
-fn serve_judged(
-    words: &[u64],
-    table: Table,
-    spans: &[usize],
-    k: u64,
-    request: Request,
-    out: &mut [u8],
-) -> Result<u64, Refusal>
-    requires { (table ≡ counts_of (rows_of words.now)) × Noted (rows_of words.now) spans.now × (length words.now ≤ most_words) }
-    ensures { outcome result out.new ≡ serve_by (machine_of (rows_of words.now)) (judge_of (rows_of words.now)) k request out.old }
+fn serve_judged(index: &Index, k: u64, request: Request, out: &mut [u8]) -> Result<u64, Refusal>
+    requires { length index.now.table.words.now ≤ most_words }
+    ensures { outcome result out.new ≡ serve_by (machine_of (rows_of index.now.table.words.now)) (judge_of (rows_of index.now.table.words.now)) k request out.old }
 {
-    let count = judge_with(words, table, spans)?;
-    serve_accepted(words, table, spans, count, k, request, out)
+    let count = judge_with(index)?;
+    serve_accepted(index, count, k, request, out)
 }
 
 // The same, of the rows alone: they are counted, and what is asked of them again and again is noted, once.
@@ -209,9 +178,8 @@ fn serve_rows(words: &[u64], k: u64, request: Request, out: &mut [u8]) -> Result
     ensures { outcome result out.new ≡ serve_by (machine_of (rows_of words.now)) (judge_of (rows_of words.now)) k request out.old }
 {
     let mut spans = [0usize; Span::WORDS];
-    let table = Table::of(words);
-    fill_notes(words, table, &mut spans);
-    serve_judged(words, table, &spans, k, request, out)
+    let index = Index::of(words, &mut spans);
+    serve_judged(&index, k, request, out)
 }
 
 // Does what is asked of sequent k of a table.

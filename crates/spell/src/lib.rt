@@ -18,7 +18,7 @@ use reply::tags;
 use row::Row;
 use scan::{Query, find_row};
 use sequent::{Entry, form};
-use table::{Table, c_at, is_variable, node_field, operand, operator, size, sort, tag, tag_at};
+use table::{Counted, Table, c_at, operand, operator, size, sort, tag};
 
 // More rows than any buffer has room for.
 const ROWS_CAP: u64 = 1152921504606846976;
@@ -125,19 +125,18 @@ fn shaped_node(shape: Shape, operator: u64, primed: bool, b: u64, left: u64, rig
 }
 
 // What node n is spelled by.
-fn node_at(words: &[u64], table: Table, n: u64, primed: bool) -> Node
-    requires { table ≡ counts_of (rows_of words.now) }
-    ensures { result ≡ node_of (rows_of words.now) primed n }
+fn node_at(table: &Counted, n: u64, primed: bool) -> Node
+    ensures { result ≡ node_of (rows_of table.now.words.now) primed n }
 {
     if n == 0 {
         return leaf(operator::BOTTOM, 0);
     }
-    let operator = node_field(words, table, n, Table::OPERATOR);
-    let b = node_field(words, table, n, Table::LEFT);
-    let c = node_field(words, table, n, Table::RIGHT);
+    let operator = table.node_field(n, Table::OPERATOR);
+    let b = table.node_field(n, Table::LEFT);
+    let c = table.node_field(n, Table::RIGHT);
     let found = find_operator(operator);
     let shape = found.shape;
-    let variable = is_variable(words, table, b);
+    let variable = table.is_variable(b);
     let left = operand(n, b);
     let right = operand(n, c);
     shaped_node(shape, operator, primed & variable, b, left, right)
@@ -145,87 +144,73 @@ fn node_at(words: &[u64], table: Table, n: u64, primed: bool) -> Node
 
 // The tree of node n, an expression: its row, then its operands' rows. A predicate is handed on.
 #[cycle(spell_expression_spell_operands_spell_predicate)]
-pub fn spell_expression(words: &[u64], table: Table, n: u64, primed: bool, out: &mut [u8]) -> u64
-    requires { table ≡ counts_of (rows_of words.now) }
-    ensures { Spelled (shown_rows (rows_of words.now) primed n) result out.old out.new }
+pub fn spell_expression(table: &Counted, n: u64, primed: bool, out: &mut [u8]) -> u64
+    ensures { Spelled (shown_rows (rows_of table.now.words.now) primed n) result out.old out.new }
 {
-    let node = node_at(words, table, n, primed);
+    let node = node_at(table, n, primed);
     let found = find_operator(node.operator);
     if found.sort == sort::PREDICATE {
-        return spell_predicate(words, table, n, primed, out);
+        return spell_predicate(table, n, primed, out);
     }
     let head = row_83(out, node.operator, node.b);
     let at = rest_start(out.len(), head);
-    let operands = spell_operands(words, table, node, primed, &mut out[at..]);
+    let operands = spell_operands(table, node, primed, &mut out[at..]);
     add_rows(head, operands)
 }
 
 // The tree of node n, a predicate: its row, then its operands' rows.
 #[cycle(spell_expression_spell_operands_spell_predicate)]
-pub fn spell_predicate(words: &[u64], table: Table, n: u64, primed: bool, out: &mut [u8]) -> u64
-    requires { table ≡ counts_of (rows_of words.now) }
-    ensures { Spelled (shown_rows (rows_of words.now) primed n) result out.old out.new }
+pub fn spell_predicate(table: &Counted, n: u64, primed: bool, out: &mut [u8]) -> u64
+    ensures { Spelled (shown_rows (rows_of table.now.words.now) primed n) result out.old out.new }
 {
-    let node = node_at(words, table, n, primed);
+    let node = node_at(table, n, primed);
     let head = row_83(out, node.operator, node.b);
     let at = rest_start(out.len(), head);
-    let operands = spell_operands(words, table, node, primed, &mut out[at..]);
+    let operands = spell_operands(table, node, primed, &mut out[at..]);
     add_rows(head, operands)
 }
 
 // The trees of a node's operands, each begun as an expression, which hands a predicate on.
 #[cycle(spell_expression_spell_operands_spell_predicate)]
-fn spell_operands(words: &[u64], table: Table, node: Node, primed: bool, out: &mut [u8]) -> u64
-    requires { table ≡ counts_of (rows_of words.now) }
-    ensures { Spelled (operand_rows node.operands (shown_rows (rows_of words.now) primed node.left) (shown_rows (rows_of words.now) primed node.right)) result out.old out.new }
+fn spell_operands(table: &Counted, node: Node, primed: bool, out: &mut [u8]) -> u64
+    ensures { Spelled (operand_rows node.operands (shown_rows (rows_of table.now.words.now) primed node.left) (shown_rows (rows_of table.now.words.now) primed node.right)) result out.old out.new }
 {
     if node.operands == 0 {
         return 0;
     }
-    let left = spell_expression(words, table, node.left, primed, out);
+    let left = spell_expression(table, node.left, primed, out);
     if node.operands == 1 {
         return left;
     }
     let at = rest_start(out.len(), left);
-    let right = spell_expression(words, table, node.right, primed, &mut out[at..]);
+    let right = spell_expression(table, node.right, primed, &mut out[at..]);
     add_rows(left, right)
 }
 
 // A row, then the tree of node n.
-fn spell_under(
-    words: &[u64],
-    table: Table,
-    operator: u64,
-    b: u64,
-    n: u64,
-    primed: bool,
-    out: &mut [u8],
-) -> u64
-    requires { table ≡ counts_of (rows_of words.now) }
-    ensures { Spelled (spelled operator b ∷ shown_rows (rows_of words.now) primed n) result out.old out.new }
+fn spell_under(table: &Counted, operator: u64, b: u64, n: u64, primed: bool, out: &mut [u8]) -> u64
+    ensures { Spelled (spelled operator b ∷ shown_rows (rows_of table.now.words.now) primed n) result out.old out.new }
 {
     let head = row_83(out, operator, b);
     let at = rest_start(out.len(), head);
-    let tree = spell_expression(words, table, n, primed, &mut out[at..]);
+    let tree = spell_expression(table, n, primed, &mut out[at..]);
     add_rows(head, tree)
 }
 
 // A comparison: its row, the row of its left side, and the tree of its right side's root.
 fn spell_comparison(
-    words: &[u64],
-    table: Table,
+    table: &Counted,
     operator: u64,
     left: u64,
     b: u64,
     root: u64,
     out: &mut [u8],
 ) -> u64
-    requires { table ≡ counts_of (rows_of words.now) }
-    ensures { Spelled (spelled operator 0 ∷ spelled left b ∷ shown_rows (rows_of words.now) false root) result out.old out.new }
+    ensures { Spelled (spelled operator 0 ∷ spelled left b ∷ shown_rows (rows_of table.now.words.now) false root) result out.old out.new }
 {
     let head = row_83(out, operator, 0);
     let at = rest_start(out.len(), head);
-    let sides = spell_under(words, table, left, b, root, false, &mut out[at..]);
+    let sides = spell_under(table, left, b, root, false, &mut out[at..]);
     add_rows(head, sides)
 }
 
@@ -271,48 +256,43 @@ fn spell_opening(operator: u64, out: &mut [u8]) -> u64
 }
 
 // What stands between WD(a) and WD(b): for ∧ and ⇒ that a implies the rest, for ∨ that a or the rest holds.
-fn spell_guard(words: &[u64], table: Table, operator: u64, left: u64, out: &mut [u8]) -> u64
-    requires { table ≡ counts_of (rows_of words.now) }
-    ensures { Spelled (guard_rows operator (shown_rows (rows_of words.now) false left)) result out.old out.new }
+fn spell_guard(table: &Counted, operator: u64, left: u64, out: &mut [u8]) -> u64
+    ensures { Spelled (guard_rows operator (shown_rows (rows_of table.now.words.now) false left)) result out.old out.new }
 {
     let guard = guard_number(operator);
     if guard == 0 {
         return 0;
     }
-    spell_under(words, table, guard, 0, left, false, out)
+    spell_under(table, guard, 0, left, false, out)
 }
 
 // The equation of node n and the literal 0.
-fn spell_equals_zero(words: &[u64], table: Table, n: u64, out: &mut [u8]) -> u64
-    requires { table ≡ counts_of (rows_of words.now) }
-    ensures { Spelled ((spelled equals_number 0 ∷ shown_rows (rows_of words.now) false n) ++ (spelled literal_number 0 ∷ [])) result out.old out.new }
+fn spell_equals_zero(table: &Counted, n: u64, out: &mut [u8]) -> u64
+    ensures { Spelled ((spelled equals_number 0 ∷ shown_rows (rows_of table.now.words.now) false n) ++ (spelled literal_number 0 ∷ [])) result out.old out.new }
 {
-    let equal = spell_under(words, table, operator::EQUAL, 0, n, false, out);
+    let equal = spell_under(table, operator::EQUAL, 0, n, false, out);
     let at = rest_start(out.len(), equal);
     let zero = row_83(&mut out[at..], operator::LITERAL, 0);
     add_rows(equal, zero)
 }
 
 // "¬(b = 0)".
-fn spell_nonzero(words: &[u64], table: Table, right: u64, out: &mut [u8]) -> u64
-    requires { table ≡ counts_of (rows_of words.now) }
-    ensures { Spelled (nonzero_rows (shown_rows (rows_of words.now) false right)) result out.old out.new }
+fn spell_nonzero(table: &Counted, right: u64, out: &mut [u8]) -> u64
+    ensures { Spelled (nonzero_rows (shown_rows (rows_of table.now.words.now) false right)) result out.old out.new }
 {
     let head = row_83(out, operator::NOT, 0);
     let at = rest_start(out.len(), head);
-    let equal = spell_equals_zero(words, table, right, &mut out[at..]);
+    let equal = spell_equals_zero(table, right, &mut out[at..]);
     add_rows(head, equal)
 }
 
 // "0 ≤ a ∧ 0 < b".
-fn spell_natural(words: &[u64], table: Table, left: u64, right: u64, out: &mut [u8]) -> u64
-    requires { table ≡ counts_of (rows_of words.now) }
-    ensures { Spelled (natural_rows (shown_rows (rows_of words.now) false left) (shown_rows (rows_of words.now) false right)) result out.old out.new }
+fn spell_natural(table: &Counted, left: u64, right: u64, out: &mut [u8]) -> u64
+    ensures { Spelled (natural_rows (shown_rows (rows_of table.now.words.now) false left) (shown_rows (rows_of table.now.words.now) false right)) result out.old out.new }
 {
     let head = row_83(out, operator::AND, 0);
     let left_at = rest_start(out.len(), head);
     let at_most = spell_comparison(
-        words,
         table,
         operator::AT_MOST,
         operator::LITERAL,
@@ -323,7 +303,6 @@ fn spell_natural(words: &[u64], table: Table, left: u64, right: u64, out: &mut [
     let to_left = add_rows(head, at_most);
     let right_at = rest_start(out.len(), to_left);
     let less = spell_comparison(
-        words,
         table,
         operator::LESS,
         operator::LITERAL,
@@ -335,52 +314,42 @@ fn spell_natural(words: &[u64], table: Table, left: u64, right: u64, out: &mut [
 }
 
 // What stands after WD(b): what ÷ and mod ask of their operands' values.
-fn spell_closing(
-    words: &[u64],
-    table: Table,
-    operator: u64,
-    left: u64,
-    right: u64,
-    out: &mut [u8],
-) -> u64
-    requires { table ≡ counts_of (rows_of words.now) }
-    ensures { Spelled (closing_rows operator (shown_rows (rows_of words.now) false left) (shown_rows (rows_of words.now) false right)) result out.old out.new }
+fn spell_closing(table: &Counted, operator: u64, left: u64, right: u64, out: &mut [u8]) -> u64
+    ensures { Spelled (closing_rows operator (shown_rows (rows_of table.now.words.now) false left) (shown_rows (rows_of table.now.words.now) false right)) result out.old out.new }
 {
     let condition = find_condition(operator);
     match condition {
         Condition::Nothing => 0,
-        Condition::Divisor => spell_nonzero(words, table, right, out),
-        Condition::Operands => spell_natural(words, table, left, right, out),
+        Condition::Divisor => spell_nonzero(table, right, out),
+        Condition::Operands => spell_natural(table, left, right, out),
         Condition::LeftTrue => 0,
         Condition::LeftFalse => 0,
     }
 }
 
 // The WD of node n.
-pub fn spell_defined(words: &[u64], table: Table, n: u64, out: &mut [u8]) -> u64
-    requires { table ≡ counts_of (rows_of words.now) }
-    ensures { Spelled (defined_rows (rows_of words.now) n) result out.old out.new }
+pub fn spell_defined(table: &Counted, n: u64, out: &mut [u8]) -> u64
+    ensures { Spelled (defined_rows (rows_of table.now.words.now) n) result out.old out.new }
 {
-    let node = node_at(words, table, n, false);
+    let node = node_at(table, n, false);
     if node.operands == 0 {
         return row_83(out, operator::TOP, 0);
     }
     if node.operands == 1 {
-        return spell_defined(words, table, node.left, out);
+        return spell_defined(table, node.left, out);
     }
     let opening = spell_opening(node.operator, out);
     let left_at = rest_start(out.len(), opening);
-    let left = spell_defined(words, table, node.left, &mut out[left_at..]);
+    let left = spell_defined(table, node.left, &mut out[left_at..]);
     let to_left = add_rows(opening, left);
     let guard_at = rest_start(out.len(), to_left);
-    let guard = spell_guard(words, table, node.operator, node.left, &mut out[guard_at..]);
+    let guard = spell_guard(table, node.operator, node.left, &mut out[guard_at..]);
     let to_guard = add_rows(to_left, guard);
     let right_at = rest_start(out.len(), to_guard);
-    let right = spell_defined(words, table, node.right, &mut out[right_at..]);
+    let right = spell_defined(table, node.right, &mut out[right_at..]);
     let to_right = add_rows(to_guard, right);
     let closing_at = rest_start(out.len(), to_right);
     let closing = spell_closing(
-        words,
         table,
         node.operator,
         node.left,
@@ -411,33 +380,31 @@ fn spell_unchanged(x: u64, out: &mut [u8]) -> u64
 }
 
 // Form 4: the action of the event e for the variable x.
-fn spell_moves(words: &[u64], table: Table, e: u64, x: u64, out: &mut [u8]) -> u64
-    requires { table ≡ counts_of (rows_of words.now) }
-    ensures { Spelled (moves_rows (rows_of words.now) e x) result out.old out.new }
+fn spell_moves(table: &Counted, e: u64, x: u64, out: &mut [u8]) -> u64
+    ensures { Spelled (moves_rows (rows_of table.now.words.now) e x) result out.old out.new }
 {
     let query = Query::Assigns {
         event: e,
         target: x,
     };
-    let i = find_row(words, query);
-    if size(words) <= i {
+    let i = find_row(table.words, query);
+    if table.size() <= i {
         return spell_unchanged(x, out);
     }
-    let root = c_at(words, i);
-    if tag_at(words, i) == tag::BECOMES_EQUAL {
-        return spell_comparison(words, table, operator::EQUAL, operator::AFTER, x, root, out);
+    let root = table.c_at(i);
+    if table.tag_at(i) == tag::BECOMES_EQUAL {
+        return spell_comparison(table, operator::EQUAL, operator::AFTER, x, root, out);
     }
-    spell_expression(words, table, root, false, out)
+    spell_expression(table, root, false, out)
 }
 
 // Form 5: some after value of x meets the action.
-fn spell_feasible(words: &[u64], table: Table, e: u64, x: u64, out: &mut [u8]) -> u64
-    requires { table ≡ counts_of (rows_of words.now) }
-    ensures { Spelled (spelled some_after_value_number x ∷ moves_rows (rows_of words.now) e x) result out.old out.new }
+fn spell_feasible(table: &Counted, e: u64, x: u64, out: &mut [u8]) -> u64
+    ensures { Spelled (spelled some_after_value_number x ∷ moves_rows (rows_of table.now.words.now) e x) result out.old out.new }
 {
     let head = row_83(out, operator::SOME_AFTER_VALUE, x);
     let at = rest_start(out.len(), head);
-    let action = spell_moves(words, table, e, x, &mut out[at..]);
+    let action = spell_moves(table, e, x, &mut out[at..]);
     add_rows(head, action)
 }
 
@@ -464,42 +431,38 @@ fn some_operator(variable: bool) -> u64
 }
 
 // Form 6: some value of x, or some after value of a variable, meets the witness.
-fn spell_witnessed(words: &[u64], table: Table, e: u64, x: u64, out: &mut [u8]) -> u64
-    requires { table ≡ counts_of (rows_of words.now) }
-    ensures { Spelled (spelled (pick (is_variable_number (rows_of words.now) x) some_after_value_number some_value_number) x ∷ shown_rows (rows_of words.now) false (witness_node (rows_of words.now) e x)) result out.old out.new }
+fn spell_witnessed(table: &Counted, e: u64, x: u64, out: &mut [u8]) -> u64
+    ensures { Spelled (spelled (pick (is_variable_number (rows_of table.now.words.now) x) some_after_value_number some_value_number) x ∷ shown_rows (rows_of table.now.words.now) false (witness_node (rows_of table.now.words.now) e x)) result out.old out.new }
 {
-    let operator = some_operator(is_variable(words, table, x));
-    let root = witness_root(words, e, x);
-    spell_under(words, table, operator, x, root, false, out)
+    let operator = some_operator(table.is_variable(x));
+    let root = witness_root(table.words, e, x);
+    spell_under(table, operator, x, root, false, out)
 }
 
 // Forms 8 and 9: variant after < variant, variant after ≤ variant, by the operator.
-fn spell_variants(words: &[u64], table: Table, operator: u64, root: u64, out: &mut [u8]) -> u64
-    requires { table ≡ counts_of (rows_of words.now) }
-    ensures { Spelled ((spelled operator 0 ∷ shown_rows (rows_of words.now) true root) ++ shown_rows (rows_of words.now) false root) result out.old out.new }
+fn spell_variants(table: &Counted, operator: u64, root: u64, out: &mut [u8]) -> u64
+    ensures { Spelled ((spelled operator 0 ∷ shown_rows (rows_of table.now.words.now) true root) ++ shown_rows (rows_of table.now.words.now) false root) result out.old out.new }
 {
-    let after = spell_under(words, table, operator, 0, root, true, out);
+    let after = spell_under(table, operator, 0, root, true, out);
     let at = rest_start(out.len(), after);
-    let before = spell_expression(words, table, root, false, &mut out[at..]);
+    let before = spell_expression(table, root, false, &mut out[at..]);
     add_rows(after, before)
 }
 
 // An entry spelled out: the count of its rows, capped, and the rows where the buffer has room for them. Form 7, 0 ≤ variant, is a comparison with a literal.
-pub fn spell(words: &[u64], table: Table, entry: Entry, out: &mut [u8]) -> u64
-    requires { table ≡ counts_of (rows_of words.now) }
-    ensures { Spelled (entry_rows (rows_of words.now) entry) result out.old out.new }
+pub fn spell(table: &Counted, entry: Entry, out: &mut [u8]) -> u64
+    ensures { Spelled (entry_rows (rows_of table.now.words.now) entry) result out.old out.new }
 {
     let form = entry.form;
     let first = entry.first;
     let second = entry.second;
     match form {
-        form::PRIMED => spell_expression(words, table, first, true, out),
-        form::DEFINED => spell_defined(words, table, first, out),
-        form::MOVES => spell_moves(words, table, first, second, out),
-        form::FEASIBLE => spell_feasible(words, table, first, second, out),
-        form::WITNESSED => spell_witnessed(words, table, first, second, out),
+        form::PRIMED => spell_expression(table, first, true, out),
+        form::DEFINED => spell_defined(table, first, out),
+        form::MOVES => spell_moves(table, first, second, out),
+        form::FEASIBLE => spell_feasible(table, first, second, out),
+        form::WITNESSED => spell_witnessed(table, first, second, out),
         form::NATURAL => spell_comparison(
-            words,
             table,
             operator::AT_MOST,
             operator::LITERAL,
@@ -507,9 +470,9 @@ pub fn spell(words: &[u64], table: Table, entry: Entry, out: &mut [u8]) -> u64
             first,
             out,
         ),
-        form::DECREASES => spell_variants(words, table, operator::LESS, first, out),
-        form::NOT_INCREASED => spell_variants(words, table, operator::AT_MOST, first, out),
+        form::DECREASES => spell_variants(table, operator::LESS, first, out),
+        form::NOT_INCREASED => spell_variants(table, operator::AT_MOST, first, out),
         form::UNCHANGED => spell_unchanged(first, out),
-        _ => spell_expression(words, table, first, false, out),
+        _ => spell_expression(table, first, false, out),
     }
 }

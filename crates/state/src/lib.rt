@@ -10,7 +10,7 @@ ghost use Rattle.table.specs.Counts.{counts_of};
 ghost use Rattle.bench.specs.State.{is_of_type, is_wrong, is_state, laid};
 
 use evaluate::value_at;
-use table::{Table, identifier, identifier_field};
+use table::{Counted, Table, identifier};
 
 // Copies a list into the first places of another, as much of it as there is room for.
 pub fn copy_list<T: Copy>(from: &[T], to: &mut [T])
@@ -35,23 +35,22 @@ fn sort_at(sorts: &[u64], x: u64) -> u64
 }
 
 // Whether the record of the identifier after x is wrong.
-fn is_wrong(words: &[u64], table: Table, values: &[i64], sorts: &[u64], x: u64) -> bool
-    requires { (table ≡ counts_of (rows_of words.now)) × (x + 1 < 2 ^ 64) }
-    ensures { result ≡ is_wrong (rows_of words.now) values.now sorts.now (x + 1) }
+fn is_wrong(table: &Counted, values: &[i64], sorts: &[u64], x: u64) -> bool
+    requires { x + 1 < 2 ^ 64 }
+    ensures { result ≡ is_wrong (rows_of table.now.words.now) values.now sorts.now (x + 1) }
 {
     let sort = sort_at(sorts, x);
-    let expected = identifier_field(words, table, x + 1, Table::TYPE);
+    let expected = table.identifier_field(x + 1, Table::TYPE);
     let value = value_at(values, x);
     !((sort == expected) & is_of_type(sort, value))
 }
 
 // Whether no record is wrong.
-fn all_right(words: &[u64], table: Table, values: &[i64], sorts: &[u64]) -> bool
-    requires { table ≡ counts_of (rows_of words.now) }
-    ensures { result ≡ not (some_of (is_wrong (rows_of words.now) values.now sorts.now) (numbers (count (rows_of words.now) identifier_tag) 1)) }
+fn all_right(table: &Counted, values: &[i64], sorts: &[u64]) -> bool
+    ensures { result ≡ not (some_of (is_wrong (rows_of table.now.words.now) values.now sorts.now) (numbers (count (rows_of table.now.words.now) identifier_tag) 1)) }
 {
-    for x in 0..table.identifiers {
-        if is_wrong(words, table, values, sorts, x) {
+    for x in 0..table.counts.identifiers {
+        if is_wrong(table, values, sorts, x) {
             return false;
         }
     }
@@ -59,10 +58,11 @@ fn all_right(words: &[u64], table: Table, values: &[i64], sorts: &[u64]) -> bool
 }
 
 // Whether values and types are those of a state: one of each for each identifier, and none wrong.
-pub fn is_state(words: &[u64], table: Table, values: &[i64], sorts: &[u64]) -> bool
-    requires { table ≡ counts_of (rows_of words.now) }
-    ensures { result ≡ is_state (rows_of words.now) values.now sorts.now }
+pub fn is_state(table: &Counted, values: &[i64], sorts: &[u64]) -> bool
+    ensures { result ≡ is_state (rows_of table.now.words.now) values.now sorts.now }
 {
-    let right = all_right(words, table, values, sorts);
-    ((values.len() as u64 == table.identifiers) & (sorts.len() as u64 == table.identifiers)) & right
+    let right = all_right(table, values, sorts);
+    ((values.len() as u64 == table.counts.identifiers)
+        & (sorts.len() as u64 == table.counts.identifiers))
+        & right
 }

@@ -17,7 +17,7 @@ ghost use Rattle.steps.specs.Steps.{ended_after, step_progress, step_values, Tak
 ghost use Rattle.steps.specs.Parts.{later_row, replay_rest, ReplaysPart, Stops};
 
 use judge::step_fault;
-use nodes::fill_notes;
+use nodes::Index;
 use reader::next_row;
 use row::{Place, Read, Row};
 use rules::Refusal;
@@ -48,34 +48,29 @@ fn ended(n: u64) -> Result<Progress, Refusal>
 
 // Judges a step of the event e whose row 90 has this number, and where it is allowed goes on at the place after its rows, with the values that it left.
 fn judge_step(
-    words: &[u64],
-    table: Table,
-    spans: &[usize],
+    index: &Index,
     e: u64,
     row: u64,
     next: Place,
     present: &mut [i64],
     after: &mut [i64],
 ) -> Result<Progress, Refusal>
-    requires { (table ≡ counts_of (rows_of words.now)) × Spanned (rows_of words.now) spans.now }
-    ensures value { result ≡ step_progress (rows_of words.now) e row next (values_of present.old after.old) }
-    ensures after_after { values_of present.new after.new ≡ step_values (rows_of words.now) e (values_of present.old after.old) }
+    ensures value { result ≡ step_progress (rows_of index.now.table.words.now) e row next (values_of present.old after.old) }
+    ensures after_after { values_of present.new after.new ≡ step_values (rows_of index.now.table.words.now) e (values_of present.old after.old) }
 {
-    if let Err(fault) = step_fault(words, table, spans, present, after, e) {
+    if let Err(fault) = step_fault(index, present, after, e) {
         return Err(Refusal {
             number: fault.number(),
             row,
         });
     }
-    move_values(words, table, present, after);
+    move_values(&index.table, present, after);
     Ok(Progress::Going(next))
 }
 
 // Takes the step of the event e, whose row 90 is the row before a place.
 fn take_step(
-    words: &[u64],
-    table: Table,
-    spans: &[usize],
+    index: &Index,
     run: &[u8],
     e: u64,
     row: u64,
@@ -83,32 +78,29 @@ fn take_step(
     present: &mut [i64],
     after: &mut [i64],
 ) -> Result<Progress, Refusal>
-    requires { (table ≡ counts_of (rows_of words.now)) × Spanned (rows_of words.now) spans.now × (place.at ≤ length run.now) }
-    ensures takes_step { TakesStep (rows_of words.now) e row run.now place.at (values_of present.old after.old) result (values_of present.new after.new) }
+    requires { place.at ≤ length run.now }
+    ensures takes_step { TakesStep (rows_of index.now.table.words.now) e row run.now place.at (values_of present.old after.old) result (values_of present.new after.new) }
     ensures begins_within { BeginsWithin result place.at (length run.now) }
 {
-    match read_values(words, table, spans, false, run, e, place, present, after) {
+    match read_values(index, false, run, e, place, present, after) {
         Err(bad) => Err(Refusal {
             number: Refusal::LOG,
             row: bad.row,
         }),
-        Ok(next) => judge_step(words, table, spans, e, row, next, present, after),
+        Ok(next) => judge_step(index, e, row, next, present, after),
     }
 }
 
 // Replays the step at a place, before which n steps were allowed.
 fn replay_step(
-    words: &[u64],
-    table: Table,
-    spans: &[usize],
+    index: &Index,
     run: &[u8],
     n: u64,
     place: Place,
     present: &mut [i64],
     after: &mut [i64],
 ) -> Result<Progress, Refusal>
-    requires { (table ≡ counts_of (rows_of words.now)) × Spanned (rows_of words.now) spans.now }
-    ensures replays_step { ReplaysStep (rows_of words.now) n run.now place.at (values_of present.old after.old) result (values_of present.new after.new) }
+    ensures replays_step { ReplaysStep (rows_of index.now.table.words.now) n run.now place.at (values_of present.old after.old) result (values_of present.new after.new) }
     ensures begins_within { BeginsWithin result (place.at + row_length width) (length run.now) }
 {
     match next_row(place, run) {
@@ -118,10 +110,10 @@ fn replay_step(
             row: row_number(place),
         }),
         Read::Next(row, next) => {
-            if is_step_row(words, table, n == 0, row) {
+            if is_step_row(&index.table, n == 0, row) {
                 let e = row.a;
                 let at = row_number(place);
-                return take_step(words, table, spans, run, e, at, next, present, after);
+                return take_step(index, run, e, at, next, present, after);
             }
             Err(Refusal {
                 number: Refusal::LOG,
@@ -152,9 +144,7 @@ fn later_row(before: u64, row: u64) -> u64
 
 // Replays the steps of a part of a run, before which n steps were allowed and so many rows read: all of them where it is the last part, else those whose rows are at hand in any case.
 pub fn replay_part(
-    words: &[u64],
-    table: Table,
-    spans: &[usize],
+    index: &Index,
     part: &[u8],
     last: bool,
     n: u64,
@@ -162,14 +152,14 @@ pub fn replay_part(
     present: &mut [i64],
     after: &mut [i64],
 ) -> Result<Part, Refusal>
-    requires { (table ≡ counts_of (rows_of words.now)) × Spanned (rows_of words.now) spans.now × (n + length part.now < 2 ^ 64) × (before + 1 + length part.now < 2 ^ 64) }
-    ensures replays_part { ReplaysPart (rows_of words.now) n before part.now last (values_of present.old after.old) result (values_of present.new after.new) }
+    requires { (n + length part.now < 2 ^ 64) × (before + 1 + length part.now < 2 ^ 64) }
+    ensures replays_part { ReplaysPart (rows_of index.now.table.words.now) n before part.now last (values_of present.old after.old) result (values_of present.new after.new) }
     ensures stops { Stops result n part.now last }
 {
     let mut place = Place::start();
     let mut n = n;
-    while last | (table.identifiers < ((part.len() - place.at) / Row::LENGTH) as u64) {
-        match replay_step(words, table, spans, part, n, place, present, after) {
+    while last | (index.table.counts.identifiers < ((part.len() - place.at) / Row::LENGTH) as u64) {
+        match replay_step(index, part, n, place, present, after) {
             Ok(Progress::Going(next)) => {
                 place = next;
             }
@@ -188,17 +178,14 @@ pub fn replay_part(
 
 // Replays all steps of a run, with no values known before.
 fn replay_steps(
-    words: &[u64],
-    table: Table,
-    spans: &[usize],
+    index: &Index,
     run: &[u8],
     present: &mut [i64],
     after: &mut [i64],
 ) -> Result<u64, Refusal>
-    requires { (table ≡ counts_of (rows_of words.now)) × Spanned (rows_of words.now) spans.now }
-    ensures { result ≡ replay_rest (rows_of words.now) 0 1 (lines run.now) (values_of present.old after.old) }
+    ensures { result ≡ replay_rest (rows_of index.now.table.words.now) 0 1 (lines run.now) (values_of present.old after.old) }
 {
-    match replay_part(words, table, spans, run, true, 0, 0, present, after)? {
+    match replay_part(index, run, true, 0, 0, present, after)? {
         // not of the last part
         Part::More(n, place) => Err(Refusal {
             number: Refusal::LOG,
@@ -209,22 +196,21 @@ fn replay_steps(
 }
 
 // Replays a run of the table of these rows, which is accepted.
-fn replay_log(words: &[u64], table: Table, spans: &[usize], run: &[u8]) -> Result<u64, Refusal>
-    requires { (table ≡ counts_of (rows_of words.now)) × Spanned (rows_of words.now) spans.now }
-    ensures { result ≡ replay_log (rows_of words.now) run.now }
+fn replay_log(index: &Index, run: &[u8]) -> Result<u64, Refusal>
+    ensures { result ≡ replay_log (rows_of index.now.table.words.now) run.now }
 {
     let mut present = [0i64; Table::IDENTIFIERS as usize + 1];
     let mut after = [0i64; Table::IDENTIFIERS as usize + 1];
-    replay_steps(words, table, spans, run, &mut present, &mut after)
+    replay_steps(index, run, &mut present, &mut after)
 }
 
 // The same of a table that may be refused: "After the table's checks".
-fn replay_judged(words: &[u64], table: Table, spans: &[usize], run: &[u8]) -> Result<u64, Refusal>
-    requires { (table ≡ counts_of (rows_of words.now)) × Noted (rows_of words.now) spans.now × (length words.now ≤ most_words) }
-    ensures { result ≡ replay_by (judge_of (rows_of words.now)) (replay_log (rows_of words.now) run.now) }
+fn replay_judged(index: &Index, run: &[u8]) -> Result<u64, Refusal>
+    requires { length index.now.table.words.now ≤ most_words }
+    ensures { result ≡ replay_by (judge_of (rows_of index.now.table.words.now)) (replay_log (rows_of index.now.table.words.now) run.now) }
 {
-    judge_with(words, table, spans)?;
-    replay_log(words, table, spans, run)
+    judge_with(index)?;
+    replay_log(index, run)
 }
 
 // The same of the rows alone.
@@ -233,9 +219,8 @@ fn replay_rows(words: &[u64], run: &[u8]) -> Result<u64, Refusal>
     ensures { result ≡ replay_by (judge_of (rows_of words.now)) (replay_log (rows_of words.now) run.now) }
 {
     let mut spans = [0usize; Span::WORDS];
-    let table = Table::of(words);
-    fill_notes(words, table, &mut spans);
-    replay_judged(words, table, &spans, run)
+    let index = Index::of(words, &mut spans);
+    replay_judged(&index, run)
 }
 
 // Replays a recorded run of a table: how many steps follow the initialisation, or a refusal.

@@ -1,6 +1,7 @@
 // 01, Rows: a table's rows as words, four a row (tag, a, b, c), and where its identifiers, nodes and events stand.
 #![tactic(auto)]
 
+mod counted;
 pub mod event;
 pub mod identifier;
 pub mod operator;
@@ -14,6 +15,7 @@ ghost use Rattle.table.specs.Rows.{rows_of, named, row_of};
 ghost use Rattle.table.specs.Lookups.{is_variable_number, operand_node};
 ghost use Rattle.table.specs.Counts.{empty_counts, counted_row, counts_of, Small};
 
+pub use counted::Counted;
 use row::Row;
 
 // How many rows stand before the identifiers, the nodes and the events of a table, and how many of these there are.
@@ -202,14 +204,6 @@ impl Table {
     }
 }
 
-// A column of an identifier: 1 kind, 2 type, 3 owner.
-pub fn identifier_field(words: &[u64], table: Table, x: u64, column: usize) -> u64
-    requires { (table ≡ counts_of (rows_of words.now)) × (column < 4) }
-    ensures { result ≡ get_or words.now (4 * row_of (rows_of words.now) 10 x + column) 0 }
-{
-    field(words, table.identifiers_start, x, column)
-}
-
 // Whether identifiers of a kind are variables of the machine whose own variables have another: they are its own, or shared.
 pub fn is_variable_of(own: u64, kind: u64) -> bool
     ensures { result ≡ is_variable_of own kind }
@@ -227,23 +221,6 @@ pub fn variable_kind(kind: u64, machine: u64) -> bool
     (kind - 1 == machine) | (kind == identifier::SHARED_VARIABLE)
 }
 
-// Whether an identifier is a variable of one of the machines.
-pub fn is_variable(words: &[u64], table: Table, x: u64) -> bool
-    requires { table ≡ counts_of (rows_of words.now) }
-    ensures { result ≡ is_variable_number (rows_of words.now) x }
-{
-    let kind = identifier_field(words, table, x, Table::KIND);
-    (kind == identifier::ABSTRACT_VARIABLE) | is_variable_of(identifier::CONCRETE_VARIABLE, kind)
-}
-
-// A column of a node: 1 operator, 2 and 3 operands.
-pub fn node_field(words: &[u64], table: Table, n: u64, column: usize) -> u64
-    requires { (table ≡ counts_of (rows_of words.now)) × (column < 4) }
-    ensures { result ≡ get_or words.now (4 * row_of (rows_of words.now) 20 n + column) 0 }
-{
-    field(words, table.nodes_start, n, column)
-}
-
 // An operand of the node n, or 0 where it is no earlier node.
 pub fn operand(n: u64, x: u64) -> u64
     ensures { result ≡ operand_node n x }
@@ -252,36 +229,4 @@ pub fn operand(n: u64, x: u64) -> u64
         return x;
     }
     0
-}
-
-// A column of an event: 1 machine, 2 class, 3 refined event.
-pub fn event_field(words: &[u64], table: Table, e: u64, column: usize) -> u64
-    requires { (table ≡ counts_of (rows_of words.now)) × (column < 4) }
-    ensures { result ≡ get_or words.now (4 * row_of (rows_of words.now) 40 e + column) 0 }
-{
-    field(words, table.events_start, e, column)
-}
-
-// Whether a number names an identifier.
-pub fn named_identifier(words: &[u64], table: Table, x: u64) -> bool
-    requires { table ≡ counts_of (rows_of words.now) }
-    ensures { result ≡ named (rows_of words.now) 10 x }
-{
-    among(x, table.identifiers)
-}
-
-// Whether a number names a node.
-pub fn named_node(words: &[u64], table: Table, n: u64) -> bool
-    requires { table ≡ counts_of (rows_of words.now) }
-    ensures { result ≡ named (rows_of words.now) 20 n }
-{
-    among(n, table.nodes)
-}
-
-// Whether a number names an event.
-pub fn named_event(words: &[u64], table: Table, e: u64) -> bool
-    requires { table ≡ counts_of (rows_of words.now) }
-    ensures { result ≡ named (rows_of words.now) 40 e }
-{
-    among(e, table.events)
 }

@@ -18,15 +18,13 @@ ghost use Rattle.values.specs.Values.{values_of, row_at, is_told, is_wanted, wan
 
 use evaluate::value_at;
 use events::is_initial;
+use nodes::Index;
 use reader::next_row;
 use recording::tags;
 use row::{Place, Read, Row};
 use scan::action_row;
 use signed::of_word;
-use table::{
-    Table, event, event_field, identifier, identifier_field, is_variable_of, named_event, size,
-    tag, tag_at,
-};
+use table::{Counted, Table, event, identifier, is_variable_of, tag};
 
 // Why the rows of a step can't be read: the row that is bad, 0 where the run ends.
 #[derive(Clone, Copy)]
@@ -52,23 +50,22 @@ pub fn put(values: &mut [i64], x: u64, value: i64)
 }
 
 // Whether a row is the row 90 of a step: the concrete initialisation first, then concrete events that are none.
-pub fn is_step_row(words: &[u64], table: Table, first: bool, row: Row) -> bool
-    requires { table ≡ counts_of (rows_of words.now) }
-    ensures { result ≡ is_step_row (rows_of words.now) first row }
+pub fn is_step_row(table: &Counted, first: bool, row: Row) -> bool
+    ensures { result ≡ is_step_row (rows_of table.now.words.now) first row }
 {
     let e = row.a;
-    let named = named_event(words, table, e);
-    let machine = event_field(words, table, e, Table::MACHINE);
-    let initial = is_initial(words, table, e);
+    let named = table.named_event(e);
+    let machine = table.event_field(e, Table::MACHINE);
+    let initial = is_initial(table, e);
     (row.tag == tags::STEP)
         & ((named & ((machine == event::CONCRETE) & (initial == first)))
             & ((row.b == 0) & (row.c == 0)))
 }
 
 // What is logged beside the variables: "constants .. after initialisation, else the event's parameters". Only a parameter's owner is looked up.
-fn is_given(words: &[u64], table: Table, initial: bool, kind: u64, e: u64, x: u64) -> bool
-    requires { (table ≡ counts_of (rows_of words.now)) × (initial ≡ is_initial (rows_of words.now) e) × (kind ≡ kind_of (rows_of words.now) x) }
-    ensures { result ≡ is_given (rows_of words.now) e x }
+fn is_given(table: &Counted, initial: bool, kind: u64, e: u64, x: u64) -> bool
+    requires { (initial ≡ is_initial (rows_of table.now.words.now) e) × (kind ≡ kind_of (rows_of table.now.words.now) x) }
+    ensures { result ≡ is_given (rows_of table.now.words.now) e x }
 {
     if initial {
         return kind == identifier::CONSTANT;
@@ -76,15 +73,14 @@ fn is_given(words: &[u64], table: Table, initial: bool, kind: u64, e: u64, x: u6
     if kind != identifier::CONCRETE_PARAMETER {
         return false;
     }
-    identifier_field(words, table, x, Table::OWNER) == e
+    table.identifier_field(x, Table::OWNER) == e
 }
 
 // "all concrete and shared variables"
-pub fn is_state_variable(words: &[u64], table: Table, x: u64) -> bool
-    requires { table ≡ counts_of (rows_of words.now) }
-    ensures { result ≡ is_state_variable (rows_of words.now) x }
+pub fn is_state_variable(table: &Counted, x: u64) -> bool
+    ensures { result ≡ is_state_variable (rows_of table.now.words.now) x }
 {
-    let kind = identifier_field(words, table, x, Table::KIND);
+    let kind = table.identifier_field(x, Table::KIND);
     is_variable_of(identifier::CONCRETE_VARIABLE, kind)
 }
 
@@ -96,11 +92,10 @@ fn is_logged(sort: u64, value: u64) -> bool
 }
 
 // Whether a row is the row 91 of the identifier x.
-fn is_value_row(words: &[u64], table: Table, x: u64, row: Row) -> bool
-    requires { table ≡ counts_of (rows_of words.now) }
-    ensures { result ≡ is_value_row (rows_of words.now) x row }
+fn is_value_row(table: &Counted, x: u64, row: Row) -> bool
+    ensures { result ≡ is_value_row (rows_of table.now.words.now) x row }
 {
-    let sort = identifier_field(words, table, x, Table::TYPE);
+    let sort = table.identifier_field(x, Table::TYPE);
     (row.tag == tags::VALUE) & ((row.a == x) & (is_logged(sort, row.b) & (row.c == 0)))
 }
 
@@ -117,18 +112,16 @@ fn store(given: bool, x: u64, value: i64, present: &mut [i64], after: &mut [i64]
 
 // Stores the value of the row at a place, where it is the row 91 of the identifier x.
 fn read_row(
-    words: &[u64],
-    table: Table,
+    table: &Counted,
     given: bool,
     x: u64,
     row: Row,
     present: &mut [i64],
     after: &mut [i64],
 ) -> bool
-    requires { table ≡ counts_of (rows_of words.now) }
-    ensures { (result ≡ is_value_row (rows_of words.now) x row) × (values_of present.new after.new ≡ pick (is_value_row (rows_of words.now) x row) (store_by given x (whole_number row.b) (values_of present.old after.old)) (values_of present.old after.old)) }
+    ensures { (result ≡ is_value_row (rows_of table.now.words.now) x row) × (values_of present.new after.new ≡ pick (is_value_row (rows_of table.now.words.now) x row) (store_by given x (whole_number row.b) (values_of present.old after.old)) (values_of present.old after.old)) }
 {
-    if is_value_row(words, table, x, row) {
+    if is_value_row(table, x, row) {
         store(given, x, of_word(row.b), present, after);
         return true;
     }
@@ -137,8 +130,7 @@ fn read_row(
 
 // Reads the row 91 of the identifier x.
 fn read_value(
-    words: &[u64],
-    table: Table,
+    table: &Counted,
     run: &[u8],
     given: bool,
     x: u64,
@@ -146,8 +138,7 @@ fn read_value(
     present: &mut [i64],
     after: &mut [i64],
 ) -> Result<Place, BadRow>
-    requires { table ≡ counts_of (rows_of words.now) }
-    ensures reads_value { ReadsValue (rows_of words.now) given x run.now place.at (values_of present.old after.old) result (values_of present.new after.new) }
+    ensures reads_value { ReadsValue (rows_of table.now.words.now) given x run.now place.at (values_of present.old after.old) result (values_of present.new after.new) }
     ensures reaches { Reaches result run.now (place.at + row_length width) }
 {
     match next_row(place, run) {
@@ -156,7 +147,7 @@ fn read_value(
             row: row_number(place),
         }),
         Read::Next(row, next) => {
-            if read_row(words, table, given, x, row, present, after) {
+            if read_row(table, given, x, row, present, after) {
                 return Ok(next);
             }
             Err(BadRow {
@@ -167,31 +158,28 @@ fn read_value(
 }
 
 // Whether the action of the event e for the identifier x is a 52.
-fn is_such_that(words: &[u64], spans: &[usize], e: u64, x: u64) -> bool
-    requires { Spanned (rows_of words.now) spans.now }
-    ensures { result ≡ is_such_that (action_of (rows_of words.now) e x) }
+fn is_such_that(index: &Index, e: u64, x: u64) -> bool
+    ensures { result ≡ is_such_that (action_of (rows_of index.now.table.words.now) e x) }
 {
-    let i = action_row(words, spans, e, x);
-    (i < size(words)) & !(tag_at(words, i) == tag::BECOMES_EQUAL)
+    let i = action_row(index.table.words, index.spans, e, x);
+    (i < index.table.size()) & !(index.table.tag_at(i) == tag::BECOMES_EQUAL)
 }
 
 // Whether the rows tell the after value of an identifier of this kind: a log that of each variable, a choice for a press that of a 52 alone.
-fn is_told(words: &[u64], spans: &[usize], pressing: bool, kind: u64, e: u64, x: u64) -> bool
-    requires { Spanned (rows_of words.now) spans.now × (kind ≡ kind_of (rows_of words.now) x) }
-    ensures { result ≡ is_told (rows_of words.now) pressing e x }
+fn is_told(index: &Index, pressing: bool, kind: u64, e: u64, x: u64) -> bool
+    requires { kind ≡ kind_of (rows_of index.now.table.words.now) x }
+    ensures { result ≡ is_told (rows_of index.now.table.words.now) pressing e x }
 {
     let variable = is_variable_of(identifier::CONCRETE_VARIABLE, kind);
     if pressing {
-        return is_such_that(words, spans, e, x) & variable;
+        return is_such_that(index, e, x) & variable;
     }
     variable
 }
 
 // The same of an identifier that may have none.
 fn read_identifier(
-    words: &[u64],
-    table: Table,
-    spans: &[usize],
+    index: &Index,
     pressing: bool,
     run: &[u8],
     initial: bool,
@@ -201,23 +189,21 @@ fn read_identifier(
     present: &mut [i64],
     after: &mut [i64],
 ) -> Result<Place, BadRow>
-    requires { (table ≡ counts_of (rows_of words.now)) × Spanned (rows_of words.now) spans.now × (initial ≡ is_initial (rows_of words.now) e) × (place.at ≤ length run.now) }
-    ensures reads_identifier { ReadsIdentifier (rows_of words.now) pressing e x run.now place.at (values_of present.old after.old) result (values_of present.new after.new) }
-    ensures reaches { Reaches result run.now (place.at + row_length width * one_if (is_wanted (rows_of words.now) pressing e x)) }
+    requires { (initial ≡ is_initial (rows_of index.now.table.words.now) e) × (place.at ≤ length run.now) }
+    ensures reads_identifier { ReadsIdentifier (rows_of index.now.table.words.now) pressing e x run.now place.at (values_of present.old after.old) result (values_of present.new after.new) }
+    ensures reaches { Reaches result run.now (place.at + row_length width * one_if (is_wanted (rows_of index.now.table.words.now) pressing e x)) }
 {
-    let kind = identifier_field(words, table, x, Table::KIND);
-    let given = is_given(words, table, initial, kind, e, x);
-    if given | is_told(words, spans, pressing, kind, e, x) {
-        return read_value(words, table, run, given, x, place, present, after);
+    let kind = index.table.identifier_field(x, Table::KIND);
+    let given = is_given(&index.table, initial, kind, e, x);
+    if given | is_told(index, pressing, kind, e, x) {
+        return read_value(&index.table, run, given, x, place, present, after);
     }
     Ok(place)
 }
 
 // Reads the rows 91 of a step of the event e, "in identifier order": those of a log, or those of a choice for a press.
 pub fn read_values(
-    words: &[u64],
-    table: Table,
-    spans: &[usize],
+    index: &Index,
     pressing: bool,
     run: &[u8],
     e: u64,
@@ -225,17 +211,15 @@ pub fn read_values(
     present: &mut [i64],
     after: &mut [i64],
 ) -> Result<Place, BadRow>
-    requires { (table ≡ counts_of (rows_of words.now)) × Spanned (rows_of words.now) spans.now × (place.at ≤ length run.now) }
-    ensures reads_values { ReadsValues (rows_of words.now) e (wanted (rows_of words.now) pressing e) run.now place.at (values_of present.old after.old) result (values_of present.new after.new) }
-    ensures reaches { Reaches result run.now (place.at + row_length width * length (wanted (rows_of words.now) pressing e)) }
+    requires { place.at ≤ length run.now }
+    ensures reads_values { ReadsValues (rows_of index.now.table.words.now) e (wanted (rows_of index.now.table.words.now) pressing e) run.now place.at (values_of present.old after.old) result (values_of present.new after.new) }
+    ensures reaches { Reaches result run.now (place.at + row_length width * length (wanted (rows_of index.now.table.words.now) pressing e)) }
 {
-    let initial = is_initial(words, table, e);
+    let initial = is_initial(&index.table, e);
     let mut place = place;
-    for x in 0..table.identifiers {
+    for x in 0..index.table.counts.identifiers {
         place = read_identifier(
-            words,
-            table,
-            spans,
+            index,
             pressing,
             run,
             initial,
@@ -250,21 +234,19 @@ pub fn read_values(
 }
 
 // The present value of the identifier x becomes its after value, where it is a variable of the concrete machine.
-fn move_value(words: &[u64], table: Table, x: u64, present: &mut [i64], after: &[i64])
-    requires { table ≡ counts_of (rows_of words.now) }
-    ensures { present.new ≡ pick (is_state_variable (rows_of words.now) x) (set present.old x (get_or after.now x (pos 0))) present.old }
+fn move_value(table: &Counted, x: u64, present: &mut [i64], after: &[i64])
+    ensures { present.new ≡ pick (is_state_variable (rows_of table.now.words.now) x) (set present.old x (get_or after.now x (pos 0))) present.old }
 {
-    if is_state_variable(words, table, x) {
+    if is_state_variable(table, x) {
         put(present, x, value_at(after, x));
     }
 }
 
 // "each from the values the last one left"
-pub fn move_values(words: &[u64], table: Table, present: &mut [i64], after: &[i64])
-    requires { table ≡ counts_of (rows_of words.now) }
-    ensures { values_of present.new after.now ≡ moved (rows_of words.now) (values_of present.old after.now) }
+pub fn move_values(table: &Counted, present: &mut [i64], after: &[i64])
+    ensures { values_of present.new after.now ≡ moved (rows_of table.now.words.now) (values_of present.old after.now) }
 {
-    for x in 0..table.identifiers {
-        move_value(words, table, x + 1, present, after);
+    for x in 0..table.counts.identifiers {
+        move_value(table, x + 1, present, after);
     }
 }

@@ -11,7 +11,7 @@ ghost use Rattle.verdict.specs.Loaded.{end_row, loaded_rows, loaded_of, loaded_w
 
 use decode::{Decoded, decode};
 use fault::{first_check, first_row};
-use nodes::fill_notes;
+use nodes::Index;
 use row::Row;
 use rule_missing::missing;
 use rules::Refusal;
@@ -49,22 +49,22 @@ pub fn load(bytes: &[u8], words: &mut [u64]) -> Result<usize, Refusal>
 }
 
 // Checks 3 to 12, and the count of the sequents where none offends, by the counts of the rows and what is noted of them.
-pub fn judge_with(words: &[u64], table: Table, spans: &[usize]) -> Result<u64, Refusal>
-    requires { (table ≡ counts_of (rows_of words.now)) × Noted (rows_of words.now) spans.now × (length words.now ≤ most_words) }
-    ensures { result ≡ judge_of (rows_of words.now) }
+pub fn judge_with(index: &Index) -> Result<u64, Refusal>
+    requires { length index.now.table.words.now ≤ most_words }
+    ensures { result ≡ judge_of (rows_of index.now.table.words.now) }
 {
-    let check = first_check(words, table, spans);
+    let check = first_check(index);
     if check < Refusal::MISSING {
-        let row = first_row(words, table, spans, check) as u64 + 1;
+        let row = first_row(index, check) as u64 + 1;
         return Err(Refusal { number: check, row });
     }
-    if missing(words, table, spans) {
+    if missing(index) {
         return Err(Refusal {
             number: Refusal::MISSING,
             row: 0,
         });
     }
-    Ok(count(words, table, spans))
+    Ok(count(index))
 }
 
 // The same, of the rows alone.
@@ -73,9 +73,8 @@ pub fn judge(words: &[u64]) -> Result<u64, Refusal>
     ensures { result ≡ judge_of (rows_of words.now) }
 {
     let mut spans = [0usize; Span::WORDS];
-    let table = Table::of(words);
-    fill_notes(words, table, &mut spans);
-    judge_with(words, table, &spans)
+    let index = Index::of(words, &mut spans);
+    judge_with(&index)
 }
 
 // "check (accepts a table by giving the count of sequents)"

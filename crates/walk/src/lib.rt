@@ -15,9 +15,9 @@ ghost use Rattle.walk.specs.Slots.{slot_at, sought_at, next_group, slot_count, I
 ghost use Rattle.walk.specs.Headers.{is_wfis, header_kind, header_item};
 
 use groups::{Group, group_at};
+use nodes::Index;
 use select::{Sought, divisions, item_at, seek_row};
 use sequent::kind;
-use table::{Table, b_at, c_at, size};
 
 // A slot of the walk, and how many sequents from its first on a search has still to pass over.
 #[derive(Clone, Copy)]
@@ -89,64 +89,62 @@ impl Slot {
 }
 
 // Whether a slot's sequent is the WFIS of a witness, which stands behind its WD, where that is listed.
-fn is_wfis(words: &[u64], spans: &[usize], slot: Slot) -> bool
-    requires { Noted (rows_of words.now) spans.now }
-    ensures { result ≡ is_wfis (rows_of words.now) slot.group slot.row slot.left }
+fn is_wfis(index: &Index, slot: Slot) -> bool
+    ensures { result ≡ is_wfis (rows_of index.now.table.words.now) slot.group slot.row slot.left }
 {
     if slot.group == Group::WITNESS {
-        return slot.left == divisions(words, spans, c_at(words, slot.row));
+        return slot.left == divisions(index, index.table.c_at(slot.row));
     }
     false
 }
 
 // The kind of a slot's sequent.
-pub fn header_kind(words: &[u64], table: Table, spans: &[usize], slot: Slot) -> u64
-    requires { (table ≡ counts_of (rows_of words.now)) × Noted (rows_of words.now) spans.now }
-    ensures { result ≡ header_kind (rows_of words.now) slot.event slot.group slot.row slot.left }
+pub fn header_kind(index: &Index, slot: Slot) -> u64
+    ensures { result ≡ header_kind (rows_of index.now.table.words.now) slot.event slot.group slot.row slot.left }
 {
-    if is_wfis(words, spans, slot) {
+    if is_wfis(index, slot) {
         return kind::WFIS;
     }
-    group_at(words, table, slot.event, slot.group).kind
+    group_at(&index.table, slot.event, slot.group).kind
 }
 
 // Its item: root, variable or identifier.
-pub fn header_item(words: &[u64], table: Table, spans: &[usize], slot: Slot) -> u64
-    requires { (table ≡ counts_of (rows_of words.now)) × Noted (rows_of words.now) spans.now × (slot.row < (rows_of words.now).size) }
-    ensures { result ≡ header_item (rows_of words.now) slot.event slot.group slot.row slot.left }
+pub fn header_item(index: &Index, slot: Slot) -> u64
+    requires { slot.row < (rows_of index.now.table.words.now).size }
+    ensures { result ≡ header_item (rows_of index.now.table.words.now) slot.event slot.group slot.row slot.left }
 {
-    if is_wfis(words, spans, slot) {
-        return b_at(words, slot.row);
+    if is_wfis(index, slot) {
+        return index.table.b_at(slot.row);
     }
-    let group = group_at(words, table, slot.event, slot.group);
+    let group = group_at(&index.table, slot.event, slot.group);
     let item = group.item;
-    item_at(words, spans, item, slot.event, slot.row)
+    item_at(index, item, slot.event, slot.row)
 }
 
 // Walks on within a slot's group.
-fn seek_in_group(words: &[u64], table: Table, spans: &[usize], slot: Slot) -> Sought
-    requires { (table ≡ counts_of (rows_of words.now)) × Noted (rows_of words.now) spans.now × (slot.row ≤ (rows_of words.now).size) }
-    ensures { Passed (slot_count (rows_of words.now) slot.event slot.group) (rows_of words.now).size (sought_at slot) result }
+fn seek_in_group(index: &Index, slot: Slot) -> Sought
+    requires { slot.row ≤ (rows_of index.now.table.words.now).size }
+    ensures { Passed (slot_count (rows_of index.now.table.words.now) slot.event slot.group) (rows_of index.now.table.words.now).size (sought_at slot) result }
 {
-    let group = group_at(words, table, slot.event, slot.group);
+    let group = group_at(&index.table, slot.event, slot.group);
     let rows = group.rows;
     let each = group.each;
     let from = Sought {
         row: slot.row,
         left: slot.left,
     };
-    seek_row(words, table, spans, rows, each, size(words), from)
+    seek_row(index, rows, each, index.table.size(), from)
 }
 
 // Walks on from a slot until what is left to pass over lies in a slot, or to the end. Counting, finding and printing all walk by this.
-pub fn seek(words: &[u64], table: Table, spans: &[usize], from: Slot) -> Slot
-    requires { (table ≡ counts_of (rows_of words.now)) × Noted (rows_of words.now) spans.now × InWalk (rows_of words.now) from }
-    ensures { SoughtSlot (rows_of words.now) (position (rows_of words.now) from) result }
+pub fn seek(index: &Index, from: Slot) -> Slot
+    requires { InWalk (rows_of index.now.table.words.now) from }
+    ensures { SoughtSlot (rows_of index.now.table.words.now) (position (rows_of index.now.table.words.now) from) result }
 {
-    let rows = size(words);
+    let rows = index.table.size();
     let mut slot = from;
-    while slot.event <= table.events {
-        let found = seek_in_group(words, table, spans, slot);
+    while slot.event <= index.table.counts.events {
+        let found = seek_in_group(index, slot);
         if found.row < rows {
             return slot.at(found);
         }
@@ -159,11 +157,11 @@ pub fn seek(words: &[u64], table: Table, spans: &[usize], from: Slot) -> Slot
 const MANY: u64 = 4294967296;
 
 // How many sequents a table that passes all checks has.
-pub fn count(words: &[u64], table: Table, spans: &[usize]) -> u64
-    requires table_value { (table ≡ counts_of (rows_of words.now)) × Noted (rows_of words.now) spans.now × (length words.now ≤ most_words) }
-    requires passes { Passes (rows_of words.now) }
-    ensures { result ≡ length (sequents (machine_of (rows_of words.now))) }
+pub fn count(index: &Index) -> u64
+    requires table_value { length index.now.table.words.now ≤ most_words }
+    requires passes { Passes (rows_of index.now.table.words.now) }
+    ensures { result ≡ length (sequents (machine_of (rows_of index.now.table.words.now))) }
 {
-    let end = seek(words, table, spans, Slot::start(MANY));
+    let end = seek(index, Slot::start(MANY));
     MANY - end.left
 }

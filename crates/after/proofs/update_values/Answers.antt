@@ -10,5 +10,5 @@ pub returns : goal.returns
 returns c =
     let placed-values = ap (λ zs. pos 0 ∷ zs) (append-nil c.copy_list.new.to ∙ c.copy_list.ensures) in
     c.copy_list-2.ensures
-    ∙ updated_is (rows_of c.args.words.now) c.args.after.now c.args.values.now c.requires.1 c.requires.2 c.requires.3 (pos 0 ∷ (c.copy_list.new.to ++ [])) c.move_values.new.present
+    ∙ updated_is (rows_of c.args.table.now.words.now) c.args.after.now c.args.values.now c.requires.0 c.requires.1 c.requires.2 (pos 0 ∷ (c.copy_list.new.to ++ [])) c.move_values.new.present
     (placed_is _ _ placed-values) c.move_values.ensures

@@ -6,4 +6,4 @@ use Rattle.entries.proofs.count_entries.Goals as goal
 
 pub overflow_add-result : goal.overflow_add-result
 overflow_add-result c =
-    omega (arith, c.count_hypotheses.ensures, at_most (rows_of c.args.words.now) c.args.slot c.requires.2)
+    omega (arith, c.count_hypotheses.ensures, at_most (rows_of c.args.index.now.table.words.now) c.args.slot c.requires)

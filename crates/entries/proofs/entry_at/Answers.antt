@@ -8,17 +8,12 @@ use Rattle.entries.proofs.Seek.{start_stands, hypothesis_found, goal_found}
 use Rattle.entries.proofs.entry_at.Goals as goal
 
 pub seek_entry-found-requires : goal.seek_entry-found-requires
-seek_entry-found-requires c =
-    record {
-      table_value = c.requires.table_value;
-      stands = start_stands (rows_of c.args.words.now) c.args.slot c.start.ensures;
-    }
+seek_entry-found-requires c = record { table_value = c.requires.table_value; stands = start_stands (rows_of c.args.index.now.table.words.now) c.args.slot c.start.ensures }
 
 pub segment_entry-requires : goal.segment_entry-requires
-segment_entry-requires c =
-    let t = rows_of c.args.words.now in
+segment_entry-requires c = let t = rows_of c.args.index.now.table.words.now in
     let r = c.seek_entry-found.result in
-    (c.requires.table_value.0, c.requires.table_value.1, omega (arith, (c.seek_entry-found.ensures.found c.if-segment-lt-COUNT.true).row, end_within t c.args.slot c.requires.table_value.2 r.segment))
+    omega (arith, (c.seek_entry-found.ensures.found c.if-segment-lt-COUNT.true).row, end_within t c.args.slot c.requires.table_value r.segment)
 
 pub returns-then-segment-lt-COUNT : goal.returns-then-segment-lt-COUNT
 returns-then-segment-lt-COUNT c =

@@ -7,4 +7,4 @@ use Rattle.entries.proofs.goal_at.Goals as goal
 
 pub returns : goal.returns
 returns c =
-    c.goal_of.ensures ∙ ap₂ (λ k x. numbers_of (goal_of (rows_of c.args.words.now) k c.args.slot.event x)) c.header_kind-kind.ensures c.header_item-item.ensures
+    c.goal_of.ensures ∙ ap₂ (λ k x. numbers_of (goal_of (rows_of c.args.index.now.table.words.now) k c.args.slot.event x)) c.header_kind-kind.ensures c.header_item-item.ensures

@@ -15,17 +15,13 @@ loop-cursor-init c = (c.requires.stands, refl)
 
 pub seek_row-found-requires : goal.seek_row-found-requires
 seek_row-found-requires c =
-    let t = rows_of c.args.words.now in
+    let t = rows_of c.args.index.now.table.words.now in
     let r = c.segment_at-part.ensures in
-    let k = c.loop-cursor.cursor.segment in
-    record {
-      table_value = (c.requires.table_value.0, c.requires.table_value.1);
-      row_le_end = (omega (arith, c.loop-cursor.invariant.0.row, ap (λ r. r.before) r), omega (arith, end_within t c.args.slot c.requires.table_value.2 k, ap (λ r. r.before) r));
-    }
+    let k = c.loop-cursor.cursor.segment in (omega (arith, c.loop-cursor.invariant.0.row, ap (λ r. r.before) r), omega (arith, end_within t c.args.slot c.requires.table_value k, ap (λ r. r.before) r))
 
 pub returns-then-found-end : goal.returns-then-found-end
 returns-then-found-end c =
-    let t = rows_of c.args.words.now in
+    let t = rows_of c.args.index.now.table.words.now in
     let part = c.segment_at-part in
     let p = subst (λ r. Passed (count_at t r.rows One) r.before (sought_in c.loop-cursor.cursor) c.seek_row-found.result) part.ensures c.seek_row-found.ensures in
     let inside : c.seek_row-found.result.row < end t c.args.slot c.loop-cursor.cursor.segment = omega (arith, c.if-found-end.true, ap (λ r. r.before) part.ensures) in
@@ -42,7 +38,7 @@ loop-cursor-smaller c =
 
 pub loop-cursor-preserved : goal.loop-cursor-preserved
 loop-cursor-preserved c =
-    let t = rows_of c.args.words.now in
+    let t = rows_of c.args.index.now.table.words.now in
     let part = c.segment_at-part in
     let p = subst (λ r. Passed (count_at t r.rows One) r.before (sought_in c.loop-cursor.cursor) c.seek_row-found.result) part.ensures c.seek_row-found.ensures in
     let past : end t c.args.slot c.loop-cursor.cursor.segment ≤ c.seek_row-found.result.row = omega (arith, c.if-found-end.false, ap (λ r. r.before) part.ensures) in

@@ -8,7 +8,7 @@ use Rattle.entries.proofs.seek_entry.Given as goal
 
 abbrev pub invariant-loop-cursor : goal.invariant-loop-cursor
 invariant-loop-cursor l =
-    Stands (rows_of l.words) l.slot l.cursor × (hypotheses_before (rows_of l.words) l.slot l.cursor + l.cursor.left ≡ hypotheses_before (rows_of l.words) l.slot l.initial.cursor + l.initial.cursor.left)
+    Stands (rows_of l.index.table.words.now) l.slot l.cursor × (hypotheses_before (rows_of l.index.table.words.now) l.slot l.cursor + l.cursor.left ≡ hypotheses_before (rows_of l.index.table.words.now) l.slot l.initial.cursor + l.initial.cursor.left)
 
 abbrev pub decreases-loop-cursor : goal.decreases-loop-cursor
 decreases-loop-cursor l = segments - l.cursor.segment

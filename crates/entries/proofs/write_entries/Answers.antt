@@ -11,5 +11,5 @@ returns c =
     let done = c.write_hypotheses-at.ensures in
     record {
       value = omega (arith, done.value);
-      out_after = goal_written (rows_of c.args.words.now) c.args.slot c.args.out.now done.out_after done.value c.requires.slot_in_bounds (c.entry_row.ensures ∙ ap (numbers_row 82) c.goal_at-goal.ensures) c.write.ensures;
+      out_after = goal_written (rows_of c.args.index.now.table.words.now) c.args.slot c.args.out.now done.out_after done.value c.requires.slot_in_bounds (c.entry_row.ensures ∙ ap (numbers_row 82) c.goal_at-goal.ensures) c.write.ensures;
     }

@@ -9,20 +9,15 @@ use Rattle.entries.proofs.Written.{progress_start, progress_end, progress_length
 use Rattle.entries.proofs.write_hypotheses.Goals as goal
 
 pub seek_entry-cursor-requires : goal.seek_entry-cursor-requires
-seek_entry-cursor-requires c =
-    record {
-      table_value = c.requires.table_value;
-      stands = start_stands (rows_of c.args.words.now) c.args.slot c.start.ensures;
-    }
+seek_entry-cursor-requires c = record { table_value = c.requires.table_value; stands = start_stands (rows_of c.args.index.now.table.words.now) c.args.slot c.start.ensures }
 
 pub loop-cursor-init : goal.loop-cursor-init
 loop-cursor-init c =
-    progress_start (rows_of c.args.words.now) c.args.slot c.args.out.now c.start.ensures c.seek_entry-cursor.ensures
+    progress_start (rows_of c.args.index.now.table.words.now) c.args.slot c.args.out.now c.start.ensures c.seek_entry-cursor.ensures
 
 pub segment_entry-entry-requires : goal.segment_entry-entry-requires
-segment_entry-entry-requires c =
-    let at = c.loop-cursor.invariant.found c.loop-cursor-test.true in
-    (c.requires.table_value.0, c.requires.table_value.1, omega (arith, at.row, end_within (rows_of c.args.words.now) c.args.slot c.requires.table_value.2 c.loop-cursor.cursor.segment))
+segment_entry-entry-requires c = let at = c.loop-cursor.invariant.found c.loop-cursor-test.true in
+    omega (arith, at.row, end_within (rows_of c.args.index.now.table.words.now) c.args.slot c.requires.table_value c.loop-cursor.cursor.segment)
 
 pub slice_bounds-write-count : goal.slice_bounds-write-count
 slice_bounds-write-count c =
@@ -41,11 +36,7 @@ write-requires c =
     simp (length-take, length-drop) (omega (arith, room c.loop-cursor.invariant c.loop-cursor-test.true c.requires.slot_in_bounds))
 
 pub seek_entry-cursor-requires-in-loop-cursor : goal.seek_entry-cursor-requires-in-loop-cursor
-seek_entry-cursor-requires-in-loop-cursor c =
-    record {
-      table_value = c.requires.table_value;
-      stands = passing_stands (rows_of c.args.words.now) c.args.slot c.passing.ensures c.loop-cursor.invariant.stands;
-    }
+seek_entry-cursor-requires-in-loop-cursor c = record { table_value = c.requires.table_value; stands = passing_stands (rows_of c.args.index.now.table.words.now) c.args.slot c.passing.ensures c.loop-cursor.invariant.stands }
 
 pub overflow_add-at : goal.overflow_add-at
 overflow_add-at c =

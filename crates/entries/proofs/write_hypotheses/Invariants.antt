@@ -7,8 +7,8 @@ use Rattle.entries.proofs.Written.{Progress}
 use Rattle.entries.proofs.write_hypotheses.Given as goal
 
 abbrev pub invariant-loop-cursor : goal.invariant-loop-cursor
-invariant-loop-cursor l = Progress (rows_of l.words) l.slot l.initial.out l.out l.cursor l.at
+invariant-loop-cursor l = Progress (rows_of l.index.table.words.now) l.slot l.initial.out l.out l.cursor l.at
 
 abbrev pub decreases-loop-cursor : goal.decreases-loop-cursor
 decreases-loop-cursor l =
-    hypothesis_count (rows_of l.words) l.slot - hypotheses_before (rows_of l.words) l.slot l.cursor
+    hypothesis_count (rows_of l.index.table.words.now) l.slot - hypotheses_before (rows_of l.index.table.words.now) l.slot l.cursor

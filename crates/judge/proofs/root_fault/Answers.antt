@@ -6,7 +6,6 @@ use Rattle.formula.specs.Values.{truth}
 use Rattle.answer.specs.Answer.{answer}
 use Rattle.answer.specs.Stored.{stored_env}
 use Rattle.table.specs.Rows.{rows_of}
-use Rattle.table.proofs.Counts.{starts_nodes, starts_identifiers}
 use Rattle.machine.specs.Described.{tree_of, machine_of}
 use Rattle.signed.specs.Found.{answer_of}
 use Rattle.signed.proofs.Answers.{answer_found}
@@ -14,12 +13,7 @@ use Rattle.recording.specs.Faults.{fault_of}
 use Rattle.judge.proofs.Steps.{root_fault_is}
 use Rattle.judge.proofs.root_fault.Goals as goal
 
-pub evaluate_predicate-found-requires : goal.evaluate_predicate-found-requires
-evaluate_predicate-found-requires c =
-    let t = rows_of c.args.words.now in
-    (starts_nodes t c.args.table c.requires, starts_identifiers t c.args.table c.requires)
-
 pub returns : goal.returns
 returns c =
-    let t = rows_of c.args.words.now in
+    let t = rows_of c.args.table.now.words.now in
     c.fault_of.ensures ∙ ap (fault_of (truth true)) (ap answer_of c.evaluate_predicate-found.ensures ∙ answer_found (answer (stored_env (machine_of t).type c.args.present.now []) (tree_of t c.args.root))) ∙ root_fault_is t c.args.present.now c.args.root

@@ -5,5 +5,5 @@ use Rattle.nodes.proofs.fill_notes.Goals as goal
 
 pub note_actions-requires : goal.note_actions-requires
 note_actions-requires c =
-    noted_none (rows_of c.args.words.now) c.fill_spans.new.spans c.clear_notes.new.spans
+    noted_none (rows_of c.args.table.now.words.now) c.fill_spans.new.spans c.clear_notes.new.spans
     c.fill_spans.ensures c.clear_notes.ensures

@@ -13,22 +13,22 @@ use Rattle.nodes.proofs.make_note.Goals as goal
 
 pub load-left-requires : goal.load-left-requires
 load-left-requires c = (
-  c.requires.3.spanned.tags.size,
-  omega (arith, c.operand.ensures, operand_falls c.args.n c.node_field-b.result c.requires.1),
+  c.requires.2.spanned.tags.size,
+  omega (arith, c.operand.ensures, operand_falls c.args.n c.node_field-b.result c.requires.0),
 )
 
 pub load-right-requires : goal.load-right-requires
 load-right-requires c = (
-  c.requires.3.spanned.tags.size,
-  omega (arith, c.operand-2.ensures, operand_falls c.args.n c.node_field-c.result c.requires.1),
+  c.requires.2.spanned.tags.size,
+  omega (arith, c.operand-2.ensures, operand_falls c.args.n c.node_field-c.result c.requires.0),
 )
 
 pub returns : goal.returns
 returns c =
-    let t = rows_of c.args.words.now in
+    let t = rows_of c.args.table.now.words.now in
     let n = c.args.n in
     c.shaped_note.ensures
-    ∙ note_made t c.args.spans.now n t.size c.requires.1 c.requires.2 c.requires.3
+    ∙ note_made t c.args.spans.now n t.size c.requires.0 c.requires.1 c.requires.2
     (shape_found c.find_operator-found.result c.node_field-operator.result c.find_operator-found.ensures ∙ ap shape_of c.node_field-operator.ensures)
     (c.find_condition-condition.ensures ∙ ap (λ o. condition_of (operator_numbered o)) c.node_field-operator.ensures)
     c.node_field-b.ensures

@@ -8,6 +8,6 @@ use Rattle.nodes.proofs.note_node.Goals as goal
 
 pub returns : goal.returns
 returns c =
-    let t = rows_of c.args.words.now in
+    let t = rows_of c.args.table.now.words.now in
     subst (NotedTo t (c.args.n + 1) t.size) (sym c.store.ensures)
-    (node_noted t c.args.spans.now c.args.n t.size c.make_note-made.result c.requires.2 c.make_note-made.ensures c.requires.3)
+    (node_noted t c.args.spans.now c.args.n t.size c.make_note-made.result c.requires.1 c.make_note-made.ensures c.requires.2)

@@ -6,4 +6,4 @@ use Rattle.nodes.proofs.note_nodes.Given as goal
 
 abbrev pub invariant-loop-n : goal.invariant-loop-n
 invariant-loop-n l =
-    (l.n ≤ l.last + 1) × NotedTo (rows_of l.words) l.n (rows_of l.words).size l.spans
+    (l.n ≤ l.last + 1) × NotedTo (rows_of l.table.words.now) l.n (rows_of l.table.words.now).size l.spans

@@ -9,7 +9,7 @@ invariant-loop-done l = record {
   room : length l.out ≡ length l.initial.out;
   waits : Waits l.bytes l.batch l.out;
   few : l.batch.held < enough;
-  walked : Walked l.bytes l.words l.count l.slot (written_to l.batch) l.done;
+  walked : Walked l.bytes l.index.table.words.now l.count l.slot (written_to l.batch) l.done;
 }
 
 abbrev pub decreases-loop-done : goal.decreases-loop-done

@@ -14,7 +14,7 @@ pub returns-then-tag_at-ne-EVENT : goal.returns-then-tag_at-ne-EVENT
 unfolding event_offends
 returns-then-tag_at-ne-EVENT c =
     let a = c.args in
-    rw (ne_eqb ((rows_of a.words.now).tag a.i) 40 (λ e. c.if-tag_at-ne-EVENT.true (c.tag_at.ensures ∙ e)))
+    rw (ne_eqb ((rows_of a.index.now.table.words.now).tag a.i) 40 (λ e. c.if-tag_at-ne-EVENT.true (c.tag_at.ensures ∙ e)))
 
 pub a_at-machine-requires : goal.a_at-machine-requires
 unfolding event_offends
@@ -24,10 +24,6 @@ pub b_at-class-requires : goal.b_at-class-requires
 unfolding event_offends
 b_at-class-requires c = search rules
 
-pub good_refined-requires : goal.good_refined-requires
-unfolding event_offends
-good_refined-requires c = search rules
-
 pub out_of_order-requires : goal.out_of_order-requires
 unfolding event_offends
 out_of_order-requires c = search rules
@@ -36,5 +32,5 @@ pub returns : goal.returns
 unfolding event_offends
 returns c =
     let a = c.args in
-    rw (eq-eqb ((rows_of a.words.now).tag a.i) 40 (sym c.tag_at.ensures ∙ c.if-tag_at-ne-EVENT.false))
+    rw (eq-eqb ((rows_of a.index.now.table.words.now).tag a.i) 40 (sym c.tag_at.ensures ∙ c.if-tag_at-ne-EVENT.false))
     (simp (c.out_of_order.ensures, c.good_refined.ensures, c.b_at-class.ensures, c.a_at-machine.ensures))

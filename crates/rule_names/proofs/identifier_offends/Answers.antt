@@ -14,7 +14,7 @@ pub returns-then-tag_at-ne-IDENTIFIER : goal.returns-then-tag_at-ne-IDENTIFIER
 unfolding identifier_offends
 returns-then-tag_at-ne-IDENTIFIER c =
     let a = c.args in
-    rw (ne_eqb ((rows_of a.words.now).tag a.i) 10 (λ e. c.if-tag_at-ne-IDENTIFIER.true (c.tag_at.ensures ∙ e)))
+    rw (ne_eqb ((rows_of a.table.now.words.now).tag a.i) 10 (λ e. c.if-tag_at-ne-IDENTIFIER.true (c.tag_at.ensures ∙ e)))
 
 pub a_at-kind-requires : goal.a_at-kind-requires
 unfolding identifier_offends
@@ -24,13 +24,9 @@ pub b_at-sort-requires : goal.b_at-sort-requires
 unfolding identifier_offends
 b_at-sort-requires c = search rules
 
-pub good_owner-requires : goal.good_owner-requires
-unfolding identifier_offends
-good_owner-requires c = search rules
-
 pub returns : goal.returns
 unfolding identifier_offends
 returns c =
     let a = c.args in
-    rw (eq-eqb ((rows_of a.words.now).tag a.i) 10 (sym c.tag_at.ensures ∙ c.if-tag_at-ne-IDENTIFIER.false))
+    rw (eq-eqb ((rows_of a.table.now.words.now).tag a.i) 10 (sym c.tag_at.ensures ∙ c.if-tag_at-ne-IDENTIFIER.false))
     (simp (c.good_owner.ensures, c.b_at-sort.ensures, c.a_at-kind.ensures))

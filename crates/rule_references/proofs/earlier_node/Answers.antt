@@ -27,9 +27,9 @@ up_to i s k n e h = ap (λ b. leb 1 n && b) (go (dec_le n (i - k)))
 pub returns-then-row-start : goal.returns-then-row-start
 returns-then-row-start c =
     let a = c.args in
-    not_yet a.i _ a.table.nodes_start a.n (starts_nodes (rows_of a.words.now) a.table c.requires) c.if-row-start.true
+    not_yet a.i _ a.table.now.counts.nodes_start a.n (starts_nodes (rows_of a.table.now.words.now) a.table.now.counts c.args.table.now.counted) c.if-row-start.true
 
 pub returns : goal.returns
 returns c =
     let a = c.args in
-    c.among.ensures ∙ up_to a.i _ a.table.nodes_start a.n (starts_nodes (rows_of a.words.now) a.table c.requires) c.if-row-start.false
+    c.among.ensures ∙ up_to a.i _ a.table.now.counts.nodes_start a.n (starts_nodes (rows_of a.table.now.words.now) a.table.now.counts c.args.table.now.counted) c.if-row-start.false

@@ -14,13 +14,13 @@ by_tag t i tag r e h = subst (λ k. r ≡ target_test t k i) e h
 pub returns-then-tag-eq-GUARD : goal.returns-then-tag-eq-GUARD
 returns-then-tag-eq-GUARD c =
     let a = c.args in
-    by_tag (rows_of a.words.now) a.i c.tag_at-tag.result c.guard_event.result c.tag_at-tag.ensures
+    by_tag (rows_of a.table.now.words.now) a.i c.tag_at-tag.result c.guard_event.result c.tag_at-tag.ensures
     (rw (eq-eqb _ _ c.if-tag-eq-GUARD.true, target_test) (simp c.a_at-a.ensures at c.guard_event.ensures))
 
 pub returns-then-tag : goal.returns-then-tag
 returns-then-tag c =
     let a = c.args in
-    by_tag (rows_of a.words.now) a.i c.tag_at-tag.result c.action_target.result c.tag_at-tag.ensures
+    by_tag (rows_of a.table.now.words.now) a.i c.tag_at-tag.result c.action_target.result c.tag_at-tag.ensures
     (rw (ne_eqb _ _ c.if-tag-eq-GUARD.false, c.if-tag.true, target_test) (simp (
       c.a_at-a.ensures,
       c.b_at-b.ensures,
@@ -29,7 +29,7 @@ returns-then-tag c =
 pub returns-then-tag-eq-WITNESS : goal.returns-then-tag-eq-WITNESS
 returns-then-tag-eq-WITNESS c =
     let a = c.args in
-    by_tag (rows_of a.words.now) a.i c.tag_at-tag.result c.witness_target.result c.tag_at-tag.ensures
+    by_tag (rows_of a.table.now.words.now) a.i c.tag_at-tag.result c.witness_target.result c.tag_at-tag.ensures
     (rw (
       ne_eqb _ _ c.if-tag-eq-GUARD.false,
       c.if-tag.false,
@@ -40,5 +40,5 @@ returns-then-tag-eq-WITNESS c =
 pub returns : goal.returns
 returns c =
     let a = c.args in
-    by_tag (rows_of a.words.now) a.i c.tag_at-tag.result true c.tag_at-tag.ensures
+    by_tag (rows_of a.table.now.words.now) a.i c.tag_at-tag.result true c.tag_at-tag.ensures
     (rw (ne_eqb _ _ c.if-tag-eq-GUARD.false, c.if-tag.false, ne_eqb _ _ c.if-tag-eq-WITNESS.false, target_test))

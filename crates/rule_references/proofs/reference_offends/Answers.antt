@@ -20,7 +20,7 @@ pub returns-then-tag_at-eq-NODE : goal.returns-then-tag_at-eq-NODE
 unfolding reference_offends
 returns-then-tag_at-eq-NODE c =
     let a = c.args in
-    let t = rows_of a.words.now in
+    let t = rows_of a.table.now.words.now in
     let shape = shape_found c.find_operator-found.result c.a_at.result c.find_operator-found.ensures ∙ ap shape_of c.a_at.ensures in
     ap not (c.good_columns.ensures ∙ ap (λ s. good_columns t s a.i) shape)
     ∙ sym (node_part t a.i (columns t a.i) (fitting t a.i) (sym c.tag_at.ensures ∙ c.if-tag_at-eq-NODE.true))
@@ -29,13 +29,13 @@ pub returns-then-not-names_root : goal.returns-then-not-names_root
 unfolding reference_offends
 returns-then-not-names_root c =
     let a = c.args in
-    let t = rows_of a.words.now in
+    let t = rows_of a.table.now.words.now in
     sym (no_part t a.i (columns t a.i) (fitting t a.i) (λ e. c.if-tag_at-eq-NODE.false (c.tag_at.ensures ∙ e)) (sym c.names_root.ensures ∙ c.if-not-names_root.true))
 
 pub returns : goal.returns
 unfolding reference_offends
 returns c =
     let a = c.args in
-    let t = rows_of a.words.now in
+    let t = rows_of a.table.now.words.now in
     ap₂ (λ x y. not (x && y)) c.good_target.ensures (c.named_node.ensures ∙ ap (named t 20) c.root_at.ensures)
     ∙ sym (root_part t a.i (columns t a.i) (fitting t a.i) (λ e. c.if-tag_at-eq-NODE.false (c.tag_at.ensures ∙ e)) (sym c.names_root.ensures ∙ c.if-not-names_root.false))

@@ -10,7 +10,7 @@ use Rattle.rule_sight.proofs.may_mention_after.Goals as goal
 pub returns-then-tag-eq-BECOMES_SUCH : goal.returns-then-tag-eq-BECOMES_SUCH
 returns-then-tag-eq-BECOMES_SUCH c =
     let b = c.b_at-b in
-    after_when (rows_of c.args.words.now) c.args.i c.args.x c.tag_at-tag.result (eqb c.args.x b.result) c.tag_at-tag.ensures
+    after_when (rows_of c.args.table.now.words.now) c.args.i c.args.x c.tag_at-tag.result (eqb c.args.x b.result) c.tag_at-tag.ensures
     (rw (eq-eqb _ _ c.if-tag-eq-BECOMES_SUCH.true, seen_after) (simp b.ensures))
 
 pub returns-then-tag-eq-WITNESS : goal.returns-then-tag-eq-WITNESS
@@ -19,11 +19,11 @@ returns-then-tag-eq-WITNESS c =
     let target = c.identifier_field-target in
     let kind = c.identifier_field-kind in
     let b = c.b_at-b in
-    after_when (rows_of c.args.words.now) c.args.i c.args.x c.tag_at-tag.result
+    after_when (rows_of c.args.table.now.words.now) c.args.i c.args.x c.tag_at-tag.result
     (eqb target.result 2 && (concrete.result || eqb c.args.x b.result)) c.tag_at-tag.ensures
     (rw (ne_eqb _ _ c.if-tag-eq-BECOMES_SUCH.false, eq-eqb _ _ c.if-tag-eq-WITNESS.true, seen_after) (simp (concrete.ensures, target.ensures, kind.ensures, b.ensures)))
 
 pub returns : goal.returns
 returns c =
-    after_when (rows_of c.args.words.now) c.args.i c.args.x c.tag_at-tag.result false c.tag_at-tag.ensures
+    after_when (rows_of c.args.table.now.words.now) c.args.i c.args.x c.tag_at-tag.result false c.tag_at-tag.ensures
     (rw (ne_eqb _ _ c.if-tag-eq-BECOMES_SUCH.false, ne_eqb _ _ c.if-tag-eq-WITNESS.false, seen_after))

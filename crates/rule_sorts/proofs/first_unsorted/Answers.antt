@@ -11,12 +11,8 @@ pub size-rows-requires : goal.size-rows-requires
 unfolding offends
 size-rows-requires c = search rules
 
-pub first_expression-requires : goal.first_expression-requires
-unfolding offends
-first_expression-requires c = search rules
-
 pub returns : goal.returns
 unfolding offends
 returns c =
-    let P = sort_offends (rows_of c.args.words.now) in
-    c.first_expression.ensures ∙ ap (λ n. first_before P n n) c.size-rows.ensures ∙ first_found P (rows_of c.args.words.now).size
+    let P = sort_offends (rows_of c.args.table.now.words.now) in
+    c.first_expression.ensures ∙ ap (λ n. first_before P n n) c.size-rows.ensures ∙ first_found P (rows_of c.args.table.now.words.now).size

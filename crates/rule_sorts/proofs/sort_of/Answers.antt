@@ -11,7 +11,7 @@ pub returns-then-names_identifier : goal.returns-then-names_identifier
 returns-then-names_identifier c =
     let o = c.find_operator-found in
     let a = c.args in
-    sort_when (rows_of a.words.now) a.n c.identifier_field.result c.names_identifier.result
+    sort_when (rows_of a.table.now.words.now) a.n c.identifier_field.result c.names_identifier.result
     (c.names_identifier.ensures ∙ ap names_identifier (shape_found o.result c.node_field.result o.ensures ∙ ap shape_of c.node_field.ensures))
     (rw c.if-names_identifier.true (simp c.node_field-identifier.ensures at c.identifier_field.ensures))
 
@@ -19,6 +19,6 @@ pub returns : goal.returns
 returns c =
     let o = c.find_operator-found in
     let a = c.args in
-    sort_when (rows_of a.words.now) a.n o.result.sort c.names_identifier.result
+    sort_when (rows_of a.table.now.words.now) a.n o.result.sort c.names_identifier.result
     (c.names_identifier.ensures ∙ ap names_identifier (shape_found o.result c.node_field.result o.ensures ∙ ap shape_of c.node_field.ensures))
     (rw c.if-names_identifier.false (sort_found o.result c.node_field.result o.ensures ∙ ap result_sort c.node_field.ensures))

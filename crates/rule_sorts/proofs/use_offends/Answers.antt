@@ -19,7 +19,7 @@ pub returns-then-tag_at-ne-NODE : goal.returns-then-tag_at-ne-NODE
 unfolding use_offends
 returns-then-tag_at-ne-NODE c =
     let a = c.args in
-    rw (ne_eqb ((rows_of a.words.now).tag a.i) 20 (λ e. c.if-tag_at-ne-NODE.true (c.tag_at.ensures ∙ e)))
+    rw (ne_eqb ((rows_of a.table.now.words.now).tag a.i) 20 (λ e. c.if-tag_at-ne-NODE.true (c.tag_at.ensures ∙ e)))
 
 pub number_in-n-requires : goal.number_in-n-requires
 unfolding use_offends
@@ -32,12 +32,12 @@ offset_bounds-uses-n c = search rules
 pub bounds-uses-n : goal.bounds-uses-n
 unfolding use_offends
 bounds-uses-n c =
-    omega (arith, c.requires.1.size, c.number_in-n.ensures, c.requires.2)
+    omega (arith, c.requires.0.size, c.number_in-n.ensures, c.requires.1)
 
 pub returns : goal.returns
 unfolding use_offends
 returns c =
-    let t = rows_of c.args.words.now in
-    let number : c.number_in-n.result ≡ number_in t 20 c.args.i = c.number_in-n.ensures ∙ ap (λ x. c.args.i + 1 - x) (starts_nodes t c.args.table c.requires.0) in
-    let uses = c.requires.1.counts c.number_in-n.result (omega (arith, c.number_in-n.ensures, c.requires.2)) ∙ ap (λ n. uses_to t n t.size) number in
+    let t = rows_of c.args.table.now.words.now in
+    let number : c.number_in-n.result ≡ number_in t 20 c.args.i = c.number_in-n.ensures ∙ ap (λ x. c.args.i + 1 - x) (starts_nodes t c.args.table.now.counts c.args.table.now.counted) in
+    let uses = c.requires.0.counts c.number_in-n.result (omega (arith, c.number_in-n.ensures, c.requires.1)) ∙ ap (λ n. uses_to t n t.size) number in
     rw (eq-eqb (t.tag c.args.i) 20 (sym c.tag_at.ensures ∙ c.if-tag_at-ne-NODE.false)) (ap (λ n. not (eqb n 1)) uses)

@@ -22,15 +22,15 @@ span_tag-requires c = search rules
 pub span_at-requires : goal.span_at-requires
 unfolding full_offends
 span_at-requires c =
-    (subst (λ k. k ≤ variant_tag) (sym (c.span_tag.ensures ∙ ap span_tag c.tag_at-tag.ensures)) (span_tag_known _ c.requires.3), c.requires.0)
+    (subst (λ k. k ≤ variant_tag) (sym (c.span_tag.ensures ∙ ap span_tag c.tag_at-tag.ensures)) (span_tag_known _ c.requires.2), c.args.index.now.noted.spanned)
 
 pub overflow_sub-before : goal.overflow_sub-before
 unfolding full_offends
 overflow_sub-before c =
-    let t = rows_of c.args.words.now in
+    let t = rows_of c.args.index.now.table.words.now in
     let from : c.span_at.result.from ≡ (tag_span t (span_tag (t.tag c.args.i))).from =
     ap (λ r. r.from) c.span_at.ensures ∙ ap (λ k. (tag_span t k).from) (c.span_tag.ensures ∙ ap span_tag c.tag_at-tag.ensures) in
-    omega (arith, from, from_before t c.requires.1 c.args.i c.requires.2)
+    omega (arith, from, from_before t c.requires.0 c.args.i c.requires.1)
 
 pub tag_limits-requires : goal.tag_limits-requires
 unfolding full_offends
@@ -39,7 +39,7 @@ tag_limits-requires c = search rules
 pub returns : goal.returns
 unfolding full_offends
 returns c =
-    let t = rows_of c.args.words.now in
+    let t = rows_of c.args.index.now.table.words.now in
     let from : c.span_at.result.from ≡ (tag_span t (span_tag (t.tag c.args.i))).from =
     ap (λ r. r.from) c.span_at.ensures ∙ ap (λ k. (tag_span t k).from) (c.span_tag.ensures ∙ ap span_tag c.tag_at-tag.ensures) in
-    simp (c.tag_limits.ensures.1, c.tag_at-tag.ensures, from, rows_counted t c.requires.1 c.args.i c.requires.2)
+    simp (c.tag_limits.ensures.1, c.tag_at-tag.ensures, from, rows_counted t c.requires.0 c.args.i c.requires.1)

@@ -17,7 +17,7 @@ pub returns-then-not-tag : goal.returns-then-not-tag
 unfolding twice_offends
 returns-then-not-tag c =
     let a = c.args in
-    sym (twice_none (rows_of a.words.now) a.i (ap (λ k. not ((eqb k 51 || eqb k 52) || eqb k 60)) (sym c.tag_at-tag.ensures) ∙ ap not c.if-not-tag.true))
+    sym (twice_none (rows_of a.index.now.table.words.now) a.i (ap (λ k. not ((eqb k 51 || eqb k 52) || eqb k 60)) (sym c.tag_at-tag.ensures) ∙ ap not c.if-not-tag.true))
 
 pub a_at-event-requires : goal.a_at-event-requires
 unfolding twice_offends
@@ -30,7 +30,7 @@ b_at-target-requires c = search rules
 pub some_row-requires : goal.some_row-requires
 unfolding twice_offends
 some_row-requires c =
-    (c.requires.0, omega (arith, c.requires.1), target_known c.tag_at-tag.result c.if-not-tag.false)
+    (c.args.index.now.noted.spanned, omega (arith, c.requires), target_known c.tag_at-tag.result c.if-not-tag.false)
 
 pub returns : goal.returns
 unfolding twice_offends

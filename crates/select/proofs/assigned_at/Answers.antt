@@ -8,7 +8,7 @@ use Rattle.select.proofs.assigned_at.Goals as goal
 pub overflow_add-j : goal.overflow_add-j
 overflow_add-j c =
     let a = c.args in
-    omega (arith, identifier_within (rows_of a.words.now) a.j _ (sym c.variable_at.ensures ∙ c.if-variable_at.true))
+    omega (arith, identifier_within (rows_of a.index.now.table.words.now) a.j _ (sym c.variable_at.ensures ∙ c.if-variable_at.true))
 
 pub returns-then-variable_at : goal.returns-then-variable_at
 returns-then-variable_at c =

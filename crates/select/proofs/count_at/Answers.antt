@@ -4,10 +4,6 @@ use Rattle.select.specs.Each.{count_at}
 use borrow.Author.Rules.{rules}
 use Rattle.select.proofs.count_at.Goals as goal
 
-pub selects-requires : goal.selects-requires
-unfolding count_at
-selects-requires c = search rules
-
 pub weight-requires : goal.weight-requires
 unfolding count_at
 weight-requires c = search rules

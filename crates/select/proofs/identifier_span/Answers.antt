@@ -7,4 +7,4 @@ use Rattle.select.proofs.identifier_span.Goals as goal
 
 pub returns : goal.returns
 returns c =
-    ap (between 0) (counts_identifiers (rows_of c.args.words.now) c.args.table c.requires)
+    ap (between 0) (counts_identifiers (rows_of c.args.table.now.words.now) c.args.table.now.counts c.args.table.now.counted)

@@ -3,10 +3,10 @@ use native.Mathlib.Omega.{arith}
 use Rattle.select.proofs.item_at.Goals as goal
 
 pub overflow_add-i : goal.overflow_add-i
-overflow_add-i c = omega (arith, c.requires.1)
+overflow_add-i c = omega (arith, c.requires)
 
 pub overflow_add-result : goal.overflow_add-result
-overflow_add-result c = omega (arith, c.requires.1)
+overflow_add-result c = omega (arith, c.requires)
 
 pub returns-in-A : goal.returns-in-A
 returns-in-A c = simp (c.a_at.ensures, c.in-A.is)

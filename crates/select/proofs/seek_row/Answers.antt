@@ -11,46 +11,45 @@ use Rattle.select.proofs.seek_row.Goals as goal
 
 pub loop-row-init : goal.loop-row-init
 loop-row-init c =
-    let t = rows_of c.args.words.now in
+    let t = rows_of c.args.index.now.table.words.now in
     let span = c.selected_span-span in
     let spans = subst (Spans (selects t c.args.rows) t.size) (sym span.ensures) (selected_spans t c.args.rows) in
     let start = c.min-start.ensures ∙ ap (λ n. min n c.args.end) c.max.ensures in
-    ((place_start (count_at t c.args.rows c.args.each) (count_none t c.args.rows c.args.each) spans c.requires.row_le_end.1 c.args.from.row c.args.from.left c.min-start.result c.requires.row_le_end.0 start).0, refl)
+    ((place_start (count_at t c.args.rows c.args.each) (count_none t c.args.rows c.args.each) spans c.requires.1 c.args.from.row c.args.from.left c.min-start.result c.requires.0 start).0, refl)
 
 pub count_at-count-requires : goal.count_at-count-requires
-count_at-count-requires c =
-    (c.requires.table_value.0, c.requires.table_value.1, omega (arith, c.min-last.ensures))
+count_at-count-requires c = omega (arith, c.min-last.ensures)
 
 pub returns-then-left-count : goal.returns-then-left-count
 returns-then-left-count c =
-    let t = rows_of c.args.words.now in
+    let t = rows_of c.args.index.now.table.words.now in
     let span = c.selected_span-span in
     let spans = subst (Spans (selects t c.args.rows) t.size) (sym span.ensures) (selected_spans t c.args.rows) in
     let start = c.min-start.ensures ∙ ap (λ n. min n c.args.end) c.max.ensures in
     record {
-      place = c.loop-row.invariant.1 ∙ (place_start (count_at t c.args.rows c.args.each) (count_none t c.args.rows c.args.each) spans c.requires.row_le_end.1 c.args.from.row c.args.from.left c.min-start.result c.requires.row_le_end.0 start).1;
+      place = c.loop-row.invariant.1 ∙ (place_start (count_at t c.args.rows c.args.each) (count_none t c.args.rows c.args.each) spans c.requires.1 c.args.from.row c.args.from.left c.min-start.result c.requires.0 start).1;
       within = c.loop-row.invariant.0;
       found = λ h. place_held (count_at t c.args.rows c.args.each) c.loop-row.row c.loop-row.left c.count_at-count.result c.count_at-count.ensures c.if-left-count.true;
     }
 
 pub loop-row-preserved : goal.loop-row-preserved
 loop-row-preserved c =
-    let t = rows_of c.args.words.now in (
+    let t = rows_of c.args.index.now.table.words.now in (
       omega (arith, c.min-last.ensures),
       place_next (count_at t c.args.rows c.args.each) c.loop-row.row c.loop-row.left c.count_at-count.result c.count_at-count.ensures c.if-left-count.false ∙ c.loop-row.invariant.1,
     )
 
 pub returns : goal.returns
 returns c =
-    let t = rows_of c.args.words.now in
+    let t = rows_of c.args.index.now.table.words.now in
     let span = c.selected_span-span in
     let spans = subst (Spans (selects t c.args.rows) t.size) (sym span.ensures) (selected_spans t c.args.rows) in
     let start = c.min-start.ensures ∙ ap (λ n. min n c.args.end) c.max.ensures in
     record {
       place =
-          place_end (count_at t c.args.rows c.args.each) (count_none t c.args.rows c.args.each) spans c.requires.row_le_end.1 c.loop-row.row c.loop-row.left c.min-last.result c.loop-row.invariant.0 c.min-last.ensures c.loop-row-test.false
+          place_end (count_at t c.args.rows c.args.each) (count_none t c.args.rows c.args.each) spans c.requires.1 c.loop-row.row c.loop-row.left c.min-last.result c.loop-row.invariant.0 c.min-last.ensures c.loop-row-test.false
           ∙ c.loop-row.invariant.1
-          ∙ (place_start (count_at t c.args.rows c.args.each) (count_none t c.args.rows c.args.each) spans c.requires.row_le_end.1 c.args.from.row c.args.from.left c.min-start.result c.requires.row_le_end.0 start).1;
+          ∙ (place_start (count_at t c.args.rows c.args.each) (count_none t c.args.rows c.args.each) spans c.requires.1 c.args.from.row c.args.from.left c.min-start.result c.requires.0 start).1;
       within = omega arith;
       found = λ h. absurd (omega arith);
     }

@@ -9,4 +9,4 @@ use Rattle.select.proofs.seek_row.Given as goal
 
 abbrev pub invariant-loop-row : goal.invariant-loop-row
 invariant-loop-row l =
-    (l.row ≤ l.end) × (place_of (count_at (rows_of l.words) l.rows l.each) (sought l.row l.left) ≡ place_of (count_at (rows_of l.words) l.rows l.each) (sought l.start l.initial.left))
+    (l.row ≤ l.end) × (place_of (count_at (rows_of l.index.table.words.now) l.rows l.each) (sought l.row l.left) ≡ place_of (count_at (rows_of l.index.table.words.now) l.rows l.each) (sought l.start l.initial.left))

@@ -7,9 +7,9 @@ use Rattle.select.proofs.variable_at.Goals as goal
 
 pub returns-then-x-table : goal.returns-then-x-table
 returns-then-x-table c =
-    identifier_there (rows_of c.args.words.now) c.requires c.args.j _ _ c.if-x-table.true
+    identifier_there (rows_of c.args.table.now.words.now) c.args.table.now.counted c.args.j _ _ c.if-x-table.true
     (c.is_variable_of.ensures ∙ ap (is_variable_of c.args.own) c.identifier_field.ensures)
 
 pub returns : goal.returns
 returns c =
-    identifier_gone (rows_of c.args.words.now) c.requires c.args.j _ c.if-x-table.false
+    identifier_gone (rows_of c.args.table.now.words.now) c.args.table.now.counted c.args.j _ c.if-x-table.false

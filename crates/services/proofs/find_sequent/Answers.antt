@@ -9,11 +9,10 @@ use Rattle.services.proofs.Found.{located}
 use Rattle.services.proofs.find_sequent.Goals as goal
 
 pub seek-requires : goal.seek-requires
-seek-requires c =
-    let t = rows_of c.args.words.now in
-    (c.requires.table_value.0, c.requires.table_value.1, subst (InWalk t) (sym c.start.ensures) (inl (start_within t (c.args.k - 1))))
+seek-requires c = let t = rows_of c.args.index.now.table.words.now in
+    subst (InWalk t) (sym c.start.ensures) (inl (start_within t (c.args.k - 1)))
 
 pub returns : goal.returns
 returns c =
-    let t = rows_of c.args.words.now in
-    located t c.requires.passes.0 c.args.k c.seek.result c.requires.passes.1 c.requires.passes.2 (subst (λ from. SoughtSlot t (position t from) c.seek.result) c.start.ensures c.seek.ensures)
+    let t = rows_of c.args.index.now.table.words.now in
+    located t c.requires.0 c.args.k c.seek.result c.requires.1 c.requires.2 (subst (λ from. SoughtSlot t (position t from) c.seek.result) c.start.ensures c.seek.ensures)

@@ -16,23 +16,15 @@ returns-then-not-among c =
 
 pub find_sequent-slot-requires : goal.find_sequent-slot-requires
 find_sequent-slot-requires c =
-    let t = rows_of c.args.words.now in
-    let k = sym c.among.ensures ∙ c.if-not-among.false in
-    record {
-      table_value = c.requires.table_value;
-      passes = (judge_passes t c.args.count c.requires.words_value, among_low c.args.k c.args.count k, omega (arith, among_high c.args.k c.args.count k, judged_count t c.args.count c.requires.words_value));
-    }
+    let t = rows_of c.args.index.now.table.words.now in
+    let k = sym c.among.ensures ∙ c.if-not-among.false in (judge_passes t c.args.count c.requires, among_low c.args.k c.args.count k, omega (arith, among_high c.args.k c.args.count k, judged_count t c.args.count c.requires))
 
 pub serve_found-requires : goal.serve_found-requires
-serve_found-requires c =
-    record {
-      table_value = (c.requires.table_value.0, c.requires.table_value.1, c.find_sequent-slot.ensures.row);
-      listed_slot = c.find_sequent-slot.ensures.listed;
-    }
+serve_found-requires c = record { table_value = c.find_sequent-slot.ensures.row; listed_slot = c.find_sequent-slot.ensures.listed }
 
 pub returns : goal.returns
 returns c =
-    let t = rows_of c.args.words.now in
+    let t = rows_of c.args.index.now.table.words.now in
     c.serve_found.ensures
     ∙ ap (serve_at (machine_of t) c.args.request c.args.out.now) (sym c.find_sequent-slot.ensures.holds)
     ∙ sym (chosen (among c.args.k c.args.count) _ _ (sym c.among.ensures ∙ c.if-not-among.false))

@@ -17,7 +17,7 @@ use Rattle.services.proofs.spell_found.Goals as goal
 
 pub returns-then-not-among : goal.returns-then-not-among
 returns-then-not-among c =
-    let t = rows_of c.args.words.now in
+    let t = rows_of c.args.index.now.table.words.now in
     sym (no_entry t c.args.slot c.args.j c.count_entries.result c.args.out.now c.count_entries.ensures (sym c.among.ensures ∙ c.if-not-among.true))
 
 pub overflow_sub-j : goal.overflow_sub-j
@@ -25,15 +25,11 @@ overflow_sub-j c =
     among_low c.args.j c.count_entries.result (sym c.among.ensures ∙ c.if-not-among.false)
 
 pub entry_at-entry-requires : goal.entry_at-entry-requires
-entry_at-entry-requires c =
-    record {
-      table_value = c.requires;
-      k_bound = omega (arith, c.count_entries.ensures, among_high c.args.j c.count_entries.result (sym c.among.ensures ∙ c.if-not-among.false));
-    }
+entry_at-entry-requires c = record { table_value = c.requires; k_bound = omega (arith, c.count_entries.ensures, among_high c.args.j c.count_entries.result (sym c.among.ensures ∙ c.if-not-among.false)) }
 
 pub returns-then-out-rows : goal.returns-then-out-rows
 returns-then-out-rows c =
-    let t = rows_of c.args.words.now in
+    let t = rows_of c.args.index.now.table.words.now in
     let entry = c.entry_at-entry in
     let named = sym c.among.ensures ∙ c.if-not-among.false in
     let inside : c.args.j - 1 ≤ hypothesis_count t c.args.slot = omega (arith, c.count_entries.ensures, among_high c.args.j c.count_entries.result named) in
@@ -43,7 +39,7 @@ returns-then-out-rows c =
 
 pub returns : goal.returns
 returns c =
-    let t = rows_of c.args.words.now in
+    let t = rows_of c.args.index.now.table.words.now in
     let entry = c.entry_at-entry in
     let named = sym c.among.ensures ∙ c.if-not-among.false in
     let inside : c.args.j - 1 ≤ hypothesis_count t c.args.slot = omega (arith, c.count_entries.ensures, among_high c.args.j c.count_entries.result named) in

@@ -14,7 +14,7 @@ use Rattle.services.proofs.write_rest.Goals as goal
 
 pub returns : goal.returns
 returns c =
-    let t = rows_of c.args.words.now in
+    let t = rows_of c.args.index.now.table.words.now in
     let slot = c.args.slot in
     let entries = c.write_entries.ensures in
     record {

@@ -13,15 +13,11 @@ use borrow.Author.Rules.{rules}
 use Rattle.services.proofs.write_slot.Goals as goal
 
 pub write_rest-requires : goal.write_rest-requires
-write_rest-requires c =
-    record {
-      table_value = c.requires.table_value;
-      listed_slot = (c.requires.listed_slot.0, search rules);
-    }
+write_rest-requires c = record { table_value = c.requires.table_value; listed_slot = (c.requires.listed_slot.0, search rules) }
 
 pub returns : goal.returns
 returns c =
-    let t = rows_of c.args.words.now in
+    let t = rows_of c.args.index.now.table.words.now in
     let slot = c.args.slot in
     let rest = c.write_rest.ensures in
     record {

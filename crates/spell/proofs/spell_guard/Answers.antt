@@ -15,5 +15,5 @@ returns-then-guard-eq0 c =
 
 pub returns : goal.returns
 returns c =
-    let left = shown_rows (rows_of c.args.words.now) false c.args.left in
+    let left = shown_rows (rows_of c.args.table.now.words.now) false c.args.left in
     spelled_as (ap (λ k. spelled k 0 ∷ left) c.guard_number-guard.ensures ∙ guard_some c.args.operator left (λ z. c.if-guard-eq0.false (c.guard_number-guard.ensures ∙ z))) c.spell_under.ensures

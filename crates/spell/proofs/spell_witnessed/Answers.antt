@@ -12,4 +12,4 @@ use Rattle.spell.proofs.spell_witnessed.Goals as goal
 pub returns : goal.returns
 returns c =
     let a = c.args in
-    spelled_as (ap₂ (λ o r. spelled o a.x ∷ shown_rows (rows_of a.words.now) false r) (c.some_operator-operator.ensures ∙ ap (λ c. pick c 41 40) c.is_variable.ensures) c.witness_root-root.ensures) c.spell_under.ensures
+    spelled_as (ap₂ (λ o r. spelled o a.x ∷ shown_rows (rows_of a.table.now.words.now) false r) (c.some_operator-operator.ensures ∙ ap (λ c. pick c 41 40) c.is_variable.ensures) c.witness_root-root.ensures) c.spell_under.ensures

@@ -9,5 +9,5 @@ use Rattle.state.proofs.all_right.Given as goal
 
 abbrev pub invariant-loop-x : goal.invariant-loop-x
 invariant-loop-x l =
-    let t = rows_of l.words in
+    let t = rows_of l.table.words.now in
     some_of (is_wrong t l.values l.sorts) (numbers (count t 10 - l.x) (l.x + 1)) ≡ some_of (is_wrong t l.values l.sorts) (numbers (count t 10) 1)

@@ -6,5 +6,5 @@ use Rattle.state.proofs.is_state.Goals as goal
 
 pub returns : goal.returns
 returns c =
-    let t = rows_of c.args.words.now in
-    state_is t c.args.values.now c.args.sorts.now (counts_identifiers t c.args.table c.requires) c.all_right-right.ensures
+    let t = rows_of c.args.table.now.words.now in
+    state_is t c.args.values.now c.args.sorts.now (counts_identifiers t c.args.table.now.counts c.args.table.now.counted) c.all_right-right.ensures

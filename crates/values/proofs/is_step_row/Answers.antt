@@ -10,4 +10,4 @@ returns c =
     let r = c.args.row in
     let others = eqb r.b 0 && eqb r.c 0 in
     ap (λ x. eqb r.tag 90 && ((x && (eqb c.event_field-machine.result 2 && beq c.is_initial-initial.result c.args.first)) && others)) c.named_event-named.ensures
-    ∙ ap₂ (λ m i. eqb r.tag 90 && ((named (rows_of c.args.words.now) 40 r.a && (eqb m 2 && beq i c.args.first)) && others)) c.event_field-machine.ensures c.is_initial-initial.ensures
+    ∙ ap₂ (λ m i. eqb r.tag 90 && ((named (rows_of c.args.table.now.words.now) 40 r.a && (eqb m 2 && beq i c.args.first)) && others)) c.event_field-machine.ensures c.is_initial-initial.ensures

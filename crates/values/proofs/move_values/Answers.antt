@@ -10,14 +10,14 @@ use Rattle.values.proofs.move_values.Goals as goal
 
 pub loop-x-init : goal.loop-x-init
 loop-x-init c =
-    (refl, move_start (rows_of c.args.words.now) (values_of c.args.present.now c.args.after.now))
+    (refl, move_start (rows_of c.args.table.now.words.now) (values_of c.args.present.now c.args.after.now))
 
 pub loop-x-preserved : goal.loop-x-preserved
 loop-x-preserved c =
-    let t = rows_of c.args.words.now in
+    let t = rows_of c.args.table.now.words.now in
     let size : length c.move_value.new.present ≡ length c.loop-x.present = search rules in (
       size ∙ c.loop-x.invariant.0,
-      move_next t c.loop-x.x (omega (arith, c.loop-x-test.true, counts_identifiers t c.args.table c.requires)) c.loop-x.present c.args.after.now _ c.move_value.ensures ∙ c.loop-x.invariant.1,
+      move_next t c.loop-x.x (omega (arith, c.loop-x-test.true, counts_identifiers t c.args.table.now.counts c.args.table.now.counted)) c.loop-x.present c.args.after.now _ c.move_value.ensures ∙ c.loop-x.invariant.1,
     )
 
 pub shape_of-present : goal.shape_of-present
@@ -25,5 +25,5 @@ shape_of-present c = c.loop-x.invariant.0
 
 pub returns : goal.returns
 returns c =
-    let t = rows_of c.args.words.now in
-    move_end t c.loop-x.x (omega (arith, c.loop-x-test.false, counts_identifiers t c.args.table c.requires)) (values_of c.loop-x.present c.args.after.now) ∙ c.loop-x.invariant.1
+    let t = rows_of c.args.table.now.words.now in
+    move_end t c.loop-x.x (omega (arith, c.loop-x-test.false, counts_identifiers t c.args.table.now.counts c.args.table.now.counted)) (values_of c.loop-x.present c.args.after.now) ∙ c.loop-x.invariant.1

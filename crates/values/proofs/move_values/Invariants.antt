@@ -9,4 +9,4 @@ use Rattle.values.proofs.move_values.Given as goal
 
 abbrev pub invariant-loop-x : goal.invariant-loop-x
 invariant-loop-x l =
-    (length l.present ≡ length l.initial.present) × (move (variables_from (rows_of l.words) l.x) (values_of l.present l.after) ≡ moved (rows_of l.words) (values_of l.initial.present l.after))
+    (length l.present ≡ length l.initial.present) × (move (variables_from (rows_of l.table.words.now) l.x) (values_of l.present l.after) ≡ moved (rows_of l.table.words.now) (values_of l.initial.present l.after))

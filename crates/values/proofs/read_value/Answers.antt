@@ -6,7 +6,7 @@ use Rattle.values.proofs.read_value.Goals as goal
 
 pub returns-then-read_row : goal.returns-then-read_row
 returns-then-read_row c =
-    let t = rows_of c.args.words.now in
+    let t = rows_of c.args.table.now.words.now in
     let vs = values_of c.args.present.now c.args.after.now in
     let run = c.args.run.now in
     let at = c.args.place.at in
@@ -20,7 +20,7 @@ returns-then-read_row c =
 
 pub returns-in-End : goal.returns-in-End
 returns-in-End c =
-    let t = rows_of c.args.words.now in
+    let t = rows_of c.args.table.now.words.now in
     let run = c.args.run.now in
     let at = c.args.place.at in
     record {
@@ -30,7 +30,7 @@ returns-in-End c =
 
 pub returns-in-Malformed : goal.returns-in-Malformed
 returns-in-Malformed c =
-    let t = rows_of c.args.words.now in
+    let t = rows_of c.args.table.now.words.now in
     let run = c.args.run.now in
     let at = c.args.place.at in
     record {
@@ -40,7 +40,7 @@ returns-in-Malformed c =
 
 pub returns-else-read_row : goal.returns-else-read_row
 returns-else-read_row c =
-    let t = rows_of c.args.words.now in
+    let t = rows_of c.args.table.now.words.now in
     let vs = values_of c.args.present.now c.args.after.now in
     let run = c.args.run.now in
     let at = c.args.place.at in

@@ -6,10 +6,6 @@ use Rattle.walk.specs.Headers.{header_item}
 use borrow.Author.Rules.{rules}
 use Rattle.walk.proofs.header_item.Goals as goal
 
-pub is_wfis-requires : goal.is_wfis-requires
-unfolding header_item
-is_wfis-requires c = search rules
-
 pub b_at-requires : goal.b_at-requires
 unfolding header_item
 b_at-requires c = search rules
@@ -19,10 +15,6 @@ unfolding header_item
 returns-then-is_wfis c =
     rw (sym c.is_wfis.ensures ∙ c.if-is_wfis.true) c.b_at.ensures
 
-pub group_at-group-requires : goal.group_at-group-requires
-unfolding header_item
-group_at-group-requires c = search rules
-
 pub item_at-requires : goal.item_at-requires
 unfolding header_item
 item_at-requires c = search rules
@@ -30,6 +22,6 @@ item_at-requires c = search rules
 pub returns : goal.returns
 unfolding header_item
 returns c =
-    let t = rows_of c.args.words.now in
+    let t = rows_of c.args.index.now.table.words.now in
     rw (sym c.is_wfis.ensures ∙ c.if-is_wfis.false)
     (c.item_at.ensures ∙ ap (λ g. item_at t g.item c.args.slot.event c.args.slot.row) c.group_at-group.ensures)

@@ -4,17 +4,9 @@ use Rattle.walk.specs.Headers.{header_kind}
 use borrow.Author.Rules.{rules}
 use Rattle.walk.proofs.header_kind.Goals as goal
 
-pub is_wfis-requires : goal.is_wfis-requires
-unfolding header_kind
-is_wfis-requires c = search rules
-
 pub returns-then-is_wfis : goal.returns-then-is_wfis
 unfolding header_kind
 returns-then-is_wfis c = rw (sym c.is_wfis.ensures ∙ c.if-is_wfis.true)
-
-pub group_at-requires : goal.group_at-requires
-unfolding header_kind
-group_at-requires c = search rules
 
 pub returns : goal.returns
 unfolding header_kind

@@ -10,7 +10,7 @@ pub returns-then-slot-eq-WITNESS : goal.returns-then-slot-eq-WITNESS
 returns-then-slot-eq-WITNESS c =
     let a = c.args in
     rw (eq-eqb _ _ c.if-slot-eq-WITNESS.true)
-    (ap (eqb a.slot.left) (c.divisions.ensures.value ∙ ap (divisions (rows_of a.words.now)) c.c_at.ensures))
+    (ap (eqb a.slot.left) (c.divisions.ensures.value ∙ ap (divisions (rows_of a.index.now.table.words.now)) c.c_at.ensures))
 
 pub returns : goal.returns
 returns c = rw (ne_eqb _ _ c.if-slot-eq-WITNESS.false)

@@ -7,7 +7,7 @@ use Rattle.walk.proofs.seek.Given as goal
 
 abbrev pub invariant-loop-slot : goal.invariant-loop-slot
 invariant-loop-slot l =
-    InWalk (rows_of l.words) l.slot × (position (rows_of l.words) l.slot ≡ position (rows_of l.words) l.initial.slot)
+    InWalk (rows_of l.index.table.words.now) l.slot × (position (rows_of l.index.table.words.now) l.slot ≡ position (rows_of l.index.table.words.now) l.initial.slot)
 
 abbrev pub decreases-loop-slot : goal.decreases-loop-slot
-decreases-loop-slot l = groups_from (rows_of l.words) l.slot
+decreases-loop-slot l = groups_from (rows_of l.index.table.words.now) l.slot

@@ -8,7 +8,7 @@ use Rattle.walk.proofs.seek_in_group.Goals as goal
 
 pub returns : goal.returns
 returns c =
-    let t = rows_of c.args.words.now in
+    let t = rows_of c.args.index.now.table.words.now in
     let from = sought_at c.args.slot in
     let r = c.seek_row.result in
     subst (λ n. Passed (slot_count t c.args.slot.event c.args.slot.group) n from r) c.size.ensures

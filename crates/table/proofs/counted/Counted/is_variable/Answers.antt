@@ -1,5 +1,5 @@
 -- By the kind that is looked up.
-use Rattle.table.proofs.is_variable.Goals as goal
+use Rattle.table.proofs.counted.Counted.is_variable.Goals as goal
 
 pub returns : goal.returns
 returns c =

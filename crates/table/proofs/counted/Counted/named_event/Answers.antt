@@ -1,0 +1,9 @@
+-- The section has as many rows as the counts say.
+use Rattle.table.specs.Rows.{rows_of}
+use Rattle.table.proofs.Counts.{counts_events, section_named}
+use Rattle.table.proofs.counted.Counted.named_event.Goals as goal
+
+pub returns : goal.returns
+returns c =
+    let t = rows_of c.args.self.now.words.now in
+    section_named t 40 _ c.args.e _ (counts_events t c.args.self.now.counts c.args.self.now.counted) c.among.ensures

@@ -1,9 +1,0 @@
--- The section has as many rows as the counts say.
-use Rattle.table.specs.Rows.{rows_of}
-use Rattle.table.proofs.Counts.{counts_identifiers, section_named}
-use Rattle.table.proofs.named_identifier.Goals as goal
-
-pub returns : goal.returns
-returns c =
-    let t = rows_of c.args.words.now in
-    section_named t 10 _ c.args.x _ (counts_identifiers t c.args.table c.requires) c.among.ensures
