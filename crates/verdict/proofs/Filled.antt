@@ -14,8 +14,8 @@ use Rattle.lists.specs.Over.{over}
 use Rattle.lists.proofs.Choice.{chosen, not_chosen}
 use Rattle.lists.proofs.First.{first_least}
 use Rattle.row.specs.Row.{width, row_length}
-use Rattle.row.specs.declared.Line.{Line}
-use Rattle.row.specs.declared.Line.TheVariants as line
+use Rattle.row.specs.Reading.{Line}
+use Rattle.std.specs.Prelude.{Some, None}
 use Rattle.rules.specs.Decoded.{framed, row_count, line_of, not_row, line_words, words_of, decoded}
 use Rattle.rules.specs.declared.Verdict.TheVariants as answer
 use Rattle.rules.specs.Verdict.{judge, verdict}
@@ -102,8 +102,8 @@ module _ (bytes : List ℕ) where
   rows_words false n p e = (omega (arith, ltb-false (first_bad bytes rows) rows p, bad_at_most), ap words_in e)
 
   line_words_lem : (l : Line) → not_row l ≡ false → length (line_words l) ≡ 4
-  line_words_lem (line.Whole r) e = refl
-  line_words_lem line.Malformed e = absurd (true≢false e)
+  line_words_lem (Some r) e = refl
+  line_words_lem None e = absurd (true≢false e)
 
   words_length : (n : ℕ) → ((i : ℕ) → i < n → not_row (line_of bytes i) ≡ false) → length (words_to bytes n) ≡ 4 * n
   words_length zero h = ap length (words_none bytes)
