@@ -14,12 +14,11 @@ use Rattle.lists.proofs.Flat.{flat_next}
 use Rattle.row.specs.Row.{greatest, width}
 use Rattle.row.specs.Reading.{read_at, found_at, Line}
 use Rattle.row.specs.declared.Row.{Row}
-use Rattle.std.specs.Prelude.{Some, None}
+use Rattle.std.specs.Prelude.{Some, None, Ok, Err}
 use Rattle.row.specs.declared.Place.{Place}
 use Rattle.row.specs.declared.Read.{Read}
 use Rattle.row.specs.declared.Read.TheVariants as read
 use Rattle.rules.specs.Decoded.{line_of, not_row, line_words}
-use Rattle.decode.specs.declared.Decoded.TheVariants.{Complete, Malformed}
 use Rattle.decode.specs.Decode.{four, first_bad, words_to, decoded_of}
 
 module _ (bytes : List ℕ) (i at : ℕ) (place : at ≡ 38 * i) (inside : 38 * i + 38 ≤ length bytes) where
@@ -60,7 +59,7 @@ words_four l r e = (ap line_words e, ap not_row e)
 -- a turn that reads no row: the row is the first bad one, and the words are those of the rows before it
 pub stops_at : (bytes ws words : List ℕ) (rows i at : ℕ) (r : Read) → i < rows → 38 * rows ≤ length bytes → at ≡ 38 * i → r ≡ read_at greatest width bytes at → is_next r ≡ false
     → first (λ i. not_row (line_of bytes i)) (rows - i) i ≡ first_bad bytes rows → words ≡ over (words_to bytes i) ws
-    → (Malformed i ≡ decoded_of (first_bad bytes rows) rows) × (words ≡ over (words_to bytes (first_bad bytes rows)) ws)
+    → (Err (record { row = i }) ≡ decoded_of (first_bad bytes rows) rows) × (words ≡ over (words_to bytes (first_bad bytes rows)) ws)
 stops_at bytes ws words rows i at r h fits place e stop search put =
     let line = ap is_next (sym (read_row bytes i at place (omega arith)) ∙ sym e) ∙ stop in
     let bad : first_bad bytes rows ≡ i = sym search ∙ first_here (λ i. not_row (line_of bytes i)) rows i h (not_next (38 * i + 38) (line_of bytes i) line) in
@@ -71,5 +70,5 @@ pub none_bad : (bytes : List ℕ) (rows i : ℕ) → rows ≤ i → i ≤ rows �
     → first_bad bytes rows ≡ rows
 none_bad bytes rows i h g e = sym e ∙ first_end (λ i. not_row (line_of bytes i)) rows i h ∙ omega arith
 
-pub reply_all : (bytes : List ℕ) (rows : ℕ) → first_bad bytes rows ≡ rows → Complete rows ≡ decoded_of (first_bad bytes rows) rows
+pub reply_all : (bytes : List ℕ) (rows : ℕ) → first_bad bytes rows ≡ rows → Ok rows ≡ decoded_of (first_bad bytes rows) rows
 reply_all bytes rows e = rw e (simp (le-ltb rows rows (omega arith)))

@@ -1,25 +1,24 @@
 -- 01, checks 1 and 2: what is known of a table's bytes once its rows are read.
-use Rattle.std.specs.Prelude.{ℕ, ◌+◌, ◌*◌, List}
+use Rattle.std.specs.Prelude.{ℕ, ◌+◌, ◌*◌, List, Result, Ok, Err}
 use Rattle.lists.specs.Choice.{pick}
 use Rattle.lists.specs.Over.{over}
 use Rattle.rules.specs.Decoded.{framed, row_count, decoded}
 use Rattle.rules.specs.declared.Verdict.{Verdict}
 use Rattle.rules.specs.declared.Verdict.TheVariants as verdict
 use Rattle.rules.specs.Verdict.{judge}
-use Rattle.decode.specs.declared.Decoded.{Decoded}
-use Rattle.decode.specs.declared.Decoded.TheVariants as decoding
+use Rattle.decode.specs.declared.Malformed.{Malformed}
 use Rattle.decode.specs.Decode.{first_bad, words_to, decoded_of}
 use Rattle.verdict.specs.declared.Loaded.{Loaded}
 use Rattle.verdict.specs.declared.Loaded.TheVariants.{Words, Refused}
 
 -- the row at which decoding ended
-abbrev pub end_row : Decoded → ℕ
-end_row (decoding.Complete n) = n
-end_row (decoding.Malformed i) = i
+abbrev pub end_row : Result ℕ Malformed → ℕ
+end_row (Ok n) = n
+end_row (Err m) = m.row
 
-abbrev pub loaded_rows : Decoded → Loaded
-loaded_rows (decoding.Complete n) = Words (4 * n)
-loaded_rows (decoding.Malformed i) = Refused 2 (i + 1)
+abbrev pub loaded_rows : Result ℕ Malformed → Loaded
+loaded_rows (Ok n) = Words (4 * n)
+loaded_rows (Err m) = Refused 2 (m.row + 1)
 
 unfoldable pub loaded_of : List ℕ → Loaded
 loaded_of bytes = pick (framed bytes) (loaded_rows (decoded_of (first_bad bytes (row_count bytes)) (row_count bytes))) (Refused 1 0)

@@ -9,7 +9,7 @@ ghost use Rattle.nodes.specs.Notes.{Noted};
 ghost use Rattle.rules.specs.Verdict.{judge as judge_of, verdict as verdict_of};
 ghost use Rattle.verdict.specs.Loaded.{end_row, loaded_rows, loaded_of, loaded_words};
 
-use decode::{Decoded, decode};
+use decode::{Malformed, decode};
 use fault::{first_check, first_row};
 use nodes::fill_notes;
 use row::Row;
@@ -27,13 +27,13 @@ pub enum Loaded {
 }
 
 // Where decoding ended: all rows are in the row form, or one is not.
-fn after_decoding(decoded: Decoded) -> Loaded
+fn after_decoding(decoded: Result<usize, Malformed>) -> Loaded
     requires { end_row decoded < 2 ^ 61 }
     ensures { result ≡ loaded_rows decoded }
 {
     match decoded {
-        Decoded::Complete(rows) => Loaded::Words(4 * rows),
-        Decoded::Malformed(row) => Loaded::Refused(2, row as u64 + 1),
+        Ok(rows) => Loaded::Words(4 * rows),
+        Err(malformed) => Loaded::Refused(2, malformed.row as u64 + 1),
     }
 }
 
