@@ -15,7 +15,7 @@ use Rattle.lists.proofs.All.{all_head, all_tail, all_at, all_in, all_left, all_r
 use Rattle.lists.proofs.Flat.{flat_join}
 use Rattle.row.specs.Row.{greatest, width, row_bytes, Writable}
 use Rattle.row.specs.declared.Row.{Row}
-use Rattle.row.specs.declared.Line.TheVariants.{Whole}
+use Rattle.std.specs.Prelude.{Some}
 use Rattle.formula.proofs.Truth.{or_left, or_right, true_test}
 use Rattle.answer.specs.Stored.{stored_value, stored}
 use Rattle.table.specs.Rows.{Rows, count, named}
@@ -75,7 +75,7 @@ module _ (t : Rows) where
 
   -- ---- a press that makes a state with the after values of a step is that step of the run
   module _ (ok : Obeys t) (zs : List ℤ) (types : List ℕ) (right : IsState t zs types) (c s : State machine) (shows : Shows t zs c s) (e : ℕ) (q k : State machine)
-      (writable : All (Writable greatest width) (choice_rows t e q k)) (step : List ℕ) (ls : lines step ≡ map Whole (choice_rows t e q k)) (room : ℕ) (ys : List ℤ)
+      (writable : All (Writable greatest width) (choice_rows t e q k)) (step : List ℕ) (ls : lines step ≡ map Some (choice_rows t e q k)) (room : ℕ) (ys : List ℤ)
       (h : press_on t step zs types room ≡ made ys) (afters : All (λ x. state_of t ys x ≡ k x) machine.concrete_variables) where
     pub record Steps-so : Type 0 where
       pub is_event : In e machine.events

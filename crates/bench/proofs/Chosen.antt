@@ -16,8 +16,8 @@ use Rattle.lists.proofs.Below.{keep_in, in_keep, numbers_in, in_numbers}
 use Rattle.lists.proofs.Distinct.{Distinct, pairwise_head, pairwise_tail, pairwise_keep, numbers_distinct}
 use Rattle.row.specs.Row.{greatest, width, Writable}
 use Rattle.row.specs.declared.Row.{Row}
-use Rattle.row.specs.declared.Line.{Line}
-use Rattle.row.specs.declared.Line.TheVariants.{Whole, Malformed}
+use Rattle.row.specs.Reading.{Line}
+use Rattle.std.specs.Prelude.{Some, None}
 use Rattle.formula.specs.Values.{whole_number}
 use Rattle.formula.proofs.Truth.{and_split, true_test}
 use Rattle.table.specs.Rows.{Rows, count, named, type_of}
@@ -103,7 +103,7 @@ module _ (t : Rows) where
   pub record Chose (ls : List Line) (vs : Values) (e : ℕ) (ws : Values) : Type 0 where
     pub row : Row
     pub others : List Line
-    pub lines : ls ≡ Whole row ∷ others
+    pub lines : ls ≡ Some row ∷ others
     pub good : T (is_step_row t false row)
     pub event : row.a ≡ e
     pub reads : read_values t e (asked t e) 2 others vs ≡ found ws []
@@ -111,10 +111,10 @@ module _ (t : Rows) where
   pub choice_chose : (ls : List Line) (vs : Values) (e : ℕ) (ws : Values) → choice t ls vs ≡ chosen e ws → Chose ls vs e ws
   unfolding choice
   choice_chose [] vs e ws h = absurd (none_never h)
-  choice_chose (Malformed ∷ ls) vs e ws h = absurd (none_never h)
-  choice_chose (Whole r ∷ ls) vs e ws h = by_row (is_step_row t false r) refl h
+  choice_chose (None ∷ ls) vs e ws h = absurd (none_never h)
+  choice_chose (Some r ∷ ls) vs e ws h = by_row (is_step_row t false r) refl h
     where
-      by_found : T (is_step_row t false r) → (f : Found) → read_values t r.a (asked t r.a) 2 ls vs ≡ f → choice_of r.a f ≡ chosen e ws → Chose (Whole r ∷ ls) vs e ws
+      by_found : T (is_step_row t false r) → (f : Found) → read_values t r.a (asked t r.a) 2 ls vs ≡ f → choice_of r.a f ≡ chosen e ws → Chose (Some r ∷ ls) vs e ws
       by_found g (bad i) q h = absurd (none_never h)
       by_found g (found us (l ∷ rest)) q h = absurd (none_never h)
       by_found g (found us []) q h = record {
@@ -126,7 +126,7 @@ module _ (t : Rows) where
         reads = subst (λ e. read_values t e (asked t e) 2 ls vs ≡ found us []) (chosen_event h) q ∙ ap (λ ws. found ws []) (chosen_values h);
       }
 
-      by_row : (b : Bool) → is_step_row t false r ≡ b → pick b (choice_of r.a (read_values t r.a (asked t r.a) 2 ls vs)) none ≡ chosen e ws → Chose (Whole r ∷ ls) vs e ws
+      by_row : (b : Bool) → is_step_row t false r ≡ b → pick b (choice_of r.a (read_values t r.a (asked t r.a) 2 ls vs)) none ≡ chosen e ws → Chose (Some r ∷ ls) vs e ws
       by_row true g h = by_found (true_test _ g) (read_values t r.a (asked t r.a) 2 ls vs) refl h
       by_row false g h = absurd (none_never h)
 
@@ -141,24 +141,24 @@ module _ (t : Rows) where
 
     -- its rows are those of its values
     pub choice_rows_lem : (zs : List ℤ) (e : ℕ) (ls : List Line) (ws : Values) (q k : State machine) → All LineFormed ls → read_values t e (asked t e) 2 ls (at_hand t zs) ≡ found ws []
-        → ((x : ℕ) → In x (asked t e) → value_at t e ws x ≡ logged_value t (blank machine) q k x) → Whole (step_row_of t e) ∷ ls ≡ map Whole (choice_rows t e q k)
+        → ((x : ℕ) → In x (asked t e) → value_at t e ws x ≡ logged_value t (blank machine) q k x) → Some (step_row_of t e) ∷ ls ≡ map Some (choice_rows t e q k)
     choice_rows_lem zs e ls ws q k formed h are =
-        ap (λ ls. Whole (step_row_of t e) ∷ ls)
+        ap (λ ls. Some (step_row_of t e) ∷ ls)
         (read_rows t e (asked t e) 2 ls (at_hand t zs) ws [] (hand_size zs) (asked_distinct e) (asked_small e) formed h ∙ append-nil _
-        ∙ map_same _ _ (asked t e) (λ x i. ap (λ v. Whole (value_row t x v)) (are x i)) ∙ sym (map-map Whole (λ x. value_row t x (logged_value t (blank machine) q k x)) (asked t e)))
+        ∙ map_same _ _ (asked t e) (λ x i. ap (λ v. Some (value_row t x v)) (are x i)) ∙ sym (map-map Some (λ x. value_row t x (logged_value t (blank machine) q k x)) (asked t e)))
 
     -- ---- from rows to their choice
     module _ (zs : List ℤ) (e : ℕ) (q k : State machine) (writable : All (Writable greatest width) (choice_rows t e q k)) where
       abbrev pub others : List Line
-      others = map (λ x. Whole (value_row t x (logged_value t (blank machine) q k x))) (asked t e) ++ []
+      others = map (λ x. Some (value_row t x (logged_value t (blank machine) q k x))) (asked t e) ++ []
 
       pub rows_found : Reads t e (asked t e) 2 others (at_hand t zs) [] (logged_value t (blank machine) q k)
       rows_found =
           rows_read_lem t e (asked t e) 2 (at_hand t zs) [] (logged_value t (blank machine) q k) (hand_size zs) (asked_distinct e) (asked_small e)
           (all_unmap (λ x. value_row t x (logged_value t (blank machine) q k x)) (asked t e) (all_tail writable))
 
-      pub rows_choice : choice t (map Whole (choice_rows t e q k)) (at_hand t zs) ≡ pick (is_step_row t false (step_row_of t e)) (chosen e rows_found.values) none
+      pub rows_choice : choice t (map Some (choice_rows t e q k)) (at_hand t zs) ≡ pick (is_step_row t false (step_row_of t e)) (chosen e rows_found.values) none
       unfolding choice
       rows_choice =
-          ap (λ ls. choice t (Whole (step_row_of t e) ∷ ls) (at_hand t zs)) (map-map Whole (λ x. value_row t x (logged_value t (blank machine) q k x)) (asked t e) ∙ sym (append-nil _))
+          ap (λ ls. choice t (Some (step_row_of t e) ∷ ls) (at_hand t zs)) (map-map Some (λ x. value_row t x (logged_value t (blank machine) q k x)) (asked t e) ∙ sym (append-nil _))
           ∙ ap (λ (f : Found). pick (is_step_row t false (step_row_of t e)) (choice_of e f) none) rows_found.reads

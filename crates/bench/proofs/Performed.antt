@@ -14,7 +14,7 @@ use Rattle.lists.specs.Below.{numbers}
 use Rattle.lists.proofs.All.{all_head, all_left, all_right, all_join, all_at, map_same}
 use Rattle.lists.proofs.Below.{in_numbers}
 use Rattle.lists.proofs.Distinct.{Distinct, pairwise_keep, numbers_distinct}
-use Rattle.row.specs.declared.Line.{Line}
+use Rattle.row.specs.Reading.{Line}
 use Rattle.formula.specs.Values.{Value, wrap}
 use Rattle.formula.specs.Evaluate.{Env}
 use Rattle.formula.proofs.Truth.{and_split, and_join, or_right, test_true, true_test}

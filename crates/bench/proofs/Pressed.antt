@@ -10,7 +10,7 @@ use Rattle.lists.specs.Choice.{pick}
 use Rattle.lists.specs.All.{All, In}
 use Rattle.lists.proofs.All.{all_tail}
 use Rattle.row.specs.Row.{greatest, width, row_bytes, Writable}
-use Rattle.row.specs.declared.Line.TheVariants.{Whole}
+use Rattle.std.specs.Prelude.{Some}
 use Rattle.formula.proofs.Truth.{and_split, and_join, or_cases, or_left, test_true, true_test, eq→eqb}
 use Rattle.answer.specs.Stored.{stored, stored_env}
 use Rattle.table.specs.Rows.{Rows, count, named, kind_of, owner_of, machine_number}
@@ -96,7 +96,7 @@ module _ (t : Rows) where
       (λ v r b. value_after t e ws x (not_given t e x v) ∙ sym (such_made t ok at x r a.0 v b) ∙ sym (logged_variable t (blank machine) q k x v)) in
       let formed = subst (All LineFormed) chose.lines (lines_formed step) in
       let rows = choice_rows_lem t ok zs e chose.others ws q k (all_tail formed) chose.reads are in
-      let written = lines_written (choice_rows t e q k) step (chose.lines ∙ ap (λ r. Whole r ∷ chose.others) (row.is_row ∙ ap (step_row_of t) chose.event) ∙ rows) in
+      let written = lines_written (choice_rows t e q k) step (chose.lines ∙ ap (λ r. Some r ∷ chose.others) (row.is_row ∙ ap (step_row_of t) chose.event) ∙ rows) in
       record { at = at; is_event = event_of t e event; is_other = later_role t ok e event concrete initial; in_form = written.1; written = written.0 }
 
   module _ (ok : Obeys t) (step : List ℕ) (zs : List ℤ) (types : List ℕ) (room : ℕ) (ys : List ℤ) where
@@ -194,10 +194,10 @@ module _ (t : Rows) where
             (allowed_fault t ok e event concrete readings.present (us t ok situation) c s q k known
             (record { axioms = λ i. absurd (subst T initial i); step = w.is_step; inside = w.inside }))
 
-      pub rows_chosen : choice t (map Whole (choice_rows t e q k)) (at_hand t zs) ≡ chosen e readings
+      pub rows_chosen : choice t (map Some (choice_rows t e q k)) (at_hand t zs) ≡ chosen e readings
       rows_chosen = rows_choice t ok zs e q k writable ∙ ap (λ b. pick b (chosen e readings) none) (row_step t false e event concrete initial)
 
-      pub step_made : (step : List ℕ) (room : ℕ) → lines step ≡ map Whole (choice_rows t e q k) → room ≡ count t 10 → Taking → press_on t step zs types room ≡ made (left t k zs)
+      pub step_made : (step : List ℕ) (room : ℕ) → lines step ≡ map Some (choice_rows t e q k) → room ≡ count t 10 → Taking → press_on t step zs types room ≡ made (left t k zs)
       step_made step room ls roomy w =
           let other = later_role t ok e event concrete initial in
           let parts = step_parts (machine.role e) other e c s q k w.is_step w.inside in

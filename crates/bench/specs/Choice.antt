@@ -1,9 +1,8 @@
 -- 02, request 6: the engineer's choice, "one step's rows 90 and 91, with only the parameters and the after values of 52 actions".
-use Rattle.std.specs.Prelude.{Bool, true, false, ◌&&◌, ◌||◌, List, [], ◌∷◌, ℕ}
+use Rattle.std.specs.Prelude.{Bool, true, false, ◌&&◌, ◌||◌, List, [], ◌∷◌, ℕ, Some, None}
 use Rattle.lists.specs.Choice.{pick}
 use Rattle.lists.specs.Below.{numbers, keep}
-use Rattle.row.specs.declared.Line.{Line}
-use Rattle.row.specs.declared.Line.TheVariants.{Whole, Malformed}
+use Rattle.row.specs.Reading.{Line}
 use Rattle.table.specs.Names.{identifier_tag}
 use Rattle.table.specs.Rows.{Rows, count}
 use Rattle.machine.specs.Machine.{Action, unassigned, becomes_equal, becomes_such_that}
@@ -35,5 +34,5 @@ module _ (t : Rows) where
   -- what the rows of a step choose; "an abstract or class 0 event" is none
   unfoldable pub choice : List Line → Values → Choice
   choice [] vs = none
-  choice (Malformed ∷ ls) vs = none
-  choice (Whole r ∷ ls) vs = pick (is_step_row t false r) (choice_of r.a (read_values t r.a (asked r.a) 2 ls vs)) none
+  choice (None ∷ ls) vs = none
+  choice (Some r ∷ ls) vs = pick (is_step_row t false r) (choice_of r.a (read_values t r.a (asked r.a) 2 ls vs)) none

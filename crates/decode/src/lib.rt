@@ -8,11 +8,10 @@ ghost use Rattle.decode.specs.Decode.{four, first_bad, words_to, decoded_of};
 
 use row::{Place, Read, Row};
 
-// How many rows were decoded, or the first row that is not in the row form, counted from 0.
+// The first row that is not in the row form, counted from 0.
 #[derive(Clone, Copy)]
-pub enum Decoded {
-    Complete(usize),
-    Malformed(usize),
+pub struct Malformed {
+    pub row: usize,
 }
 
 // Stores a row's numbers as the first four words.
@@ -26,8 +25,8 @@ fn store(words: &mut [u64], row: Row)
     words[3] = row.c;
 }
 
-// Decodes the first rows of bytes into words, up to the first that is not in the row form.
-pub fn decode(bytes: &[u8], rows: usize, words: &mut [u64]) -> Decoded
+// Decodes the first rows of bytes into words, up to the first that is not in the row form; how many rows that are, where all are.
+pub fn decode(bytes: &[u8], rows: usize, words: &mut [u64]) -> Result<usize, Malformed>
     requires { (row_length width * rows ≤ length bytes.now) × (4 * rows ≤ length words.old) }
     ensures value { result ≡ decoded_of (first_bad bytes.now rows) rows }
     ensures words_after { words.new ≡ over (words_to bytes.now (first_bad bytes.now rows)) words.old }
@@ -39,9 +38,9 @@ pub fn decode(bytes: &[u8], rows: usize, words: &mut [u64]) -> Decoded
                 store(&mut words[4 * i..], row);
                 place = next;
             }
-            Read::Malformed => return Decoded::Malformed(i),
-            Read::End => return Decoded::Malformed(i),
+            Read::Malformed => return Err(Malformed { row: i }),
+            Read::End => return Err(Malformed { row: i }),
         }
     }
-    Decoded::Complete(rows)
+    Ok(rows)
 }

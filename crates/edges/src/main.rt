@@ -6,7 +6,6 @@
 ghost use Rattle.std.specs.Prelude.{◌<◌, ◌^◌, ◌+◌, ◌≤◌, length};
 
 use input::read_full;
-use number::Number;
 use row::{Place, Read, Row};
 use std::io;
 
@@ -36,11 +35,11 @@ fn column(rt: &impl Print, greatest: u64, columns: &[u8]) -> io::Result<()>
     rt.write_all(columns)?;
     rt.print("| ")?;
     match number::read_number(greatest, columns) {
-        Number::Value(word) => {
+        Some(word) => {
             print!(rt; "{word} |")?;
             written(rt, word)
         }
-        Number::Malformed => rt.println("malformed"),
+        None => rt.println("malformed"),
     }
 }
 

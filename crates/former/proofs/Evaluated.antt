@@ -11,8 +11,8 @@ use lib.IntN.{ℤ}
 use lib.ListN.{length, set}
 use Rattle.std.specs.Prelude.{Result, Ok, Err}
 use Rattle.lists.specs.Choice.{pick}
-use Rattle.row.specs.declared.Line.{Line}
-use Rattle.row.specs.declared.Line.TheVariants.{Whole, Malformed}
+use Rattle.row.specs.Reading.{Line}
+use Rattle.std.specs.Prelude.{Some, None}
 use Rattle.formula.specs.Values.{ValueType, AnyValue, truth, wrap}
 use Rattle.formula.specs.Tree.{Tree}
 use Rattle.formula.specs.Evaluate.{Env}
@@ -119,8 +119,8 @@ module _ (possible : Type 0) where
       unfolding replay_from_by replay_from
       from_reply zero n i ls vs = inl refl
       from_reply (suc most) n i [] vs = inl refl
-      from_reply (suc most) n i (Malformed ∷ ls) vs = inl refl
-      from_reply (suc most) n i (Whole r ∷ ls) vs =
+      from_reply (suc most) n i (None ∷ ls) vs = inl refl
+      from_reply (suc most) n i (Some r ∷ ls) vs =
           by_row (is_step_row t (eqb n 0) r) (by_rows (read_values t r.a (logged t r.a) (i + 1) ls vs) (λ rest ws. from_reply most (n + 1) at rest ws))
         where
           at : ℕ

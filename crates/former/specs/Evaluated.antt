@@ -1,9 +1,8 @@
 -- What replaying, pressing and previewing answer with any evaluation of formulas in the place of `answer`: the definitions of crates/log/specs and crates/bench/specs with the
 -- evaluation as an argument. That they are those where it is `answer` is proved (crates/former/proofs/Evaluated.antt).
-use Rattle.std.specs.Prelude.{true, ◌&&◌, List, [], ◌∷◌, ◌++◌, map, ℕ, zero, suc, ◌+◌, ◌-◌, eqb, ℤ, pos, length, get_or, set, Result, Ok, Err}
+use Rattle.std.specs.Prelude.{true, ◌&&◌, List, [], ◌∷◌, ◌++◌, map, ℕ, zero, suc, ◌+◌, ◌-◌, eqb, ℤ, pos, length, get_or, set, Result, Ok, Err, Some, None}
 use Rattle.lists.specs.Choice.{pick}
-use Rattle.row.specs.declared.Line.{Line}
-use Rattle.row.specs.declared.Line.TheVariants.{Whole, Malformed}
+use Rattle.row.specs.Reading.{Line}
 use Rattle.formula.specs.Values.{ValueType, truth, wrap}
 use Rattle.formula.specs.Tree.{Tree}
 use Rattle.formula.specs.Evaluate.{Env}
@@ -72,8 +71,8 @@ module _ (evaluation : Evaluation) where
     unfoldable pub replay_from_by : ℕ → ℕ → ℕ → List Line → Values → Result ℕ Refusal
     replay_from_by zero n i ls vs = Err (refusal log_fault 0)
     replay_from_by (suc most) n i [] vs = pick (eqb n 0) (Err (refusal log_fault 0)) (Ok (n - 1))
-    replay_from_by (suc most) n i (Malformed ∷ ls) vs = Err (refusal log_fault i)
-    replay_from_by (suc most) n i (Whole r ∷ ls) vs =
+    replay_from_by (suc most) n i (None ∷ ls) vs = Err (refusal log_fault i)
+    replay_from_by (suc most) n i (Some r ∷ ls) vs =
         let e = r.a in
         pick (is_step_row t (eqb n 0) r)
         (judged_by i e (read_values t e (logged t e) (i + 1) ls vs) (λ rest ws. replay_from_by most (n + 1) (i + 1 + length (logged t e)) rest ws))

@@ -11,7 +11,7 @@ use borrow.Author.Tests.{lt-ltb, le-ltb, le-leb, lt-leb, ne_eqb, ltb-false, leb-
 use lib.Dec.{ltb, leb, eqb}
 use lib.ListN.{length, length-append}
 use Rattle.lists.specs.Choice.{pick}
-use Rattle.number.specs.declared.Number.TheVariants.{Value, Malformed}
+use Rattle.std.specs.Prelude.{Some, None}
 use Rattle.number.specs.Number.{space, minus, digit_zero, Text, Spaces, Minus, Digits, most_of, last_of, before_digits, before_of, text_of, columns_of, rest_of, Fits, in_range, InRange, InForm}
 use Rattle.number.specs.Reading.{digit_nine, Scan, Prefix, Wrong, digit_of, after_spaces, after_minus, after_digits, after_text, word_of, text_value, step_of, scan_from, value_of, number_of}
 use Rattle.number.proofs.Scan.{scan_wrong}
@@ -19,7 +19,7 @@ use Rattle.number.proofs.Scan.{scan_wrong}
 wrong_never : (u : Text) → Wrong ≡ Prefix u → ⊥
 wrong_never u e = let z : ◌≡◌ {A = ℕ} 0 1 = cc in omega arith
 
-malformed_never : (w : ℕ) → Malformed ≡ Value w → ⊥
+malformed_never : (w : ℕ) → None ≡ Some w → ⊥
 malformed_never w e = let z : ◌≡◌ {A = ℕ} 0 1 = cc in omega arith
 
 same_text : {t u : Text} → Prefix t ≡ Prefix u → t ≡ u
@@ -221,11 +221,11 @@ module _ (greatest : ℕ) where
         go true false e p = omega (arith, p.signed m refl)
         go false false e p = omega (arith, leb-true m greatest p.range)
 
-    value_of_text : (w : ℕ) → w < 2 ^ 64 → text_value (text_of w) ≡ Value w
+    value_of_text : (w : ℕ) → w < 2 ^ 64 → text_value (text_of w) ≡ Some w
     value_of_text w h = go (ltb w (2 ^ 63)) refl (eqb w 0) refl
       where
-        go : (x : Bool) → ltb w (2 ^ 63) ≡ x → (y : Bool) → eqb w 0 ≡ y → text_value (pick x (Digits false w) (Digits true (2 ^ 64 - w))) ≡ Value w
-        go true p true q = simp q (ap Value (sym (eqb-true w 0 q)))
+        go : (x : Bool) → ltb w (2 ^ 63) ≡ x → (y : Bool) → eqb w 0 ≡ y → text_value (pick x (Digits false w) (Digits true (2 ^ 64 - w))) ≡ Some w
+        go true p true q = simp q (ap Some (sym (eqb-true w 0 q)))
         go true p false q = simp q
         go false p y q =
             let l : 2 ^ 63 ≤ w = ltb-false w (2 ^ 63) p in
@@ -248,7 +248,7 @@ module _ (greatest : ℕ) where
           form = rw (t, h.count) h.form;
         }
 
-    scan_form : (columns : List ℕ) (w : ℕ) (s : Scan) → scan_from greatest (Prefix Spaces) columns ≡ s → value_of s ≡ Value w → InForm greatest columns w
+    scan_form : (columns : List ℕ) (w : ℕ) (s : Scan) → scan_from greatest (Prefix Spaces) columns ≡ s → value_of s ≡ Some w → InForm greatest columns w
     scan_form columns w Wrong p e = absurd (malformed_never w e)
     scan_form columns w (Prefix Spaces) p e = absurd (malformed_never w e)
     scan_form columns w (Prefix Minus) p e = absurd (malformed_never w e)
@@ -257,16 +257,16 @@ module _ (greatest : ℕ) where
         form_of h.0 columns negative m w h.1 (let q : word_of negative m ≡ w = cc in q)
 
     -- whatever reads as a number is exactly its written form
-    pub number_form : (columns : List ℕ) (w : ℕ) → number_of greatest columns ≡ Value w → InForm greatest columns w
+    pub number_form : (columns : List ℕ) (w : ℕ) → number_of greatest columns ≡ Some w → InForm greatest columns w
     unfolding number_of
     number_form columns w e = scan_form columns w (scan_from greatest (Prefix Spaces) columns) refl e
 
     -- reading inverts writing
-    pub written_reads : (width w : ℕ) → InRange greatest w → Fits width w → number_of greatest (columns_of width (text_of w)) ≡ Value w
+    pub written_reads : (width w : ℕ) → InRange greatest w → Fits width w → number_of greatest (columns_of width (text_of w)) ≡ Some w
     unfolding number_of
     written_reads width w r f = rw (scan_written width (text_of w) (proper_word w r) f) (value_of_text w r.word)
 
-    pub form_reads : (columns : List ℕ) (w : ℕ) → InForm greatest columns w → number_of greatest columns ≡ Value w
+    pub form_reads : (columns : List ℕ) (w : ℕ) → InForm greatest columns w → number_of greatest columns ≡ Some w
     form_reads columns w f = ap (number_of greatest) f.form ∙ written_reads (length columns) w f.range f.fits
 
 -- A width that holds every number in range: one column more than the digits of the largest magnitude.

@@ -10,8 +10,7 @@ use lib.Dec.{ltb, eqb}
 use lib.ListN.{length, drop, get_or, drop_of_length-le}
 use lib.Seq.{drop-cons}
 use Rattle.lists.specs.Choice.{pick}
-use Rattle.number.specs.declared.Number.{Number}
-use Rattle.number.specs.declared.Number.TheVariants.{Value, Malformed}
+use Rattle.std.specs.Prelude.{Option, Some, None}
 use Rattle.number.specs.Number.{space, minus, digit_zero, Spaces, Minus, Digits, most_of}
 use Rattle.number.specs.Reading.{digit_nine, Scan, Prefix, Wrong, word_of, digit_of, after_spaces, step_of, scan_from, value_of, number_of}
 
@@ -51,60 +50,60 @@ module _ (greatest : ℕ) where
 
   -- what is read from the column at on, by what it holds
   module _ (columns : List ℕ) (at : ℕ) (inside : at < length columns) where
-    stepped : {r : Number} (scan next : Scan) → step_of greatest scan (get_or columns at 0) ≡ next
+    stepped : {r : Option ℕ} (scan next : Scan) → step_of greatest scan (get_or columns at 0) ≡ next
         → r ≡ value_of (scan_from greatest next (drop (at + 1) columns)) → r ≡ value_of (scan_from greatest scan (drop at columns))
     stepped scan next e q = q ∙ ap value_of (sym (scan_next scan columns at inside ∙ ap (λ s. scan_from greatest s (drop (at + 1) columns)) e))
 
     pub first_space : get_or columns at 0 ≡ space → scan_from greatest (Prefix Spaces) (drop at columns) ≡ scan_from greatest (Prefix Spaces) (drop (at + 1) columns)
     first_space e = scan_next (Prefix Spaces) columns at inside ∙ rw e
 
-    pub first_minus : {r : Number} → get_or columns at 0 ≡ minus → r ≡ value_of (scan_from greatest (Prefix Minus) (drop (at + 1) columns))
+    pub first_minus : {r : Option ℕ} → get_or columns at 0 ≡ minus → r ≡ value_of (scan_from greatest (Prefix Minus) (drop (at + 1) columns))
         → r ≡ value_of (scan_from greatest (Prefix Spaces) (drop at columns))
     first_minus e = stepped (Prefix Spaces) (Prefix Minus) (rw e)
 
-    pub first_digit : {r : Number} → (get_or columns at 0 ≡ space → ⊥) → (get_or columns at 0 ≡ minus → ⊥)
+    pub first_digit : {r : Option ℕ} → (get_or columns at 0 ≡ space → ⊥) → (get_or columns at 0 ≡ minus → ⊥)
         → r ≡ value_of (scan_from greatest (digit_of greatest false 0 (get_or columns at 0)) (drop (at + 1) columns))
         → r ≡ value_of (scan_from greatest (Prefix Spaces) (drop at columns))
     first_digit f g = stepped (Prefix Spaces) (digit_of greatest false 0 (get_or columns at 0)) (simp (ne_eqb (get_or columns at 0) space f, ne_eqb (get_or columns at 0) minus g))
 
-    pub minus_zero : get_or columns at 0 ≡ digit_zero → Malformed ≡ value_of (scan_from greatest (Prefix Minus) (drop at columns))
+    pub minus_zero : get_or columns at 0 ≡ digit_zero → None ≡ value_of (scan_from greatest (Prefix Minus) (drop at columns))
     minus_zero e = stepped (Prefix Minus) Wrong (rw e) (ap value_of (sym (scan_wrong (drop (at + 1) columns))))
 
-    pub minus_digit : {r : Number} → (get_or columns at 0 ≡ digit_zero → ⊥)
+    pub minus_digit : {r : Option ℕ} → (get_or columns at 0 ≡ digit_zero → ⊥)
         → r ≡ value_of (scan_from greatest (digit_of greatest true 0 (get_or columns at 0)) (drop (at + 1) columns))
         → r ≡ value_of (scan_from greatest (Prefix Minus) (drop at columns))
     minus_digit f = stepped (Prefix Minus) (digit_of greatest true 0 (get_or columns at 0)) (simp (ne_eqb (get_or columns at 0) digit_zero f))
 
     -- a leading zero, which only the last column reads as
     module _ (zero : get_or columns at 0 ≡ digit_zero) where
-      first_zero : {r : Number} → r ≡ value_of (scan_from greatest (Prefix (Digits false 0)) (drop (at + 1) columns))
+      first_zero : {r : Option ℕ} → r ≡ value_of (scan_from greatest (Prefix (Digits false 0)) (drop (at + 1) columns))
           → r ≡ value_of (scan_from greatest (Prefix Spaces) (drop at columns))
       first_zero = stepped (Prefix Spaces) (Prefix (Digits false 0)) (rw zero (simp (le-ltb greatest 0 (omega arith))))
 
-      pub zero_last : length columns ≤ at + 1 → Value 0 ≡ value_of (scan_from greatest (Prefix Spaces) (drop at columns))
+      pub zero_last : length columns ≤ at + 1 → Some 0 ≡ value_of (scan_from greatest (Prefix Spaces) (drop at columns))
       zero_last h = first_zero (ap value_of (sym (scan_done (Prefix (Digits false 0)) columns (at + 1) h)))
 
-      pub zero_before : at + 1 < length columns → Malformed ≡ value_of (scan_from greatest (Prefix Spaces) (drop at columns))
+      pub zero_before : at + 1 < length columns → None ≡ value_of (scan_from greatest (Prefix Spaces) (drop at columns))
       zero_before h = first_zero (ap value_of (sym (scan_next (Prefix (Digits false 0)) columns (at + 1) h ∙ scan_wrong (drop (at + 1 + 1) columns))))
 
-  pub minus_last : (columns : List ℕ) (at : ℕ) → length columns ≤ at → Malformed ≡ value_of (scan_from greatest (Prefix Minus) (drop at columns))
+  pub minus_last : (columns : List ℕ) (at : ℕ) → length columns ≤ at → None ≡ value_of (scan_from greatest (Prefix Minus) (drop at columns))
   minus_last columns at h = ap value_of (sym (scan_done (Prefix Minus) columns at h))
 
   -- all columns from those at i on, which read alike
   module _ (columns : List ℕ) (i : ℕ) (same : scan_from greatest (Prefix Spaces) (drop i columns) ≡ scan_from greatest (Prefix Spaces) columns) where
-    pub scanned : {r : Number} → r ≡ value_of (scan_from greatest (Prefix Spaces) (drop i columns)) → r ≡ number_of greatest columns
+    pub scanned : {r : Option ℕ} → r ≡ value_of (scan_from greatest (Prefix Spaces) (drop i columns)) → r ≡ number_of greatest columns
     unfolding number_of
     scanned q = q ∙ ap value_of same
 
-    pub no_number : length columns ≤ i → Malformed ≡ number_of greatest columns
+    pub no_number : length columns ≤ i → None ≡ number_of greatest columns
     no_number h = scanned (ap value_of (sym (scan_done (Prefix Spaces) columns i h)))
 
   -- the last column, where all before it are spaces
   module _ (b : ℕ) where
-    pub last_none : ltb b digit_zero || ltb digit_nine b ≡ true → Malformed ≡ value_of (after_spaces greatest b)
+    pub last_none : ltb b digit_zero || ltb digit_nine b ≡ true → None ≡ value_of (after_spaces greatest b)
     last_none t = go (eqb b space) (eqb b minus)
       where
-        go : (x y : Bool) → Malformed ≡ value_of (pick x (Prefix Spaces) (pick y (Prefix Minus) (digit_of greatest false 0 b)))
+        go : (x y : Bool) → None ≡ value_of (pick x (Prefix Spaces) (pick y (Prefix Minus) (digit_of greatest false 0 b)))
         go true y = refl
         go false true = refl
         go false false = ap value_of (sym (not_digit (ltb b digit_zero) (ltb digit_nine b) t _))
@@ -117,11 +116,11 @@ module _ (greatest : ℕ) where
           let first : 0 * 10 + (b - digit_zero) ≡ b - digit_zero = omega arith in
           simp (ne_eqb b space (λ q. omega (arith, l, q)), ne_eqb b minus (λ q. omega (arith, l, q)), d.0, d.1, first, e)
 
-      pub last_over : greatest < b - digit_zero → Malformed ≡ value_of (after_spaces greatest b)
+      pub last_over : greatest < b - digit_zero → None ≡ value_of (after_spaces greatest b)
       last_over l = ap value_of (sym (last_read true (lt-ltb greatest (b - digit_zero) l)))
 
-      pub last_digit : b - digit_zero ≤ greatest → Value (b - digit_zero) ≡ value_of (after_spaces greatest b)
-      last_digit l = ap Value (sym (magnitude (b - digit_zero))) ∙ ap value_of (sym (last_read false (le-ltb greatest (b - digit_zero) l)))
+      pub last_digit : b - digit_zero ≤ greatest → Some (b - digit_zero) ≡ value_of (after_spaces greatest b)
+      last_digit l = ap Some (sym (magnitude (b - digit_zero))) ∙ ap value_of (sym (last_read false (le-ltb greatest (b - digit_zero) l)))
         where
           magnitude : (m : ℕ) → word_of false m ≡ m
           magnitude zero = refl
@@ -171,7 +170,7 @@ module _ (greatest : ℕ) where
 
     -- the digits from i on, where m is the magnitude of those before
     module _ (columns : List ℕ) (i m : ℕ) (whole : Scan) (e : digits_from m (drop i columns) ≡ whole) where
-      pub digits_end : length columns ≤ i → Value (word_of negative m) ≡ value_of whole
+      pub digits_end : length columns ≤ i → Some (word_of negative m) ≡ value_of whole
       unfolding digits_from
       digits_end h = ap value_of (rw (drop_of_length-le columns h) at e)
 
@@ -179,15 +178,15 @@ module _ (greatest : ℕ) where
         here : whole ≡ digits_from m (get_or columns i 0 ∷ drop (i + 1) columns)
         here = sym e ∙ rw (add-one, drop-cons columns i 0)
 
-        stops : whole ≡ Wrong → Malformed ≡ value_of whole
+        stops : whole ≡ Wrong → None ≡ value_of whole
         stops w = ap value_of (sym w)
 
-        pub digits_none : ltb (get_or columns i 0) digit_zero || ltb digit_nine (get_or columns i 0) ≡ true → Malformed ≡ value_of whole
+        pub digits_none : ltb (get_or columns i 0) digit_zero || ltb digit_nine (get_or columns i 0) ≡ true → None ≡ value_of whole
         unfolding digits_from
         digits_none t = stops (here ∙ not_digit (ltb (get_or columns i 0) digit_zero) (ltb digit_nine (get_or columns i 0)) t _)
 
         module _ (digit : ltb (get_or columns i 0) digit_zero || ltb digit_nine (get_or columns i 0) ≡ false) where
-          pub digits_over : most_of greatest negative < m * 10 + (get_or columns i 0 - digit_zero) → Malformed ≡ value_of whole
+          pub digits_over : most_of greatest negative < m * 10 + (get_or columns i 0 - digit_zero) → None ≡ value_of whole
           unfolding digits_from
           digits_over l =
               let d = both_false (ltb (get_or columns i 0) digit_zero) (ltb digit_nine (get_or columns i 0)) digit in

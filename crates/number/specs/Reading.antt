@@ -1,8 +1,6 @@
 -- How columns are read, from the left: one byte more after a text. Whatever is read is in the number form, and all that is in it is read (proofs/Form.antt).
-use Rattle.std.specs.Prelude.{ℕ, ◌+◌, ◌-◌, ◌*◌, ◌^◌, ◌≤◌, ◌<◌, ◌≡◌, List, [], ◌∷◌, Bool, true, false, ltb, eqb, length, get_or}
+use Rattle.std.specs.Prelude.{ℕ, ◌+◌, ◌-◌, ◌*◌, ◌^◌, ◌≤◌, ◌<◌, ◌≡◌, List, [], ◌∷◌, Bool, true, false, ltb, eqb, length, get_or, Option, Some, None}
 use Rattle.lists.specs.Choice.{pick}
-use Rattle.number.specs.declared.Number.{Number}
-use Rattle.number.specs.declared.Number.TheVariants.{Value, Malformed}
 use Rattle.number.specs.Number.{space, minus, digit_zero, Text, Spaces, Minus, Digits, most_of}
 
 abbrev pub digit_nine : ℕ
@@ -46,17 +44,17 @@ unfoldable pub scan_from : ℕ → Scan → List ℕ → Scan
 scan_from greatest scan [] = scan
 scan_from greatest scan (b ∷ bs) = scan_from greatest (step_of greatest scan b) bs
 
-abbrev pub text_value : Text → Number
-text_value Spaces = Malformed
-text_value Minus = Malformed
-text_value (Digits negative m) = Value (word_of negative m)
+abbrev pub text_value : Text → Option ℕ
+text_value Spaces = None
+text_value Minus = None
+text_value (Digits negative m) = Some (word_of negative m)
 
-abbrev pub value_of : Scan → Number
+abbrev pub value_of : Scan → Option ℕ
 value_of (Prefix text) = text_value text
-value_of Wrong = Malformed
+value_of Wrong = None
 
 -- what columns hold
-unfoldable pub number_of : ℕ → List ℕ → Number
+unfoldable pub number_of : ℕ → List ℕ → Option ℕ
 number_of greatest columns = value_of (scan_from greatest (Prefix Spaces) columns)
 
 -- the first k columns are spaces

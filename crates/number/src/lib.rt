@@ -20,13 +20,6 @@ const NINE: u8 = 57;
 // The first word of a negative number.
 const FIRST_NEGATIVE: u64 = 9223372036854775808;
 
-// What columns hold.
-#[derive(Clone, Copy)]
-pub enum Number {
-    Value(u64),
-    Malformed,
-}
-
 // The largest magnitude in range.
 fn most(greatest: u64, negative: bool) -> u64
     requires { greatest < 2 ^ 63 }
@@ -58,7 +51,7 @@ fn word(negative: bool, magnitude: u64) -> u64
 }
 
 // The number whose digits are the columns from at on. The first of them is no zero.
-fn digits(greatest: u64, negative: bool, columns: &[u8], at: usize) -> Number
+fn digits(greatest: u64, negative: bool, columns: &[u8], at: usize) -> Option<u64>
     requires { (greatest < 2 ^ 63) × (at < length columns.now) × (get_or columns.now at 0 ≡ digit_zero → ⊥) }
     ensures { result ≡ value_of (scan_from greatest (digit_of greatest negative 0 (get_or columns.now at 0)) (drop (at + 1) columns.now)) }
 {
@@ -66,45 +59,45 @@ fn digits(greatest: u64, negative: bool, columns: &[u8], at: usize) -> Number
     let mut m = 0;
     for &b in &columns[at..] {
         if (b < ZERO) | (NINE < b) {
-            return Number::Malformed;
+            return None;
         }
         // tested before the product, which then fits a word
         if most / 10 < m {
-            return Number::Malformed;
+            return None;
         }
         m = m * 10 + ((b - ZERO) as u64);
         if most < m {
-            return Number::Malformed;
+            return None;
         }
     }
-    Number::Value(word(negative, m))
+    Some(word(negative, m))
 }
 
 // The number whose minus stands before the columns from at on. Neither a minus zero nor a leading zero follows it.
-fn after_minus(greatest: u64, columns: &[u8], at: usize) -> Number
+fn after_minus(greatest: u64, columns: &[u8], at: usize) -> Option<u64>
     requires { greatest < 2 ^ 63 }
     ensures { result ≡ value_of (scan_from greatest (Prefix Minus) (drop at columns.now)) }
 {
     if columns.len() <= at {
-        return Number::Malformed;
+        return None;
     }
     if columns[at] == ZERO {
-        return Number::Malformed;
+        return None;
     }
     digits(greatest, true, columns, at)
 }
 
 // The number whose first byte after spaces is the column at. No digit follows a leading zero.
-fn after_spaces(greatest: u64, columns: &[u8], at: usize) -> Number
+fn after_spaces(greatest: u64, columns: &[u8], at: usize) -> Option<u64>
     requires { (greatest < 2 ^ 63) × (at < length columns.now) × (get_or columns.now at 0 ≡ space → ⊥) }
     ensures { result ≡ value_of (scan_from greatest (Prefix Spaces) (drop at columns.now)) }
 {
     let b = columns[at];
     if b == ZERO {
         if at + 1 < columns.len() {
-            return Number::Malformed;
+            return None;
         }
-        return Number::Value(0);
+        return Some(0);
     }
     if b == MINUS {
         return after_minus(greatest, columns, at + 1);
@@ -146,7 +139,7 @@ fn blank_start(columns: &[u8]) -> usize
 }
 
 // The number that the columns hold, where those before at are spaces.
-fn read_from(greatest: u64, columns: &[u8], at: usize) -> Number
+fn read_from(greatest: u64, columns: &[u8], at: usize) -> Option<u64>
     requires { (greatest < 2 ^ 63) × BlankTo at columns.now }
     ensures { result ≡ number_of greatest columns.now }
 {
@@ -155,25 +148,25 @@ fn read_from(greatest: u64, columns: &[u8], at: usize) -> Number
             return after_spaces(greatest, columns, i);
         }
     }
-    Number::Malformed
+    None
 }
 
 // The number that the last column holds, where all before it are spaces.
-fn read_last(greatest: u64, b: u8) -> Number
+fn read_last(greatest: u64, b: u8) -> Option<u64>
     ensures { result ≡ value_of (after_spaces greatest b) }
 {
     if (b < ZERO) | (NINE < b) {
-        return Number::Malformed;
+        return None;
     }
     let m = (b - ZERO) as u64;
     if greatest < m {
-        return Number::Malformed;
+        return None;
     }
-    Number::Value(m)
+    Some(m)
 }
 
 // The number that the columns hold, all of them: few columns, as a tag's, or many, of which mostly the last one alone is no space.
-pub fn read_number(greatest: u64, columns: &[u8]) -> Number
+pub fn read_number(greatest: u64, columns: &[u8]) -> Option<u64>
     requires { greatest < 2 ^ 63 }
     ensures { result ≡ number_of greatest columns.now }
 {

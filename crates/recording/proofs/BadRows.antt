@@ -13,8 +13,8 @@ use Rattle.lists.specs.All.{all_nil, all_cons}
 use Rattle.lists.proofs.All.{all_head}
 use Rattle.row.specs.Row.{width, row_bytes}
 use Rattle.row.specs.declared.Row.{Row}
-use Rattle.row.specs.declared.Line.{Line}
-use Rattle.row.specs.declared.Line.TheVariants.{Whole, Malformed}
+use Rattle.row.specs.Reading.{Line}
+use Rattle.std.specs.Prelude.{Some, None}
 use Rattle.formula.specs.Values.{whole_number}
 use Rattle.formula.proofs.Truth.{test_true, true_test}
 use Rattle.table.specs.Rows.{Rows}
@@ -32,7 +32,7 @@ pub record Starts (good : Row → Bool) (ls : List Line) : Type 0 where
   pub row : Row
   pub others : List Line
   pub passes : T (good row)
-  pub lines_are_of : ls ≡ Whole row ∷ others
+  pub lines_are_of : ls ≡ Some row ∷ others
 
 -- there is a row, and it is torn, in no row form or unexpected
 abbrev pub Bad : (Row → Bool) → List Line → Type 0
@@ -42,17 +42,17 @@ Bad good ls = ¬ (ls ≡ []) × ¬ Starts good ls
 abbrev pub BadBytes : Rows → (Row → Bool) → List ℕ → Type 0
 BadBytes t good bytes = ¬ (bytes ≡ []) × ¬ Begins t good bytes
 
-whole_is : {q r : Row} → Whole q ≡ Whole r → q ≡ r
-whole_is {q} e = ap (λ (l : Line). elim l [ Whole r ↦ r | Malformed ↦ q ]) e
+whole_is : {q r : Row} → Some q ≡ Some r → q ≡ r
+whole_is {q} e = ap (λ (l : Line). elim l [ Some r ↦ r | None ↦ q ]) e
 
 module _ (good : Row → Bool) where
-  pub bad_malformed : (ls : List Line) → Bad good (Malformed ∷ ls)
+  pub bad_malformed : (ls : List Line) → Bad good (None ∷ ls)
   bad_malformed ls = (λ e. nothing_more (sym e), λ s. whole_never (head_is s.lines_are_of))
 
-  pub bad_whole : (r : Row) (ls : List Line) → good r ≡ false → Bad good (Whole r ∷ ls)
+  pub bad_whole : (r : Row) (ls : List Line) → good r ≡ false → Bad good (Some r ∷ ls)
   bad_whole r ls g = (λ e. nothing_more (sym e), λ s. subst T (ap good (sym (whole_is (head_is s.lines_are_of))) ∙ g) s.passes)
 
-  pub whole_bad : (r : Row) (ls : List Line) → Bad good (Whole r ∷ ls) → good r ≡ false
+  pub whole_bad : (r : Row) (ls : List Line) → Bad good (Some r ∷ ls) → good r ≡ false
   whole_bad r ls (some, b) = go (good r) refl
     where
       go : (g : Bool) → good r ≡ g → good r ≡ false
@@ -114,7 +114,7 @@ module _ (t : Rows) (e : ℕ) where
 
   -- at a later one
   stopped_later : (x : ℕ) (xs : List ℕ) (i : ℕ) (r : Row) (ls : List Line) (vs : Values) (j : ℕ) → is_value_row t x r ≡ true
-      → Stopped xs (i + 1) ls (store t e x (whole_number r.b) vs) j → Stopped (x ∷ xs) i (Whole r ∷ ls) vs j
+      → Stopped xs (i + 1) ls (store t e x (whole_number r.b) vs) j → Stopped (x ∷ xs) i (Some r ∷ ls) vs j
   unfolding read_values
   stopped_later x xs i r ls vs j g s = record {
     before = x ∷ s.before;
@@ -131,16 +131,16 @@ module _ (t : Rows) (e : ℕ) where
   unfolding read_values
   read_stops [] i ls vs j h = absurd (bad_never (sym h))
   read_stops (x ∷ xs) i [] vs j h = stopped_here x xs i [] vs j (inl (refl, sym (bad_is h)))
-  read_stops (x ∷ xs) i (Malformed ∷ ls) vs j h = stopped_here x xs i (Malformed ∷ ls) vs j (inr (bad_malformed (is_value_row t x) ls, sym (bad_is h)))
-  read_stops (x ∷ xs) i (Whole r ∷ ls) vs j h = go (is_value_row t x r) refl h (read_stops xs (i + 1) ls (store t e x (whole_number r.b) vs) j)
+  read_stops (x ∷ xs) i (None ∷ ls) vs j h = stopped_here x xs i (None ∷ ls) vs j (inr (bad_malformed (is_value_row t x) ls, sym (bad_is h)))
+  read_stops (x ∷ xs) i (Some r ∷ ls) vs j h = go (is_value_row t x r) refl h (read_stops xs (i + 1) ls (store t e x (whole_number r.b) vs) j)
     where
       us : Values
       us = store t e x (whole_number r.b) vs
 
       go : (b : Bool) → is_value_row t x r ≡ b → pick b (read_values t e xs (i + 1) ls us) (bad i) ≡ bad j
-          → (read_values t e xs (i + 1) ls us ≡ bad j → Stopped xs (i + 1) ls us j) → Stopped (x ∷ xs) i (Whole r ∷ ls) vs j
+          → (read_values t e xs (i + 1) ls us ≡ bad j → Stopped xs (i + 1) ls us j) → Stopped (x ∷ xs) i (Some r ∷ ls) vs j
       go true g h rest = stopped_later x xs i r ls vs j g (rest h)
-      go false g h rest = stopped_here x xs i (Whole r ∷ ls) vs j (inr (bad_whole (is_value_row t x) r ls g, sym (bad_is h)))
+      go false g h rest = stopped_here x xs i (Some r ∷ ls) vs j (inr (bad_whole (is_value_row t x) r ls g, sym (bad_is h)))
 
   -- the other way round: reading goes on after the rows that were read
   read_on_lem : (xs ys : List ℕ) (i : ℕ) (ls : List Line) (vs ws : Values) (rest : List Line) → read_values t e xs i ls vs ≡ found ws rest
@@ -164,8 +164,8 @@ module _ (t : Rows) (e : ℕ) where
     where
       go : (rest : List Line) → Bad (is_value_row t y) rest → read_values t e (y ∷ ys) i rest vs ≡ bad i
       go [] b = absurd (b.0 refl)
-      go (Malformed ∷ ls) b = refl
-      go (Whole r ∷ ls) b = ap (λ g. pick g (read_values t e ys (i + 1) ls (store t e y (whole_number r.b) vs)) (bad i)) (whole_bad (is_value_row t y) r ls b)
+      go (None ∷ ls) b = refl
+      go (Some r ∷ ls) b = ap (λ g. pick g (read_values t e ys (i + 1) ls (store t e y (whole_number r.b) vs)) (bad i)) (whole_bad (is_value_row t y) r ls b)
 
   pub stops_read : (xs : List ℕ) (i : ℕ) (ls : List Line) (vs : Values) (j : ℕ) → Stopped xs i ls vs j → read_values t e xs i ls vs ≡ bad j
   stops_read xs i ls vs j s =

@@ -9,9 +9,8 @@ use lib.ListN.{length, take, drop}
 use Rattle.std.specs.Prelude.{Result, Err}
 use Rattle.lists.specs.Choice.{pick}
 use Rattle.row.specs.Row.{greatest, width, row_length}
-use Rattle.row.specs.Reading.{line_at}
-use Rattle.row.specs.declared.Line.{Line}
-use Rattle.row.specs.declared.Line.TheVariants.{Whole, Malformed}
+use Rattle.row.specs.Reading.{line_at, Line}
+use Rattle.std.specs.Prelude.{Some, None}
 use Rattle.formula.specs.Values.{whole_number}
 use Rattle.table.specs.Rows.{Rows}
 use Rattle.rules.specs.declared.Refusal.{Refusal}
@@ -31,7 +30,7 @@ to_few (suc most) bytes = go (eqb (length bytes) 0) (ltb (length bytes) (row_len
     rest : List Line
     rest = lines_to most (drop (row_length width) bytes)
 
-    go : (a b : Bool) → length rest ≤ most → length (pick a [] (pick b (Malformed ∷ []) (line_at greatest width (take (row_length width) bytes) ∷ rest))) ≤ suc most
+    go : (a b : Bool) → length rest ≤ most → length (pick a [] (pick b (None ∷ []) (line_at greatest width (take (row_length width) bytes) ∷ rest))) ≤ suc most
     go true b h = omega arith
     go false true h = omega arith
     go false false h = omega (arith, h)
@@ -62,8 +61,8 @@ module _ (t : Rows) where
   replay_enough zero g n i ls vs h k = absurd (omega (arith, h))
   replay_enough (suc f) zero n i ls vs h k = absurd (omega (arith, k))
   replay_enough (suc f) (suc g) n i [] vs h k = refl
-  replay_enough (suc f) (suc g) n i (Malformed ∷ ls) vs h k = refl
-  replay_enough (suc f) (suc g) n i (Whole r ∷ ls) vs h k =
+  replay_enough (suc f) (suc g) n i (None ∷ ls) vs h k = refl
+  replay_enough (suc f) (suc g) n i (Some r ∷ ls) vs h k =
       ap (λ s. pick (is_step_row t (eqb n 0) r) s (Err (refused log_fault i)))
       (judged_same i r.a (read_values t r.a (logged t r.a) (i + 1) ls vs) _ _ (λ ws rest q.
       let s = read_count r.a (logged t r.a) (i + 1) ls vs ws rest q in

@@ -12,10 +12,9 @@ use lib.Seq.{take_at, drop_at}
 use Rattle.lists.specs.All.{All, all_nil, all_cons}
 use Rattle.lists.proofs.All.{all_head, all_tail}
 use Rattle.row.specs.Row.{greatest, width, row_length, row_bytes, Writable}
-use Rattle.row.specs.Reading.{line_at}
+use Rattle.row.specs.Reading.{line_at, Line}
 use Rattle.row.specs.declared.Row.{Row}
-use Rattle.row.specs.declared.Line.{Line}
-use Rattle.row.specs.declared.Line.TheVariants.{Whole, Malformed}
+use Rattle.std.specs.Prelude.{Some, None}
 use Rattle.row.proofs.Form.{row_length_lem, row_form, written_row_reads}
 use Rattle.recording.specs.Lines.{lines_to, lines}
 use Rattle.recording.proofs.Values.{LineFormed}
@@ -29,7 +28,7 @@ module _ (most : ℕ) (bytes : List ℕ) where
   unfolding lines_to
   to_none h = simp (eq-eqb (length bytes) 0 h)
 
-  to_torn : 0 < length bytes → length bytes < row_length width → lines_to (suc most) bytes ≡ Malformed ∷ []
+  to_torn : 0 < length bytes → length bytes < row_length width → lines_to (suc most) bytes ≡ None ∷ []
   unfolding lines_to
   to_torn h l = simp (ne_eqb (length bytes) 0 (λ e. omega (arith, h)), lt-ltb (length bytes) (row_length width) l)
 
@@ -71,7 +70,7 @@ lines_to_lem bytes = to_enough (length bytes) (suc (length bytes)) bytes (omega 
 pub lines_none : (bytes : List ℕ) → length bytes ≡ 0 → lines bytes ≡ []
 lines_none bytes h = lines_to_lem bytes ∙ to_none (length bytes) bytes h
 
-pub lines_torn : (bytes : List ℕ) → 0 < length bytes → length bytes < row_length width → lines bytes ≡ Malformed ∷ []
+pub lines_torn : (bytes : List ℕ) → 0 < length bytes → length bytes < row_length width → lines bytes ≡ None ∷ []
 lines_torn bytes h l = lines_to_lem bytes ∙ to_torn (length bytes) bytes h l
 
 pub lines_whole : (bytes : List ℕ) → row_length width ≤ length bytes → lines bytes ≡ line_at greatest width (take (row_length width) bytes) ∷ lines (drop (row_length width) bytes)
@@ -88,8 +87,8 @@ row_taken bytes l = length-take (row_length width) bytes ∙ omega arith
 
 -- a row that is read is in the row form
 line_formed : (bytes : List ℕ) (l : Line) → length bytes ≡ row_length width → line_at greatest width bytes ≡ l → LineFormed l
-line_formed bytes (Whole r) h e = (row_form greatest width small bytes r h e).0
-line_formed bytes Malformed h e = tt
+line_formed bytes (Some r) h e = (row_form greatest width small bytes r h e).0
+line_formed bytes None h e = tt
 
 to_formed : (most : ℕ) (bytes : List ℕ) → All LineFormed (lines_to most bytes)
 unfolding lines_to
@@ -115,8 +114,8 @@ head_is {l} e = ap (λ xs. get_or xs 0 l) e
 pub tail_is : {l m : Line} {ls ms : List Line} → l ∷ ls ≡ m ∷ ms → ls ≡ ms
 tail_is e = ap (drop 1) e
 
-pub whole_never : {r : Row} → Malformed ≡ Whole r → ⊥
-whole_never e = true≢false (ap (λ (l : Line). elim l [ Whole r ↦ false | Malformed ↦ true ]) e)
+pub whole_never : {r : Row} → None ≡ Some r → ⊥
+whole_never e = true≢false (ap (λ (l : Line). elim l [ Some r ↦ false | None ↦ true ]) e)
 
 -- a run without rows is empty
 pub lines_nothing : (bytes : List ℕ) → lines bytes ≡ [] → bytes ≡ []
@@ -132,7 +131,7 @@ pub record Opens (rs : List Row) (rest : List Line) (bytes : List ℕ) : Type 0 
   pub in_form : All (Writable greatest width) rs
 
 -- whole rows that a run begins with are their written forms
-pub lines_open : (rs : List Row) (rest : List Line) (bytes : List ℕ) → lines bytes ≡ map Whole rs ++ rest → Opens rs rest bytes
+pub lines_open : (rs : List Row) (rest : List Line) (bytes : List ℕ) → lines bytes ≡ map Some rs ++ rest → Opens rs rest bytes
 unfolding flat_map
 lines_open [] rest bytes e = record { more = bytes; bytes_are = refl; lines_are_of = e; in_form = all_nil }
 lines_open (r ∷ rs) rest bytes e =
@@ -149,7 +148,7 @@ lines_open (r ∷ rs) rest bytes e =
     })
 
 -- and the written forms of rows that a run begins with are these rows
-pub open_lines : (rs : List Row) (more : List ℕ) → All (Writable greatest width) rs → lines (flat_map (row_bytes width) rs ++ more) ≡ map Whole rs ++ lines more
+pub open_lines : (rs : List Row) (more : List ℕ) → All (Writable greatest width) rs → lines (flat_map (row_bytes width) rs ++ more) ≡ map Some rs ++ lines more
 unfolding flat_map
 open_lines [] more w = refl
 open_lines (r ∷ rs) more w =
@@ -165,11 +164,11 @@ abbrev Written : List ℕ → List Row → Type 0
 Written bytes rs = (bytes ≡ flat_map (row_bytes width) rs) × All (Writable greatest width) rs
 
 -- a run of whole rows is their written forms
-pub lines_written : (rs : List Row) (bytes : List ℕ) → lines bytes ≡ map Whole rs → Written bytes rs
+pub lines_written : (rs : List Row) (bytes : List ℕ) → lines bytes ≡ map Some rs → Written bytes rs
 lines_written rs bytes e =
-    let o = lines_open rs [] bytes (e ∙ sym (append-nil (map Whole rs))) in
+    let o = lines_open rs [] bytes (e ∙ sym (append-nil (map Some rs))) in
     (o.bytes_are ∙ ap (λ more. flat_map (row_bytes width) rs ++ more) (lines_nothing o.more o.lines_are_of) ∙ append-nil (flat_map (row_bytes width) rs), o.in_form)
 
-pub written_lines : (rs : List Row) → All (Writable greatest width) rs → lines (flat_map (row_bytes width) rs) ≡ map Whole rs
+pub written_lines : (rs : List Row) → All (Writable greatest width) rs → lines (flat_map (row_bytes width) rs) ≡ map Some rs
 written_lines rs w =
-    ap lines (sym (append-nil (flat_map (row_bytes width) rs))) ∙ open_lines rs [] w ∙ ap (λ ls. map Whole rs ++ ls) (lines_none [] refl) ∙ append-nil (map Whole rs)
+    ap lines (sym (append-nil (flat_map (row_bytes width) rs))) ∙ open_lines rs [] w ∙ ap (λ ls. map Some rs ++ ls) (lines_none [] refl) ∙ append-nil (map Some rs)

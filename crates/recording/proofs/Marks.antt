@@ -13,7 +13,7 @@ use Rattle.lists.proofs.All.{all_join, first_in}
 use Rattle.lists.proofs.Flat.{flat_join}
 use Rattle.row.specs.Row.{greatest, width, row_bytes, Writable}
 use Rattle.row.specs.declared.Row.{Row}
-use Rattle.row.specs.declared.Line.{Line}
+use Rattle.row.specs.Reading.{Line}
 use Rattle.formula.specs.Values.{AnyValue}
 use Rattle.formula.specs.Evaluate.{Env}
 use Rattle.table.specs.Rows.{Rows}

@@ -15,8 +15,8 @@ use Rattle.lists.specs.All.{All, In}
 use Rattle.lists.proofs.All.{all_tail, all_left, all_unmap, map_same}
 use Rattle.lists.proofs.Distinct.{Distinct, pairwise_left}
 use Rattle.row.specs.declared.Row.{Row}
-use Rattle.row.specs.declared.Line.{Line}
-use Rattle.row.specs.declared.Line.TheVariants.{Whole, Malformed}
+use Rattle.row.specs.Reading.{Line}
+use Rattle.std.specs.Prelude.{Some, None}
 use Rattle.formula.proofs.Truth.{test_true, true_test}
 use Rattle.answer.specs.Stored.{stored}
 use Rattle.table.specs.Rows.{Rows}
@@ -59,8 +59,8 @@ module _ (t : Rows) where
     bad_row_refused : (ls : List Line) → Bad (is_step_row t (eqb n 0)) ls → replay_from t (suc most) n i ls vs ≡ Err (refused log_fault i)
     unfolding replay_from
     bad_row_refused [] b = absurd (b.0 refl)
-    bad_row_refused (Malformed ∷ ls) b = refl
-    bad_row_refused (Whole r ∷ ls) b =
+    bad_row_refused (None ∷ ls) b = refl
+    bad_row_refused (Some r ∷ ls) b =
         let next : List Line → Values → Result ℕ rules.Refusal = λ rest ws. replay_from t most (n + 1) (i + 1 + length (logged t r.a)) rest ws in
         ap (λ g. pick g (judged t i r.a (read_values t r.a (logged t r.a) (i + 1) ls vs) next) (Err (refused log_fault i))) (whole_bad (is_step_row t (eqb n 0)) r ls b)
 
@@ -68,36 +68,36 @@ module _ (t : Rows) where
       abbrev next : List Line → Values → Result ℕ rules.Refusal
       next rest ws = replay_from t most (n + 1) (i + 1 + length (logged t r.a)) rest ws
 
-      step_judged : (f : Found) → read_values t r.a (logged t r.a) (i + 1) ls vs ≡ f → replay_from t (suc most) n i (Whole r ∷ ls) vs ≡ judged t i r.a f next
+      step_judged : (f : Found) → read_values t r.a (logged t r.a) (i + 1) ls vs ≡ f → replay_from t (suc most) n i (Some r ∷ ls) vs ≡ judged t i r.a f next
       unfolding replay_from
       step_judged f h =
           ap (λ b. pick b (judged t i r.a (read_values t r.a (logged t r.a) (i + 1) ls vs) next) (Err (refused log_fault i))) (test_true (is_step_row t (eqb n 0) r) good)
           ∙ ap (λ (f : Found). judged t i r.a f next) h
 
       module _ (ws : Values) (rest : List Line) (reads : read_values t r.a (logged t r.a) (i + 1) ls vs ≡ found ws rest) where
-        fault_refused : (m : ℕ) → step_fault t r.a ws.present ws.after ≡ m → ¬ (m ≡ no_fault) → replay_from t (suc most) n i (Whole r ∷ ls) vs ≡ Err (refused m i)
+        fault_refused : (m : ℕ) → step_fault t r.a ws.present ws.after ≡ m → ¬ (m ≡ no_fault) → replay_from t (suc most) n i (Some r ∷ ls) vs ≡ Err (refused m i)
         fault_refused m h z =
             step_judged (found ws rest) reads
             ∙ ap (λ b. pick b (next rest (moved t ws)) (Err (refused (step_fault t r.a ws.present ws.after) i))) (ne_eqb _ no_fault (λ e. z (sym h ∙ e)))
             ∙ ap (λ m. Err (refused m i)) h
 
-        step_goes_on : step_fault t r.a ws.present ws.after ≡ no_fault → replay_from t (suc most) n i (Whole r ∷ ls) vs ≡ next rest (moved t ws)
+        step_goes_on : step_fault t r.a ws.present ws.after ≡ no_fault → replay_from t (suc most) n i (Some r ∷ ls) vs ≡ next rest (moved t ws)
         step_goes_on h =
             step_judged (found ws rest) reads
             ∙ ap (λ b. pick b (next rest (moved t ws)) (Err (refused (step_fault t r.a ws.present ws.after) i))) (eq-eqb _ no_fault h)
 
   -- ---- the bytes of a step, or of its beginning
   begun_lines : {first : Bool} {e : ℕ} {xs : List ℕ} {v : State machine} {more bytes : List ℕ} → Begun t first e xs v more bytes
-      → lines bytes ≡ Whole (step_row_of e) ∷ (map (λ x. Whole (value_row t x (v x))) xs ++ lines more)
+      → lines bytes ≡ Some (step_row_of e) ∷ (map (λ x. Some (value_row t x (v x))) xs ++ lines more)
   begun_lines {e = e} {xs = xs} {v = v} {more = more} b =
       ap lines b.bytes_are ∙ open_lines (beginning t e xs v) more b.in_form
-      ∙ ap (λ ls. Whole (step_row_of e) ∷ (ls ++ lines more)) (map-map Whole (λ x. value_row t x (v x)) xs)
+      ∙ ap (λ ls. Some (step_row_of e) ∷ (ls ++ lines more)) (map-map Some (λ x. value_row t x (v x)) xs)
 
   -- how many rows these are
   pub begun_length : {first : Bool} {e : ℕ} {xs : List ℕ} {v : State machine} {more bytes : List ℕ} → Begun t first e xs v more bytes
       → length (lines bytes) ≡ suc (length xs + length (lines more))
   begun_length {xs = xs} {v = v} {more = more} b =
-      ap length (begun_lines b) ∙ ap suc (length-append (map (λ x. Whole (value_row t x (v x))) xs) (lines more) ∙ ap (λ n. n + length (lines more)) (length-map xs _))
+      ap length (begun_lines b) ∙ ap suc (length-append (map (λ x. Some (value_row t x (v x))) xs) (lines more) ∙ ap (λ n. n + length (lines more)) (length-map xs _))
 
   -- ---- the values at hand where a step begins: those of the constants and of the state before it, at the initialisation any
   abbrev At : Bool → Values → State machine → State machine → Type 0
@@ -148,19 +148,19 @@ module _ (t : Rows) where
       lines_are_of : lines more ≡ rest
 
     read_opened : (first : Bool) (e : ℕ) (xs ys : List ℕ) (i : ℕ) (ls rest : List Line) (vs ws : Values) (v : State machine) (bytes : List ℕ) → T (is_step_row t first (step_row_of e))
-        → lines bytes ≡ Whole (step_row_of e) ∷ ls → Sized vs → logged t e ≡ xs ++ ys → read_values t e xs i ls vs ≡ found ws rest → ((x : ℕ) → In x xs → value_at t e ws x ≡ v x)
+        → lines bytes ≡ Some (step_row_of e) ∷ ls → Sized vs → logged t e ≡ xs ++ ys → read_values t e xs i ls vs ≡ found ws rest → ((x : ℕ) → In x xs → value_at t e ws x ≡ v x)
         → Opened first e xs v rest bytes
     read_opened first e xs ys i ls rest vs ws v bytes good h size are reads same =
         let formed = all_tail (subst (All LineFormed) h (lines_formed bytes)) in
         let read = read_rows t e xs i ls vs ws rest size (first_distinct e xs ys are) (first_small e xs ys are) formed reads in
-        let rows = map_same (λ x. Whole (value_row t x (value_at t e ws x))) (λ x. Whole (value_row t x (v x))) xs (λ x j. ap (λ v. Whole (value_row t x v)) (same x j)) in
+        let rows = map_same (λ x. Some (value_row t x (value_at t e ws x))) (λ x. Some (value_row t x (v x))) xs (λ x j. ap (λ v. Some (value_row t x v)) (same x j)) in
         let o = lines_open (beginning t e xs v) rest bytes
-        (h ∙ ap (λ ls. Whole (step_row_of e) ∷ ls) (read ∙ ap (λ ls. ls ++ rest) (rows ∙ sym (map-map Whole (λ x. value_row t x (v x)) xs)))) in
+        (h ∙ ap (λ ls. Some (step_row_of e) ∷ ls) (read ∙ ap (λ ls. ls ++ rest) (rows ∙ sym (map-map Some (λ x. value_row t x (v x)) xs)))) in
         record { more = o.more; begun = record { good = good; in_form = o.in_form; bytes_are = o.bytes_are }; lines_are_of = o.lines_are_of }
 
     -- the bytes of a step's beginning are read
     begun_reads : {first : Bool} {e : ℕ} {xs : List ℕ} {v : State machine} {more bytes : List ℕ} (ys : List ℕ) (i : ℕ) (vs : Values) → logged t e ≡ xs ++ ys → Sized vs
-        → Begun t first e xs v more bytes → Reads t e xs i (map (λ x. Whole (value_row t x (v x))) xs ++ lines more) vs (lines more) v
+        → Begun t first e xs v more bytes → Reads t e xs i (map (λ x. Some (value_row t x (v x))) xs ++ lines more) vs (lines more) v
     begun_reads {e = e} {xs = xs} {v = v} {more = more} ys i vs are size b =
         rows_read_lem t e xs i vs (lines more) v size (first_distinct e xs ys are) (first_small e xs ys are) (all_unmap (λ x. value_row t x (v x)) xs (all_tail b.in_form))
 
@@ -182,7 +182,7 @@ module _ (t : Rows) where
           let o = bytes_bad t (is_step_row t first) bytes (subst (λ f. Bad (is_step_row t f) (lines bytes)) is-first b) in
           bad_step o.0 o.1
 
-      module _ (e : ℕ) (ls : List Line) (lines_are : lines bytes ≡ Whole (step_row_of e) ∷ ls) (good : T (is_step_row t (eqb n 0) (step_row_of e))) where
+      module _ (e : ℕ) (ls : List Line) (lines_are : lines bytes ≡ Some (step_row_of e) ∷ ls) (good : T (is_step_row t (eqb n 0) (step_row_of e))) where
         good_row : T (is_step_row t first (step_row_of e))
         good_row = subst (λ f. T (is_step_row t f (step_row_of e))) is-first good
 
@@ -271,17 +271,17 @@ module _ (t : Rows) where
               marked (sym (ap (λ b. pick b (Err (refused log_fault 0)) (Ok (n - 1))) (is-first ∙ f)) ∙ r)
               (subst (λ b. Refusal t b c s i bytes log_fault 0) (sym f) (subst (λ bytes. Refusal t true c s i bytes log_fault 0) (sym none) empty))
           nothing false f = absurd (steps_never (sym r ∙ ap (λ b. pick b (Err (refused log_fault 0)) (Ok (n - 1))) (is-first ∙ f)))
-      lines_marked (Malformed ∷ ls) h r = marked r (bad_row_marked (subst (Bad (is_step_row t (eqb n 0))) (sym h) (bad_malformed (is_step_row t (eqb n 0)) ls)))
+      lines_marked (None ∷ ls) h r = marked r (bad_row_marked (subst (Bad (is_step_row t (eqb n 0))) (sym h) (bad_malformed (is_step_row t (eqb n 0)) ls)))
       lines_marked (Whole w ∷ ls) h r = by_row (is_step_row t (eqb n 0) w) refl
         where
           by_row : (b : Bool) → is_step_row t (eqb n 0) w ≡ b → Refusal t first c s i bytes number row
           by_row true g =
               let is = (step_row t (eqb n 0) w (true_test _ g)).is_row in
-              step_marked w.a ls (h ∙ ap (λ w. Whole w ∷ ls) is) (subst (λ w. T (is_step_row t (eqb n 0) w)) is (true_test _ g))
-              (ap (λ w. replay_from t (suc most) n i (Whole w ∷ ls) vs) (sym is) ∙ r)
+              step_marked w.a ls (h ∙ ap (λ w. Some w ∷ ls) is) (subst (λ w. T (is_step_row t (eqb n 0) w)) is (true_test _ g))
+              (ap (λ w. replay_from t (suc most) n i (Some w ∷ ls) vs) (sym is) ∙ r)
           by_row false g =
               let b = bad_whole (is_step_row t (eqb n 0)) w ls g in
-              marked (sym (bad_row_refused most n i vs (Whole w ∷ ls) b) ∙ r) (bad_row_marked (subst (Bad (is_step_row t (eqb n 0))) (sym h) b))
+              marked (sym (bad_row_refused most n i vs (Some w ∷ ls) b) ∙ r) (bad_row_marked (subst (Bad (is_step_row t (eqb n 0))) (sym h) b))
 
     refused_marked : (most : ℕ) → Refuses most
     refused_marked zero first n i bytes vs c s number row is-first enough at r = absurd (omega (arith, enough))
@@ -296,7 +296,7 @@ module _ (t : Rows) where
 
       module _ (e : ℕ) {xs : List ℕ} {v : State machine} {more : List ℕ} (begun : Begun t first e xs v more bytes) where
         abbrev value_lines : List Line
-        value_lines = map (λ x. Whole (value_row t x (v x))) xs ++ lines more
+        value_lines = map (λ x. Some (value_row t x (v x))) xs ++ lines more
 
         row_passes : T (is_step_row t (eqb n 0) (step_row_of e))
         row_passes = subst (λ f. T (is_step_row t f (step_row_of e))) (sym is-first) begun.good

@@ -15,8 +15,8 @@ use Rattle.lists.specs.All.{All, In}
 use Rattle.lists.proofs.All.{all_tail, all_left, all_right, all_unmap, map_same}
 use Rattle.row.specs.Row.{greatest, width, Writable}
 use Rattle.row.specs.declared.Row.{Row}
-use Rattle.row.specs.declared.Line.{Line}
-use Rattle.row.specs.declared.Line.TheVariants.{Whole, Malformed}
+use Rattle.row.specs.Reading.{Line}
+use Rattle.std.specs.Prelude.{Some, None}
 use Rattle.formula.proofs.Truth.{and_split, and_join, true_test, test_true, eq→eqb}
 use Rattle.answer.specs.Stored.{stored}
 use Rattle.table.specs.Rows.{Rows, named, machine_number, class_of, refined_by}
@@ -148,7 +148,7 @@ module _ (t : Rows) where
     fault : step_fault t r.a values.present values.after ≡ no_fault
     next : replay_from t most (n + 1) (i + 1 + length (logged t r.a)) rest (moved t values) ≡ Ok total
 
-  replay_passes : (most n i : ℕ) (r : Row) (ls : List Line) (vs : Values) (total : ℕ) → replay_from t (suc most) n i (Whole r ∷ ls) vs ≡ Ok total → Passed most n i r ls vs total
+  replay_passes : (most n i : ℕ) (r : Row) (ls : List Line) (vs : Values) (total : ℕ) → replay_from t (suc most) n i (Some r ∷ ls) vs ≡ Ok total → Passed most n i r ls vs total
   unfolding replay_from
   replay_passes most n i r ls vs total h = by_row (is_step_row t (eqb n 0) r) refl h
     where
@@ -175,7 +175,7 @@ module _ (t : Rows) where
       by_row false g h = absurd (steps_never h)
 
   -- the other way round
-  passes_replay : (most n i : ℕ) (r : Row) (ls : List Line) (vs : Values) (total : ℕ) → Passed most n i r ls vs total → replay_from t (suc most) n i (Whole r ∷ ls) vs ≡ Ok total
+  passes_replay : (most n i : ℕ) (r : Row) (ls : List Line) (vs : Values) (total : ℕ) → Passed most n i r ls vs total → replay_from t (suc most) n i (Some r ∷ ls) vs ≡ Ok total
   unfolding replay_from
   passes_replay most n i r ls vs total p =
       let e : ℕ = r.a in
@@ -189,9 +189,9 @@ module _ (t : Rows) where
 
   -- ---- the rows of a step
   value_lines_lem : (e : ℕ) (ws : Values) (c q k : State machine) → LoggedAre t e ws c q k
-      → map (λ x. Whole (value_row t x (value_at t e ws x))) (logged t e) ≡ map Whole (map (λ x. value_row t x (logged_value t c q k x)) (logged t e))
+      → map (λ x. Some (value_row t x (value_at t e ws x))) (logged t e) ≡ map Some (map (λ x. value_row t x (logged_value t c q k x)) (logged t e))
   value_lines_lem e ws c q k are =
-      map_same _ _ (logged t e) (λ x i. ap (λ v. Whole (value_row t x v)) (are x i)) ∙ sym (map-map Whole (λ x. value_row t x (logged_value t c q k x)) (logged t e))
+      map_same _ _ (logged t e) (λ x i. ap (λ v. Some (value_row t x v)) (are x i)) ∙ sym (map-map Some (λ x. value_row t x (logged_value t c q k x)) (logged t e))
 
   module _ (ok : Obeys t) (first : Bool) (most n i : ℕ) (r : Row) (ls : List Line) (vs : Values) (total : ℕ) (is-first : eqb n 0 ≡ first) (size : Sized vs)
       (formed : All LineFormed ls) (p : Passed most n i r ls vs total) where
@@ -204,22 +204,22 @@ module _ (t : Rows) where
     passed_size : Sized p.values
     passed_size = read_size t event (logged t event) (i + 1) ls vs p.values p.rest size p.reads
 
-    passed_lines : ls ≡ map (λ x. Whole (value_row t x (value_at t event p.values x))) (logged t event) ++ p.rest
+    passed_lines : ls ≡ map (λ x. Some (value_row t x (value_at t event p.values x))) (logged t event) ++ p.rest
     passed_lines = read_rows t event (logged t event) (i + 1) ls vs p.values p.rest size (logged_distinct t event) (logged_small t ok event) formed p.reads
 
     passed_formed : All LineFormed p.rest
-    passed_formed = all_right (map (λ x. Whole (value_row t x (value_at t event p.values x))) (logged t event)) (subst (All LineFormed) passed_lines formed)
+    passed_formed = all_right (map (λ x. Some (value_row t x (value_at t event p.values x))) (logged t event)) (subst (All LineFormed) passed_lines formed)
 
     -- the step's rows, with what follows them
-    passed_rows : (c q k : State machine) → LoggedAre t event p.values c q k → (rs : List Row) → p.rest ≡ map Whole rs → Whole r ∷ ls ≡ map Whole (step_rows t event c q k ++ rs)
+    passed_rows : (c q k : State machine) → LoggedAre t event p.values c q k → (rs : List Row) → p.rest ≡ map Some rs → Some r ∷ ls ≡ map Some (step_rows t event c q k ++ rs)
     passed_rows c q k are rs h =
-        ap₂ (λ r ls. Whole r ∷ ls) passed_row.is_row
-        (passed_lines ∙ ap₂ ◌++◌ (value_lines_lem event p.values c q k are) h ∙ sym (map-append Whole (map (λ x. value_row t x (logged_value t c q k x)) (logged t event)) rs))
+        ap₂ (λ r ls. Some r ∷ ls) passed_row.is_row
+        (passed_lines ∙ ap₂ ◌++◌ (value_lines_lem event p.values c q k are) h ∙ sym (map-append Some (map (λ x. value_row t x (logged_value t c q k x)) (logged t event)) rs))
 
   -- ---- the steps after the initialisation
   record Rest (c s : State machine) (ls : List Line) (n total : ℕ) : Type 0 where
     steps : List (Taken machine)
-    rows : ls ≡ map Whole (steps_rows t c steps)
+    rows : ls ≡ map Some (steps_rows t c steps)
     follows : Follows machine c s steps
     inside : StepsInside t c s steps
     count : total ≡ n - 1 + length steps
@@ -231,8 +231,8 @@ module _ (t : Rows) where
   replay_rest_lem ok (suc most) n i [] vs c s total more formed ready h =
       let z = ne_eqb n 0 (λ e. omega (arith, more)) in
       record { steps = []; rows = refl; follows = tt; inside = tt; count = sym (steps_are (sym (ap (λ b. pick b (Err (refused log_fault 0)) (Ok (n - 1))) z) ∙ h)) ∙ omega arith }
-  replay_rest_lem ok (suc most) n i (Malformed ∷ ls) vs c s total more formed ready h = absurd (steps_never h)
-  replay_rest_lem ok (suc most) n i (Whole r ∷ ls) vs c s total more formed ready h =
+  replay_rest_lem ok (suc most) n i (None ∷ ls) vs c s total more formed ready h = absurd (steps_never h)
+  replay_rest_lem ok (suc most) n i (Some r ∷ ls) vs c s total more formed ready h =
       let e : ℕ = r.a in
       let p = replay_passes most n i r ls vs total h in
       let later = ne_eqb n 0 (λ e. omega (arith, more)) in
@@ -257,33 +257,33 @@ module _ (t : Rows) where
 
   -- ---- the other way round: the rows of a step are read, and it has no fault
   step_lines : (e : ℕ) (c q k : State machine) (rs : List Row)
-      → map Whole (step_rows t e c q k ++ rs) ≡ Whole (step_row_of e) ∷ (map (λ x. Whole (value_row t x (logged_value t c q k x))) (logged t e) ++ map Whole rs)
+      → map Some (step_rows t e c q k ++ rs) ≡ Some (step_row_of e) ∷ (map (λ x. Some (value_row t x (logged_value t c q k x))) (logged t e) ++ map Some rs)
   step_lines e c q k rs =
-      ap (λ ls. Whole (step_row_of e) ∷ ls)
-      (map-append Whole (map (λ x. value_row t x (logged_value t c q k x)) (logged t e)) rs
-      ∙ ap (λ ls. ls ++ map Whole rs) (map-map Whole (λ x. value_row t x (logged_value t c q k x)) (logged t e)))
+      ap (λ ls. Some (step_row_of e) ∷ ls)
+      (map-append Some (map (λ x. value_row t x (logged_value t c q k x)) (logged t e)) rs
+      ∙ ap (λ ls. ls ++ map Some rs) (map-map Some (λ x. value_row t x (logged_value t c q k x)) (logged t e)))
 
   module _ (ok : Obeys t) (i e : ℕ) (vs : Values) (c q k : State machine) (rs : List Row) (size : Sized vs) (writable : All (Writable greatest width) (step_rows t e c q k ++ rs)) where
     abbrev others : List Line
-    others = map (λ x. Whole (value_row t x (logged_value t c q k x))) (logged t e) ++ map Whole rs
+    others = map (λ x. Some (value_row t x (logged_value t c q k x))) (logged t e) ++ map Some rs
 
-    rows_found : Reads t e (logged t e) (i + 1) others vs (map Whole rs) (logged_value t c q k)
+    rows_found : Reads t e (logged t e) (i + 1) others vs (map Some rs) (logged_value t c q k)
     rows_found =
-        rows_read_lem t e (logged t e) (i + 1) vs (map Whole rs) (logged_value t c q k) size (logged_distinct t e) (logged_small t ok e)
+        rows_read_lem t e (logged t e) (i + 1) vs (map Some rs) (logged_value t c q k) size (logged_distinct t e) (logged_small t ok e)
         (all_unmap (λ x. value_row t x (logged_value t c q k x)) (logged t e) (all_tail (all_left (step_rows t e c q k) rs writable)))
 
     rows_size : Sized rows_found.values
-    rows_size = read_size t e (logged t e) (i + 1) others vs rows_found.values (map Whole rs) size rows_found.reads
+    rows_size = read_size t e (logged t e) (i + 1) others vs rows_found.values (map Some rs) size rows_found.reads
 
     module _ (most n : ℕ) (s : State machine) (total : ℕ) (event : T (named t 40 e)) (concrete : machine_number t e ≡ 2) (initial : is_initial t e ≡ eqb n 0) where
       rows_pass : Held t e rows_found.values.present rows_found.values.after c s q k → Allowed t (machine.role e) e c s q k
-          → replay_from t most (n + 1) (i + 1 + length (logged t e)) (map Whole rs) (moved t rows_found.values) ≡ Ok total
-          → replay_from t (suc most) n i (map Whole (step_rows t e c q k ++ rs)) vs ≡ Ok total
+          → replay_from t most (n + 1) (i + 1 + length (logged t e)) (map Some rs) (moved t rows_found.values) ≡ Ok total
+          → replay_from t (suc most) n i (map Some (step_rows t e c q k ++ rs)) vs ≡ Ok total
       rows_pass held allowed next =
           ap (λ ls. replay_from t (suc most) n i ls vs) (step_lines e c q k rs)
           ∙ passes_replay most n i (step_row_of e) others vs total (record {
             values = rows_found.values;
-            rest = map Whole rs;
+            rest = map Some rs;
             good = true_test (is_step_row t (eqb n 0) (step_row_of e)) (row_step (eqb n 0) e event concrete initial);
             reads = rows_found.reads;
             fault = allowed_fault t ok e event concrete rows_found.values.present rows_found.values.after c s q k held allowed;
@@ -292,7 +292,7 @@ module _ (t : Rows) where
 
   rest_replays : Obeys t → (ss : List (Taken machine)) (most n i : ℕ) (vs : Values) (c s : State machine) → 0 < n → length ss < most → Ready t vs c s
       → Follows machine c s ss → StepsInside t c s ss → All (Writable greatest width) (steps_rows t c ss)
-      → replay_from t most n i (map Whole (steps_rows t c ss)) vs ≡ Ok (n - 1 + length ss)
+      → replay_from t most n i (map Some (steps_rows t c ss)) vs ≡ Ok (n - 1 + length ss)
   unfolding replay_from flat_map
   rest_replays ok ss zero n i vs c s more few ready f g w = absurd (omega (arith, few))
   rest_replays ok [] (suc most) n i vs c s more few ready f g w =
@@ -307,7 +307,7 @@ module _ (t : Rows) where
       let initial : is_initial t e ≡ eqb n 0 = role.1 ∙ sym (ne_eqb n 0 (λ e. omega (arith, more))) in
       let found = rows_found ok i e vs c q k rs ready.size w in
       let size = rows_size ok i e vs c q k rs ready.size w in
-      let held = held_later t ok e found.values c q k found.are role.1 s (i + 1) (others ok i e vs c q k rs ready.size w) (map Whole rs) vs ready found.reads in
+      let held = held_later t ok e found.values c q k found.are role.1 s (i + 1) (others ok i e vs c q k rs ready.size w) (map Some rs) vs ready found.reads in
       let next = rest_replays ok ss most (n + 1) (i + 1 + length (logged t e)) (moved t found.values) c k (omega arith) (omega (arith, few)) (ready_next t ok e found.values c s q k size held)
       f.3 g.1 (all_right (step_rows t e c q k) w) in
       rows_pass ok i e vs c q k rs ready.size w most n s (n - 1 + suc (length ss)) event role.0 initial held
@@ -322,7 +322,7 @@ module _ (t : Rows) where
   RunOf run n = (r : Recorded t run) × Inside t r × (length r.steps ≡ n)
 
   -- the initialisation, and what follows it
-  first_recorded : Obeys t → (run : List ℕ) (n : ℕ) (r : Row) (ls : List Line) → lines run ≡ Whole r ∷ ls → Passed (suc (length ls)) 0 1 r ls no_values n → RunOf run n
+  first_recorded : Obeys t → (run : List ℕ) (n : ℕ) (r : Row) (ls : List Line) → lines run ≡ Some r ∷ ls → Passed (suc (length ls)) 0 1 r ls no_values n → RunOf run n
   first_recorded ok run n r ls e p =
       let formed = subst (All LineFormed) e (lines_formed run) in
       let event : ℕ = r.a in
@@ -366,8 +366,8 @@ module _ (t : Rows) where
     where
       go : (ls : List Line) → lines run ≡ ls → replay_from t (suc (length ls)) 0 1 ls no_values ≡ Ok n → RunOf run n
       go [] e h = absurd (steps_never h)
-      go (Malformed ∷ ls) e h = absurd (steps_never h)
-      go (Whole r ∷ ls) e h = first_recorded ok run n r ls e (replay_passes (suc (length ls)) 0 1 r ls no_values n h)
+      go (None ∷ ls) e h = absurd (steps_never h)
+      go (Some r ∷ ls) e h = first_recorded ok run n r ls e (replay_passes (suc (length ls)) 0 1 r ls no_values n h)
 
   -- each step has a row
   steps_few : (c : State machine) (ss : List (Taken machine)) → length ss ≤ length (steps_rows t c ss)
@@ -379,10 +379,10 @@ module _ (t : Rows) where
       let h = steps_few c ss in
       omega (arith, e, h)
 
-  rows_length : (e : ℕ) (c q k : State machine) (rs : List Row) → suc (length rs) ≤ length (map Whole (step_rows t e c q k ++ rs))
+  rows_length : (e : ℕ) (c q k : State machine) (rs : List Row) → suc (length rs) ≤ length (map Some (step_rows t e c q k ++ rs))
   rows_length e c q k rs =
       let values : List Row = map (λ x. value_row t x (logged_value t c q k x)) (logged t e) in
-      let m = length-map (step_rows t e c q k ++ rs) Whole in
+      let m = length-map (step_rows t e c q k ++ rs) Some in
       let a = length-append values rs in
       omega (arith, m, a)
 
@@ -394,10 +394,10 @@ module _ (t : Rows) where
       let k : State machine = r.outcome in
       let b : State machine = blank machine in
       let rs : List Row = steps_rows t c r.steps in
-      let ls : lines run ≡ map Whole (run_rows t e c k r.steps) = ap lines r.written ∙ written_lines (run_rows t e c k r.steps) r.in_form in
+      let ls : lines run ≡ map Some (run_rows t e c k r.steps) = ap lines r.written ∙ written_lines (run_rows t e c k r.steps) r.in_form in
       let event = of_event_lem t e r.is_event in
       let role = role_first ok e r.matched event r.is_initialisation in
-      let most : ℕ = length (map Whole (run_rows t e c k r.steps)) in
+      let most : ℕ = length (map Some (run_rows t e c k r.steps)) in
       let found = rows_found ok 1 e no_values c b k rs no_values_lem r.in_form in
       let size = rows_size ok 1 e no_values c b k rs no_values_lem r.in_form in
       let held = held_first t ok e found.values c b k found.are role.1 b in

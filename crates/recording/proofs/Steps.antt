@@ -14,7 +14,7 @@ use Rattle.lists.specs.Below.{numbers}
 use Rattle.lists.proofs.All.{all_in}
 use Rattle.lists.proofs.Below.{keep_in, in_keep, numbers_in, in_numbers}
 use Rattle.lists.proofs.Distinct.{Distinct, pairwise_keep, numbers_distinct}
-use Rattle.row.specs.declared.Line.{Line}
+use Rattle.row.specs.Reading.{Line}
 use Rattle.formula.proofs.Truth.{and_split, and_join, or_cases, or_left, or_right, test_true, true_test, eq→eqb}
 use Rattle.answer.specs.Stored.{stored_value, stored}
 use Rattle.table.specs.Names.{is_variable_of}

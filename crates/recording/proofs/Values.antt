@@ -15,8 +15,8 @@ use Rattle.lists.proofs.All.{all_head, all_tail, all_at, in_nil, in_cons, in_dec
 use Rattle.lists.proofs.Distinct.{Distinct, pairwise_head, pairwise_tail}
 use Rattle.row.specs.Row.{greatest, width, Writable}
 use Rattle.row.specs.declared.Row.{Row}
-use Rattle.row.specs.declared.Line.{Line}
-use Rattle.row.specs.declared.Line.TheVariants.{Whole, Malformed}
+use Rattle.row.specs.Reading.{Line}
+use Rattle.std.specs.Prelude.{Some, None}
 use Rattle.formula.specs.Values.{Value, whole_number}
 use Rattle.formula.proofs.Truth.{and_split, and_join, test_true, true_test, eq→eqb}
 use Rattle.answer.specs.Stored.{stored_value}
@@ -30,8 +30,8 @@ use Rattle.recording.proofs.Words.{stored_word, word_stored, word_logged}
 
 -- a row that stands in the log is in the row form
 abbrev pub LineFormed : Line → Type 0
-LineFormed (Whole r) = Writable greatest width r
-LineFormed Malformed = Unit {0}
+LineFormed (Some r) = Writable greatest width r
+LineFormed None = Unit {0}
 
 -- the lists have a place for each identifier
 pub record Sized (vs : Values) : Type 0 where
@@ -101,7 +101,7 @@ module _ (t : Rows) (e : ℕ) where
   pub record First (x : ℕ) (xs : List ℕ) (i : ℕ) (ls : List Line) (vs ws : Values) (rest : List Line) : Type 0 where
     pub row : Row
     pub others : List Line
-    pub lines : ls ≡ Whole row ∷ others
+    pub lines : ls ≡ Some row ∷ others
     pub good : T (is_value_row t x row)
     pub then : read_values t e xs (i + 1) others (store t e x (whole_number row.b) vs) ≡ found ws rest
 
@@ -109,11 +109,11 @@ module _ (t : Rows) (e : ℕ) where
       → First x xs i ls vs ws rest
   unfolding read_values
   read_first x xs i [] vs ws rest h = absurd (bad_never h)
-  read_first x xs i (Malformed ∷ ls) vs ws rest h = absurd (bad_never h)
-  read_first x xs i (Whole r ∷ ls) vs ws rest h = go (is_value_row t x r) refl h
+  read_first x xs i (None ∷ ls) vs ws rest h = absurd (bad_never h)
+  read_first x xs i (Some r ∷ ls) vs ws rest h = go (is_value_row t x r) refl h
     where
       go : (b : Bool) → is_value_row t x r ≡ b → pick b (read_values t e xs (i + 1) ls (store t e x (whole_number r.b) vs)) (bad i) ≡ found ws rest
-          → First x xs i (Whole r ∷ ls) vs ws rest
+          → First x xs i (Some r ∷ ls) vs ws rest
       go true g h = record { row = r; others = ls; lines = refl; good = true_test _ g; then = h }
       go false g h = absurd (bad_never h)
 
@@ -179,7 +179,7 @@ module _ (t : Rows) (e : ℕ) where
       row_parts r (eqb→eq r.tag 91 p.0) (eqb→eq r.a x q.0) (sym (stored_word (type_of t x) r.b w.b_range.word o.0)) (eqb→eq r.c 0 o.1)
 
   pub read_rows : (xs : List ℕ) (i : ℕ) (ls : List Line) (vs ws : Values) (rest : List Line) → Sized vs → Distinct xs → Small xs → All LineFormed ls
-      → read_values t e xs i ls vs ≡ found ws rest → ls ≡ map (λ x. Whole (value_row t x (value_at ws x))) xs ++ rest
+      → read_values t e xs i ls vs ≡ found ws rest → ls ≡ map (λ x. Some (value_row t x (value_at ws x))) xs ++ rest
   unfolding read_values
   read_rows [] i ls vs ws rest s d l f h = ap lines_of h
     where
@@ -192,7 +192,7 @@ module _ (t : Rows) (e : ℕ) where
       let out : In x xs → ⊥ = λ j. all_at (pairwise_head d) j refl in
       let r : g.row ≡ value_row t x (value_at ws x) =
       row_is x g.row (all_head formed) g.good ∙ ap (λ z. value_row t x (stored_value (machine.type x) z)) (sym (read_row x xs i ls vs ws rest s (all_head l) out g)) in
-      g.lines ∙ ap₂ (λ r ls. Whole r ∷ ls) r
+      g.lines ∙ ap₂ (λ r ls. Some r ∷ ls) r
       (read_rows xs (i + 1) g.others us ws rest (store_size x (whole_number g.row.b) vs s) (pairwise_tail d) (all_tail l) (all_tail formed) g.then)
 
   -- the rows of values are read, and the values are found
@@ -207,7 +207,7 @@ module _ (t : Rows) (e : ℕ) where
       (and_join (is_logged (type_of t x) (logged_word (machine.type x) v)) true (word_logged (type_of t x) v) tt))
 
   pub rows_read_lem : (xs : List ℕ) (i : ℕ) (vs : Values) (rest : List Line) (v : (x : ℕ) → Value (machine.type x)) → Sized vs → Distinct xs → Small xs
-      → All (λ x. Writable greatest width (value_row t x (v x))) xs → Reads xs i (map (λ x. Whole (value_row t x (v x))) xs ++ rest) vs rest v
+      → All (λ x. Writable greatest width (value_row t x (v x))) xs → Reads xs i (map (λ x. Some (value_row t x (v x))) xs ++ rest) vs rest v
   unfolding read_values
   rows_read_lem [] i vs rest v s d l w = record { values = vs; reads = refl; are = λ x j. absurd (in_nil j) }
   rows_read_lem (x ∷ xs) i vs rest v s d l w =
@@ -220,7 +220,7 @@ module _ (t : Rows) (e : ℕ) where
       ∙ word_stored (machine.type x) (v x) (all_head w).b_range.word in
       record {
         values = r.values;
-        reads = ap (λ b. pick b (read_values t e xs (i + 1) (map (λ x. Whole (value_row t x (v x))) xs ++ rest) us) (bad i)) (row_good x (v x)) ∙ r.reads;
+        reads = ap (λ b. pick b (read_values t e xs (i + 1) (map (λ x. Some (value_row t x (v x))) xs ++ rest) us) (bad i)) (row_good x (v x)) ∙ r.reads;
         are = λ y j. either r.values y (in_cons j) own (r.are y);
       }
     where

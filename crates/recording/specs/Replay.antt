@@ -1,8 +1,7 @@
 -- 02, request 5: what replaying a log of a table's concrete machine answers.
-use Rattle.std.specs.Prelude.{Bool, true, false, List, [], ◌∷◌, ℕ, zero, suc, ◌+◌, ◌-◌, eqb, ℤ, pos, length, get_or, set, replicate, Result, Ok, Err}
+use Rattle.std.specs.Prelude.{Bool, true, false, List, [], ◌∷◌, ℕ, zero, suc, ◌+◌, ◌-◌, eqb, ℤ, pos, length, get_or, set, replicate, Result, Ok, Err, Some, None}
 use Rattle.lists.specs.Choice.{pick}
-use Rattle.row.specs.declared.Line.{Line}
-use Rattle.row.specs.declared.Line.TheVariants.{Whole, Malformed}
+use Rattle.row.specs.Reading.{Line}
 use Rattle.formula.specs.Values.{whole_number}
 use Rattle.table.specs.Rows.{Rows}
 use Rattle.machine.specs.Described.{machine_of}
@@ -47,8 +46,8 @@ module _ (t : Rows) where
   unfoldable pub read_values : ℕ → List ℕ → ℕ → List Line → Values → Found
   read_values e [] i ls vs = found vs ls
   read_values e (x ∷ xs) i [] vs = bad 0
-  read_values e (x ∷ xs) i (Malformed ∷ ls) vs = bad i
-  read_values e (x ∷ xs) i (Whole r ∷ ls) vs = pick (is_value_row t x r) (read_values e xs (i + 1) ls (store e x (whole_number r.b) vs)) (bad i)
+  read_values e (x ∷ xs) i (None ∷ ls) vs = bad i
+  read_values e (x ∷ xs) i (Some r ∷ ls) vs = pick (is_value_row t x r) (read_values e xs (i + 1) ls (store e x (whole_number r.b) vs)) (bad i)
 
   abbrev pub moved : Values → Values
   moved vs = move (machine_of t).concrete_variables vs
@@ -65,8 +64,8 @@ module _ (t : Rows) where
   unfoldable pub replay_from : ℕ → ℕ → ℕ → List Line → Values → Result ℕ Refusal
   replay_from zero n i ls vs = Err (refused log_fault 0)
   replay_from (suc most) n i [] vs = pick (eqb n 0) (Err (refused log_fault 0)) (Ok (n - 1))
-  replay_from (suc most) n i (Malformed ∷ ls) vs = Err (refused log_fault i)
-  replay_from (suc most) n i (Whole r ∷ ls) vs =
+  replay_from (suc most) n i (None ∷ ls) vs = Err (refused log_fault i)
+  replay_from (suc most) n i (Some r ∷ ls) vs =
       let e = r.a in
       pick (is_step_row t (eqb n 0) r)
       (judged i e (read_values e (logged t e) (i + 1) ls vs) (λ rest ws. replay_from most (n + 1) (i + 1 + length (logged t e)) rest ws))

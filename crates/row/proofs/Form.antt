@@ -12,12 +12,10 @@ use lib.ListN.{length, take, drop, get_or, length-append, length-take, length-dr
 use lib.Seq.{take_at, drop_at, get_or_at, take-add, take-suc, take_all}
 use Rattle.number.specs.Number.{columns_of, text_of, InRange, Fits}
 use Rattle.number.specs.Reading.{number_of}
-use Rattle.number.specs.declared.Number.{Number}
-use Rattle.number.specs.declared.Number.TheVariants.{Value, Malformed}
+use Rattle.std.specs.Prelude.{Option, Some, None}
 use Rattle.number.proofs.Columns.{written_length}
 use Rattle.number.proofs.Form.{number_form, written_reads}
 use Rattle.row.specs.declared.Row.{Row}
-use Rattle.row.specs.declared.Line.TheVariants as line
 use Rattle.row.specs.Row.{newline, row_bytes, row_length, Writable}
 use Rattle.row.specs.Reading.{joined, line_at}
 
@@ -30,38 +28,38 @@ part_between : (xs vs ys : List ℕ) (a n : ℕ) → length xs ≡ a → length 
 part_between xs vs ys a n la lv = rw drop_at (take_at vs ys n lv)
 
 -- a row is joined from four numbers and its last byte
-pub record Joined (t a b c : Number) (ended : Bool) (r : Row) : Type 0 where
-  tag : t ≡ Value r.tag
-  first : a ≡ Value r.a
-  second : b ≡ Value r.b
-  third : c ≡ Value r.c
+pub record Joined (t a b c : Option ℕ) (ended : Bool) (r : Row) : Type 0 where
+  tag : t ≡ Some r.tag
+  first : a ≡ Some r.a
+  second : b ≡ Some r.b
+  third : c ≡ Some r.c
   last : ended ≡ true
 
-joined_whole : (t a b c : Number) (ended : Bool) (r : Row) → Joined t a b c ended r → joined t a b c ended ≡ line.Whole r
+joined_whole : (t a b c : Option ℕ) (ended : Bool) (r : Row) → Joined t a b c ended r → joined t a b c ended ≡ Some r
 joined_whole t a b c ended r j = rw (j.tag, j.first, j.second, j.third, j.last)
 
-malformed_never : (r : Row) → line.Malformed ≡ line.Whole r → ⊥
+malformed_never : (r : Row) → None ≡ Some r → ⊥
 malformed_never r e = let z : ◌≡◌ {A = ℕ} 0 1 = cc in omega arith
 
-whole_joined : (t a b c : Number) (ended : Bool) (r : Row) → joined t a b c ended ≡ line.Whole r → Joined t a b c ended r
-whole_joined (Value t) (Value a) (Value b) (Value c) true r e =
+whole_joined : (t a b c : Option ℕ) (ended : Bool) (r : Row) → joined t a b c ended ≡ Some r → Joined t a b c ended r
+whole_joined (Some t) (Some a) (Some b) (Some c) true r e =
     let s : record { tag = t; a = a; b = b; c = c } ≡ r = cc in
-    record { tag = ap (λ x. Value x.tag) s; first = ap (λ x. Value x.a) s; second = ap (λ x. Value x.b) s; third = ap (λ x. Value x.c) s; last = refl }
-whole_joined (Value t) (Value a) (Value b) (Value c) false r e = absurd (malformed_never r e)
-whole_joined Malformed a b c ended r e = absurd (malformed_never r e)
-whole_joined (Value t) Malformed b c ended r e = absurd (malformed_never r e)
-whole_joined (Value t) (Value a) Malformed c ended r e = absurd (malformed_never r e)
-whole_joined (Value t) (Value a) (Value b) Malformed ended r e = absurd (malformed_never r e)
+    record { tag = ap (λ x. Some x.tag) s; first = ap (λ x. Some x.a) s; second = ap (λ x. Some x.b) s; third = ap (λ x. Some x.c) s; last = refl }
+whole_joined (Some t) (Some a) (Some b) (Some c) false r e = absurd (malformed_never r e)
+whole_joined None a b c ended r e = absurd (malformed_never r e)
+whole_joined (Some t) None b c ended r e = absurd (malformed_never r e)
+whole_joined (Some t) (Some a) None c ended r e = absurd (malformed_never r e)
+whole_joined (Some t) (Some a) (Some b) None ended r e = absurd (malformed_never r e)
 
 module _ (g w : ℕ) (small : g < 2 ^ 63) where
   -- a written number that stands between two lists is read
   reads_between : (bytes xs ys : List ℕ) (a n m v : ℕ) → bytes ≡ xs ++ (columns_of m (text_of v) ++ ys) → length xs ≡ a → n ≡ m → InRange g v → Fits m v
-      → number_of g (take n (drop a bytes)) ≡ Value v
+      → number_of g (take n (drop a bytes)) ≡ Some v
   reads_between bytes xs ys a n m v e la en r f =
       rw (e, part_between xs (columns_of m (text_of v)) ys a n la (written_length m (text_of v) ∙ sym en)) (written_reads g small m v r f)
 
   -- reading inverts writing
-  pub written_row_reads : (r : Row) → Writable g w r → line_at g w (row_bytes w r) ≡ line.Whole r
+  pub written_row_reads : (r : Row) → Writable g w r → line_at g w (row_bytes w r) ≡ Some r
   unfolding row_bytes
   written_row_reads r h =
       let t : List ℕ = columns_of 4 (text_of r.tag) in
@@ -83,7 +81,7 @@ module _ (g w : ℕ) (small : g < 2 ^ 63) where
     range : InRange g v
     fits : Fits m v
 
-  column : (bytes : List ℕ) (a n m v : ℕ) → n ≡ m → a + m ≤ length bytes → number_of g (take n (drop a bytes)) ≡ Value v → Column bytes a m v
+  column : (bytes : List ℕ) (a n m v : ℕ) → n ≡ m → a + m ≤ length bytes → number_of g (take n (drop a bytes)) ≡ Some v → Column bytes a m v
   column bytes a n m v q h e =
       let f = number_form g small (take m (drop a bytes)) v (rw q at e) in
       let l : length (take m (drop a bytes)) ≡ m = simp (length-take, length-drop) (omega arith) in
@@ -94,7 +92,7 @@ module _ (g w : ℕ) (small : g < 2 ^ 63) where
   front_more bytes front a m e v f k q = rw (q, take-add a m bytes, f, k.form)
 
   -- whatever reads as a row is exactly its written form
-  pub row_form : (bytes : List ℕ) (r : Row) → length bytes ≡ row_length w → line_at g w bytes ≡ line.Whole r → Writable g w r × (bytes ≡ row_bytes w r)
+  pub row_form : (bytes : List ℕ) (r : Row) → length bytes ≡ row_length w → line_at g w bytes ≡ Some r → Writable g w r × (bytes ≡ row_bytes w r)
   unfolding row_bytes
   row_form bytes r l e =
       let j = whole_joined _ _ _ _ _ r e in

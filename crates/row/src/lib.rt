@@ -4,9 +4,7 @@
 ghost use Rattle.std.specs.Prelude.{◌≡◌, ◌≤◌, length};
 ghost use Rattle.lists.specs.Over.{over};
 ghost use Rattle.row.specs.Row.{row_bytes, width, greatest, row_length};
-ghost use Rattle.row.specs.Reading.{joined, found_at, line_at, read_at};
-
-use number::Number;
+ghost use Rattle.row.specs.Reading.{found_at, line_at, read_at};
 
 // The last byte of a row.
 const NEWLINE: u8 = 10;
@@ -17,13 +15,6 @@ pub struct Row {
     pub a: u64,
     pub b: u64,
     pub c: u64,
-}
-
-// What the bytes of a row's length hold.
-#[derive(Clone, Copy)]
-pub enum Line {
-    Whole(Row),
-    Malformed,
 }
 
 // Where reading goes on, in bytes.
@@ -40,36 +31,13 @@ pub enum Read {
     End,
 }
 
-// The row of its four numbers, if each is in the form and the last byte is.
-fn join(tag: Number, a: Number, b: Number, c: Number, ended: bool) -> Line
-    ensures { result ≡ joined tag a b c ended }
-{
-    let Number::Value(tag) = tag else {
-        return Line::Malformed;
-    };
-    let Number::Value(a) = a else {
-        return Line::Malformed;
-    };
-    let Number::Value(b) = b else {
-        return Line::Malformed;
-    };
-    let Number::Value(c) = c else {
-        return Line::Malformed;
-    };
-    if ended {
-        Line::Whole(Row { tag, a, b, c })
-    } else {
-        Line::Malformed
-    }
-}
-
 // What a line is to a reader, and where it goes on.
-fn found(line: Line, next: usize) -> Read
+fn found(line: Option<Row>, next: usize) -> Read
     ensures { result ≡ found_at next line }
 {
     match line {
-        Line::Whole(row) => Read::Next(row, Place { at: next }),
-        Line::Malformed => Read::Malformed,
+        Some(row) => Read::Next(row, Place { at: next }),
+        None => Read::Malformed,
     }
 }
 
@@ -90,16 +58,19 @@ impl Row {
 
     pub const LENGTH: usize = Row::LAST + 1;
 
-    // The row in bytes of its length.
-    pub fn read(bytes: &[u8]) -> Line
+    // The row in bytes of its length, if each number is in the form and the last byte is.
+    pub fn read(bytes: &[u8]) -> Option<Row>
         requires { length bytes.now ≡ row_length width }
         ensures { result ≡ line_at greatest width bytes.now }
     {
-        let tag = number::read_number(Row::GREATEST, &bytes[0..Row::A]);
-        let a = number::read_number(Row::GREATEST, &bytes[Row::A..Row::B]);
-        let b = number::read_number(Row::GREATEST, &bytes[Row::B..Row::C]);
-        let c = number::read_number(Row::GREATEST, &bytes[Row::C..Row::LAST]);
-        join(tag, a, b, c, bytes[Row::LAST] == NEWLINE)
+        let tag = number::read_number(Row::GREATEST, &bytes[0..Row::A])?;
+        let a = number::read_number(Row::GREATEST, &bytes[Row::A..Row::B])?;
+        let b = number::read_number(Row::GREATEST, &bytes[Row::B..Row::C])?;
+        let c = number::read_number(Row::GREATEST, &bytes[Row::C..Row::LAST])?;
+        if bytes[Row::LAST] != NEWLINE {
+            return None;
+        }
+        Some(Row { tag, a, b, c })
     }
 
     // Writes the row into the first bytes of out.

@@ -14,8 +14,8 @@ use Rattle.lists.proofs.Below.{in_numbers}
 use Rattle.lists.proofs.Flat.{flat_length, sum_at_most}
 use Rattle.number.specs.Number.{InRange}
 use Rattle.row.specs.Row.{greatest, width, row_length, part}
-use Rattle.row.specs.declared.Line.{Line}
-use Rattle.row.specs.declared.Line.TheVariants as line
+use Rattle.row.specs.Reading.{Line}
+use Rattle.std.specs.Prelude.{Some, None}
 use Rattle.row.proofs.Form.{row_form}
 use Rattle.table.specs.Rows.{Rows}
 use Rattle.formula.proofs.Truth.{and_split, true_test}
@@ -38,12 +38,12 @@ module _ (bytes : List ℕ) where
   line_ranged i h = go (line_of bytes i) refl
     where
       go : (l : Line) → line_of bytes i ≡ l → All Ranged (line_words l)
-      go (line.Whole r) e =
+      go (Some r) e =
           let row : List ℕ = part bytes (row_length width * i) (row_length width * i + row_length width) in
           let whole : length row ≡ row_length width = simp (length-take, length-drop) (omega arith) in
           let w = (row_form greatest width (omega arith) row r whole e).0 in
           all_cons w.tag_range (all_cons w.a_range (all_cons w.b_range (all_cons w.c_range all_nil)))
-      go line.Malformed e = all_nil
+      go None e = all_nil
 
   words_ranged : All Ranged (words_of bytes)
   unfolding words_of
@@ -65,8 +65,8 @@ module _ (bytes : List ℕ) where
       omega (arith, flat_length (λ i. line_words (line_of bytes i)) (row_count bytes))
     where
       four : (l : Line) → length (line_words l) ≤ 4
-      four (line.Whole r) = omega arith
-      four line.Malformed = omega arith
+      four (Some r) = omega arith
+      four None = omega arith
 
   pub rows_few : framed bytes ≡ true → row_count bytes ≤ 1724
   rows_few f = omega (arith, leb→le (length bytes) 65536 (and_split (leb (length bytes) 65536) _ (true_test _ f)).0)

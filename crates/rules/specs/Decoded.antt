@@ -1,11 +1,9 @@
 -- 01, Rows: the rows of a table's bytes. Row i, counted from 0, starts at byte 38 × i.
-use Rattle.std.specs.Prelude.{ℕ, ◌+◌, ◌*◌, ◌/◌, ◌%◌, Bool, true, false, ◌&&◌, leb, eqb, length}
+use Rattle.std.specs.Prelude.{ℕ, ◌+◌, ◌*◌, ◌/◌, ◌%◌, Bool, true, false, ◌&&◌, leb, eqb, length, Some, None}
 use mathlib.Core.List.{List, [], ◌∷◌, flat_map}
 use Rattle.lists.specs.Below.{numbers}
 use Rattle.row.specs.Row.{greatest, width, row_length, part}
-use Rattle.row.specs.Reading.{line_at}
-use Rattle.row.specs.declared.Line.{Line}
-use Rattle.row.specs.declared.Line.TheVariants as line
+use Rattle.row.specs.Reading.{line_at, Line}
 use Rattle.table.specs.Limits.{most_bytes}
 use Rattle.table.specs.Rows.{Rows, rows_of}
 
@@ -21,12 +19,12 @@ line_of bytes i = line_at greatest width (part bytes (row_length width * i) (row
 
 -- 01, refusal 2, column: "a row isn't in the row form"
 abbrev pub not_row : Line → Bool
-not_row (line.Whole r) = false
-not_row line.Malformed = true
+not_row (Some r) = false
+not_row None = true
 
 abbrev pub line_words : Line → List ℕ
-line_words (line.Whole r) = r.tag ∷ r.a ∷ r.b ∷ r.c ∷ []
-line_words line.Malformed = []
+line_words (Some r) = r.tag ∷ r.a ∷ r.b ∷ r.c ∷ []
+line_words None = []
 
 -- the numbers of all rows, four a row
 unfoldable pub words_of : List ℕ → List ℕ

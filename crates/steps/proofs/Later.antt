@@ -9,8 +9,8 @@ use lib.Dec.{eqb}
 use lib.ListN.{length}
 use Rattle.std.specs.Prelude.{Result, Ok, Err}
 use Rattle.lists.specs.Choice.{pick}
-use Rattle.row.specs.declared.Line.{Line}
-use Rattle.row.specs.declared.Line.TheVariants.{Whole, Malformed}
+use Rattle.row.specs.Reading.{Line}
+use Rattle.std.specs.Prelude.{Some, None}
 use Rattle.formula.specs.Values.{whole_number}
 use Rattle.table.specs.Rows.{Rows}
 use Rattle.rules.specs.declared.Refusal.{Refusal}
@@ -38,8 +38,8 @@ module _ (t : Rows) (k : ℕ) where
   unfolding read_values later_found
   read_later e [] i ls vs h = refl
   read_later e (x ∷ xs) i [] vs h = refl
-  read_later e (x ∷ xs) i (Malformed ∷ ls) vs h = ap bad (sym (later_some k i h))
-  read_later e (x ∷ xs) i (Whole r ∷ ls) vs h =
+  read_later e (x ∷ xs) i (None ∷ ls) vs h = ap bad (sym (later_some k i h))
+  read_later e (x ∷ xs) i (Some r ∷ ls) vs h =
       let ws = store t e x (whole_number r.b) vs in
       let z : k + i + 1 ≡ k + (i + 1) = omega arith in
       go (ap (λ i. read_values t e xs i ls ws) z ∙ read_later e xs (i + 1) ls ws (omega arith)) (is_value_row t x r)
@@ -72,8 +72,8 @@ module _ (t : Rows) (k : ℕ) where
       go : (b : Bool) → pick b (Err (refused log_fault 0)) (Ok (n - 1)) ≡ later k (pick b (Err (refused log_fault 0)) (Ok (n - 1)))
       go true = refl
       go false = refl
-  from_later (suc f) n i (Malformed ∷ ls) vs h = ap (λ r. Err (refused log_fault r)) (sym (later_some k i h))
-  from_later (suc f) n i (Whole r ∷ ls) vs h =
+  from_later (suc f) n i (None ∷ ls) vs h = ap (λ r. Err (refused log_fault r)) (sym (later_some k i h))
+  from_later (suc f) n i (Some r ∷ ls) vs h =
       go (λ rest ws.
       let rows = length (logged t r.a) in
       let z : k + i + 1 + rows ≡ k + (i + 1 + rows) = omega arith in
@@ -117,8 +117,8 @@ module _ (t : Rows) where
   unfolding read_values bad_of
   bad_within e [] i ls vs = omega arith
   bad_within e (x ∷ xs) i [] vs = omega arith
-  bad_within e (x ∷ xs) i (Malformed ∷ ls) vs = omega arith
-  bad_within e (x ∷ xs) i (Whole r ∷ ls) vs = go (bad_within e xs (i + 1) ls (store t e x (whole_number r.b) vs)) (is_value_row t x r)
+  bad_within e (x ∷ xs) i (None ∷ ls) vs = omega arith
+  bad_within e (x ∷ xs) i (Some r ∷ ls) vs = go (bad_within e xs (i + 1) ls (store t e x (whole_number r.b) vs)) (is_value_row t x r)
     where
       ws : Values
       ws = store t e x (whole_number r.b) vs
@@ -148,8 +148,8 @@ module _ (t : Rows) where
       go : (b : Bool) → row_of (pick b (Err (refused log_fault 0)) (Ok (n - 1))) ≤ i + 0
       go true = omega arith
       go false = omega arith
-  from_within (suc f) n i (Malformed ∷ ls) vs = omega arith
-  from_within (suc f) n i (Whole r ∷ ls) vs = go (λ rest ws. from_within f (n + 1) (i + 1 + length (logged t r.a)) rest ws) (is_step_row t (eqb n 0) r)
+  from_within (suc f) n i (None ∷ ls) vs = omega arith
+  from_within (suc f) n i (Some r ∷ ls) vs = go (λ rest ws. from_within f (n + 1) (i + 1 + length (logged t r.a)) rest ws) (is_step_row t (eqb n 0) r)
     where
       e : ℕ
       e = r.a

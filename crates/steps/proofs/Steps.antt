@@ -11,10 +11,9 @@ use lib.ListN.{length}
 use Rattle.std.specs.Prelude.{Result, Ok, Err}
 use Rattle.lists.specs.Choice.{pick}
 use Rattle.row.specs.Row.{greatest, width, row_length}
-use Rattle.row.specs.Reading.{read_at}
+use Rattle.row.specs.Reading.{read_at, Line}
 use Rattle.row.specs.declared.Row.{Row}
 use Rattle.row.specs.declared.Place.{Place}
-use Rattle.row.specs.declared.Line.{Line}
 use Rattle.row.specs.declared.Read.{Read}
 use Rattle.row.specs.declared.Read.TheVariants as read
 use Rattle.table.specs.Rows.{Rows, count}

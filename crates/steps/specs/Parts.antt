@@ -2,7 +2,7 @@
 use Rattle.std.specs.Prelude.{◌≡◌, Bool, true, false, List, [], ◌++◌, ℕ, suc, ◌+◌, ◌/◌, ◌≤◌, eqb, length, drop, Result, Ok, Err}
 use Rattle.lists.specs.Choice.{pick}
 use Rattle.row.specs.Row.{width, row_length}
-use Rattle.row.specs.declared.Line.{Line}
+use Rattle.row.specs.Reading.{Line}
 use Rattle.row.specs.declared.Place.{Place}
 use Rattle.table.specs.Rows.{Rows}
 use Rattle.rules.specs.declared.Refusal.{Refusal}

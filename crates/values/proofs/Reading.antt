@@ -13,11 +13,10 @@ use lib.Seq.{drop-drop, drop-append-le, take-append-le}
 use Rattle.lists.specs.Choice.{pick}
 use Rattle.lists.specs.Below.{one_if, first}
 use Rattle.row.specs.Row.{greatest, width, row_length, part}
-use Rattle.row.specs.Reading.{line_at, found_at, read_at}
+use Rattle.row.specs.Reading.{line_at, found_at, read_at, Line}
 use Rattle.row.specs.declared.Row.{Row}
 use Rattle.row.specs.declared.Place.{Place}
-use Rattle.row.specs.declared.Line.{Line}
-use Rattle.row.specs.declared.Line.TheVariants as line
+use Rattle.std.specs.Prelude.{Some, None}
 use Rattle.row.specs.declared.Read.{Read}
 use Rattle.row.specs.declared.Read.TheVariants as read
 use Rattle.formula.specs.Values.{whole_number}
@@ -46,8 +45,8 @@ row_left v w h = (sym h, sym (ap (λ b. pick b v w) h))
 module _ (run : List ℕ) (at : ℕ) where
   pub data Seen : Read → Type 0 where
     at_end : lines_at run at ≡ [] → Seen read.End
-    at_bad : (ls : List Line) → lines_at run at ≡ line.Malformed ∷ ls → Seen read.Malformed
-    at_row : (r : Row) (p : Place) → lines_at run at ≡ line.Whole r ∷ lines_at run p.at → (p.at ≡ at + row_length width) × (p.at ≤ length run) → Seen (read.Next r p)
+    at_bad : (ls : List Line) → lines_at run at ≡ None ∷ ls → Seen read.Malformed
+    at_row : (r : Row) (p : Place) → lines_at run at ≡ Some r ∷ lines_at run p.at → (p.at ≡ at + row_length width) × (p.at ≤ length run) → Seen (read.Next r p)
 
   abbrev bytes : List ℕ
   bytes = part run at (at + row_length width)
@@ -60,8 +59,8 @@ module _ (run : List ℕ) (at : ℕ) where
       ∙ ap₂ (λ k bytes. line_at greatest width (take k (drop at run)) ∷ lines bytes) (sym n) (drop-drop (row_length width) at run)
 
   found_seen : (l : Line) → at + row_length width ≤ length run → line_at greatest width bytes ≡ l → Seen (found_at (at + row_length width) l)
-  found_seen (line.Whole r) h e = at_row r (record { at = at + 38 }) (whole_row h ∙ ap (λ l. l ∷ lines_at run (at + 38)) e) (refl, h)
-  found_seen line.Malformed h e = at_bad (lines_at run (at + 38)) (whole_row h ∙ ap (λ l. l ∷ lines_at run (at + 38)) e)
+  found_seen (Some r) h e = at_row r (record { at = at + 38 }) (whole_row h ∙ ap (λ l. l ∷ lines_at run (at + 38)) e) (refl, h)
+  found_seen None h e = at_bad (lines_at run (at + 38)) (whole_row h ∙ ap (λ l. l ∷ lines_at run (at + 38)) e)
 
   read_seen : Seen (read_at greatest width run at)
   read_seen = go (ltb at (length run)) (ltb (length run) (at + row_length width)) refl refl
@@ -101,16 +100,16 @@ module _ (run more : List ℕ) (at : ℕ) (hand : AtHand run at 1 more) {f : Rea
       of_end : Seen (run ++ more) at read.End → lines_at (run ++ more) at ≡ []
       of_end (at_end h) = h
 
-  pub malformed_lines : f ≡ read.Malformed → (ls : List Line) × (lines_at (run ++ more) at ≡ line.Malformed ∷ ls)
+  pub malformed_lines : f ≡ read.Malformed → (ls : List Line) × (lines_at (run ++ more) at ≡ None ∷ ls)
   malformed_lines e = of_malformed (subst (Seen (run ++ more) at) e found_is)
     where
-      of_malformed : Seen (run ++ more) at read.Malformed → (ls : List Line) × (lines_at (run ++ more) at ≡ line.Malformed ∷ ls)
+      of_malformed : Seen (run ++ more) at read.Malformed → (ls : List Line) × (lines_at (run ++ more) at ≡ None ∷ ls)
       of_malformed (at_bad ls h) = (ls, h)
 
-  pub row_lines : (r : Row) (p : Place) → f ≡ read.Next r p → lines_at (run ++ more) at ≡ line.Whole r ∷ lines_at (run ++ more) p.at
+  pub row_lines : (r : Row) (p : Place) → f ≡ read.Next r p → lines_at (run ++ more) at ≡ Some r ∷ lines_at (run ++ more) p.at
   row_lines r p e = of_row (subst (Seen (run ++ more) at) e found_is)
     where
-      of_row : Seen (run ++ more) at (read.Next r p) → lines_at (run ++ more) at ≡ line.Whole r ∷ lines_at (run ++ more) p.at
+      of_row : Seen (run ++ more) at (read.Next r p) → lines_at (run ++ more) at ≡ Some r ∷ lines_at (run ++ more) p.at
       of_row (at_row r p h k) = h
 
 -- the place after a row, and its number

@@ -3,7 +3,7 @@ use Rattle.std.specs.Prelude.{◌≡◌, Result, Ok, Err, Bool, not, ◌&&◌, �
 use Rattle.lists.specs.Choice.{pick}
 use Rattle.lists.specs.Below.{one_if, numbers, keep}
 use Rattle.row.specs.Row.{width, row_length}
-use Rattle.row.specs.declared.Line.{Line}
+use Rattle.row.specs.Reading.{Line}
 use Rattle.table.specs.Names.{identifier_tag}
 use Rattle.table.specs.Rows.{Rows, count}
 use Rattle.machine.specs.Described.{action_of}

@@ -15,14 +15,14 @@ use Rattle.lists.specs.Over.{over}
 use Rattle.lists.proofs.Choice.{chosen, not_chosen}
 use Rattle.lists.proofs.First.{first_least}
 use Rattle.row.specs.Row.{width, row_length}
-use Rattle.row.specs.declared.Line.{Line}
-use Rattle.row.specs.declared.Line.TheVariants as line
+use Rattle.row.specs.Reading.{Line}
+use Rattle.std.specs.Prelude.{Some, None, Result, Ok, Err}
 use Rattle.rules.specs.Decoded.{framed, row_count, line_of, not_row, line_words, words_of, decoded}
 use Rattle.rules.specs.declared.Refusal.{Refusal}
 use Rattle.rules.specs.Refusal.{refused}
 use Rattle.rules.specs.Verdict.{judge, verdict}
 use Rattle.rules.proofs.Cases.{verdict_frame, verdict_column, verdict_judge}
-use Rattle.decode.specs.declared.Decoded.TheVariants as decoding
+use Rattle.decode.specs.declared.Malformed.{Malformed}
 use Rattle.decode.specs.Decode.{first_bad, words_to, decoded_of}
 use Rattle.decode.proofs.Words.{words_none, words_more}
 use Rattle.verdict.specs.Loaded.{end_row, loaded_rows, loaded_of, loaded_words, judged}
@@ -37,6 +37,10 @@ words_in (Err r) = 0
 module _ (bytes : List ℕ) where
   abbrev rows : ℕ
   rows = row_count bytes
+
+  -- how decoding ends, by whether a row is not in the row form
+  abbrev ended : Bool → Result ℕ Malformed
+  ended b = pick b (Err (record { row = first_bad bytes rows })) (Ok rows)
 
   pub bad_at_most : first_bad bytes rows ≤ rows
   bad_at_most = omega (arith, (first_least (λ i. not_row (line_of bytes i)) rows 0).to)
@@ -87,8 +91,8 @@ module _ (bytes : List ℕ) where
   pub verdict_judged : verdict bytes ≡ judged bytes (loaded_of bytes)
   verdict_judged = by_tests (framed bytes) (ltb (first_bad bytes rows) rows) refl refl
     where
-      loaded : (c : Bool) → framed bytes ≡ true → ltb (first_bad bytes rows) rows ≡ c → loaded_of bytes ≡ loaded_rows (pick c (decoding.Malformed (first_bad bytes rows)) (decoding.Complete rows))
-      loaded c p q = frame_true p ∙ ap (λ b. loaded_rows (pick b (decoding.Malformed (first_bad bytes rows)) (decoding.Complete rows))) q
+      loaded : (c : Bool) → framed bytes ≡ true → ltb (first_bad bytes rows) rows ≡ c → loaded_of bytes ≡ loaded_rows (ended c)
+      loaded c p q = frame_true p ∙ ap (λ b. loaded_rows (ended b)) q
 
       by_tests : (b c : Bool) → framed bytes ≡ b → ltb (first_bad bytes rows) rows ≡ c → verdict bytes ≡ judged bytes (loaded_of bytes)
       by_tests false c p q = verdict_frame bytes p ∙ sym (ap (judged bytes) (frame_false p))
@@ -96,14 +100,14 @@ module _ (bytes : List ℕ) where
       by_tests true false p q = verdict_judge bytes p (ltb-false (first_bad bytes rows) rows q) ∙ sym (ap (judged bytes) (loaded false p q))
 
   -- all rows are in the row form
-  rows_words : (b : Bool) (n : ℕ) → ltb (first_bad bytes rows) rows ≡ b → loaded_rows (pick b (decoding.Malformed (first_bad bytes rows)) (decoding.Complete rows)) ≡ Ok n
+  rows_words : (b : Bool) (n : ℕ) → ltb (first_bad bytes rows) rows ≡ b → loaded_rows (ended b) ≡ Ok n
       → (first_bad bytes rows ≡ rows) × (4 * rows ≡ n)
   rows_words true n p e = absurd (refused_not_words 2 (first_bad bytes rows + 1) n e)
   rows_words false n p e = (omega (arith, ltb-false (first_bad bytes rows) rows p, bad_at_most), ap words_in e)
 
   line_words_lem : (l : Line) → not_row l ≡ false → length (line_words l) ≡ 4
-  line_words_lem (line.Whole r) e = refl
-  line_words_lem line.Malformed e = absurd (true≢false e)
+  line_words_lem (Some r) e = refl
+  line_words_lem None e = absurd (true≢false e)
 
   words_length : (n : ℕ) → ((i : ℕ) → i < n → not_row (line_of bytes i) ≡ false) → length (words_to bytes n) ≡ 4 * n
   words_length zero h = ap length (words_none bytes)

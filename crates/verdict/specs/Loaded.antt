@@ -6,18 +6,17 @@ use Rattle.rules.specs.Decoded.{framed, row_count, decoded}
 use Rattle.rules.specs.declared.Refusal.{Refusal}
 use Rattle.rules.specs.Refusal.{refused}
 use Rattle.rules.specs.Verdict.{judge}
-use Rattle.decode.specs.declared.Decoded.{Decoded}
-use Rattle.decode.specs.declared.Decoded.TheVariants as decoding
+use Rattle.decode.specs.declared.Malformed.{Malformed}
 use Rattle.decode.specs.Decode.{first_bad, words_to, decoded_of}
 
 -- the row at which decoding ended
-abbrev pub end_row : Decoded → ℕ
-end_row (decoding.Complete n) = n
-end_row (decoding.Malformed i) = i
+abbrev pub end_row : Result ℕ Malformed → ℕ
+end_row (Ok n) = n
+end_row (Err m) = m.row
 
-abbrev pub loaded_rows : Decoded → Result ℕ Refusal
-loaded_rows (decoding.Complete n) = Ok (4 * n)
-loaded_rows (decoding.Malformed i) = Err (refused 2 (i + 1))
+abbrev pub loaded_rows : Result ℕ Malformed → Result ℕ Refusal
+loaded_rows (Ok n) = Ok (4 * n)
+loaded_rows (Err m) = Err (refused 2 (m.row + 1))
 
 unfoldable pub loaded_of : List ℕ → Result ℕ Refusal
 loaded_of bytes = pick (framed bytes) (loaded_rows (decoded_of (first_bad bytes (row_count bytes)) (row_count bytes))) (Err (refused 1 0))

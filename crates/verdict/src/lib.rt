@@ -9,7 +9,7 @@ ghost use Rattle.nodes.specs.Notes.{Noted};
 ghost use Rattle.rules.specs.Verdict.{judge as judge_of, verdict as verdict_of};
 ghost use Rattle.verdict.specs.Loaded.{end_row, loaded_rows, loaded_of, loaded_words};
 
-use decode::{Decoded, decode};
+use decode::{Malformed, decode};
 use fault::{first_check, first_row};
 use nodes::Index;
 use row::Row;
@@ -20,15 +20,15 @@ use table::Table;
 use walk::count;
 
 // How many words the rows of a table have, by where decoding ended, or refusal 2 with the row that is not in the row form.
-fn after_decoding(decoded: Decoded) -> Result<usize, Refusal>
+fn after_decoding(decoded: Result<usize, Malformed>) -> Result<usize, Refusal>
     requires { end_row decoded < 2 ^ 61 }
     ensures { result ≡ loaded_rows decoded }
 {
     match decoded {
-        Decoded::Complete(rows) => Ok(4 * rows),
-        Decoded::Malformed(row) => Err(Refusal {
+        Ok(rows) => Ok(4 * rows),
+        Err(malformed) => Err(Refusal {
             number: 2,
-            row: row as u64 + 1,
+            row: malformed.row as u64 + 1,
         }),
     }
 }

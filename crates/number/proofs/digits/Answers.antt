@@ -2,7 +2,7 @@ use mathlib.Core.Path.{ap, ◌∙◌}
 use native.Mathlib.Omega.{arith}
 use lib.ListN.{length-drop}
 use lib.Seq.{take_all}
-use Rattle.number.specs.declared.Number.TheVariants.{Value}
+use Rattle.std.specs.Prelude.{Some}
 use Rattle.number.proofs.Scan.{digits_from, digits_start, digits_end, digits_none, digits_over, digits_next}
 use Rattle.number.proofs.digits.Goals as goal
 
@@ -34,4 +34,4 @@ loop-b-preserved c = (
 
 pub returns : goal.returns
 returns c =
-    ap Value c.word.ensures ∙ digits_end c.args.greatest c.args.negative _ c.loop-b.b-index c.loop-b.m _ c.loop-b.invariant.1 c.loop-b-test.false
+    ap Some c.word.ensures ∙ digits_end c.args.greatest c.args.negative _ c.loop-b.b-index c.loop-b.m _ c.loop-b.invariant.1 c.loop-b-test.false
