@@ -241,8 +241,8 @@ module _ (t : Rows) where
               (ap (λ ls. replay_from t most (n + 1) (i + 1 + length (logged t e)) ls (moved t ws)) step_opened.lines_are_of ∙ r))
 
       -- a row 90 that is good
-      step_marked : (e : ℕ) (ls : List Line) → lines bytes ≡ Whole (step_row_of e) ∷ ls → T (is_step_row t (eqb n 0) (step_row_of e))
-          → replay_from t (suc most) n i (Whole (step_row_of e) ∷ ls) vs ≡ Err (refused number row) → Refusal t first c s i bytes number row
+      step_marked : (e : ℕ) (ls : List Line) → lines bytes ≡ Some (step_row_of e) ∷ ls → T (is_step_row t (eqb n 0) (step_row_of e))
+          → replay_from t (suc most) n i (Some (step_row_of e) ∷ ls) vs ≡ Err (refused number row) → Refusal t first c s i bytes number row
       step_marked e ls h good r = by_values (read_values t e (logged t e) (i + 1) ls vs) refl
         where
           by_fault : (ws : Values) (rest : List Line) → read_values t e (logged t e) (i + 1) ls vs ≡ found ws rest → (b : Bool) → eqb (step_fault t e ws.present ws.after) no_fault ≡ b
@@ -272,7 +272,7 @@ module _ (t : Rows) where
               (subst (λ b. Refusal t b c s i bytes log_fault 0) (sym f) (subst (λ bytes. Refusal t true c s i bytes log_fault 0) (sym none) empty))
           nothing false f = absurd (steps_never (sym r ∙ ap (λ b. pick b (Err (refused log_fault 0)) (Ok (n - 1))) (is-first ∙ f)))
       lines_marked (None ∷ ls) h r = marked r (bad_row_marked (subst (Bad (is_step_row t (eqb n 0))) (sym h) (bad_malformed (is_step_row t (eqb n 0)) ls)))
-      lines_marked (Whole w ∷ ls) h r = by_row (is_step_row t (eqb n 0) w) refl
+      lines_marked (Some w ∷ ls) h r = by_row (is_step_row t (eqb n 0) w) refl
         where
           by_row : (b : Bool) → is_step_row t (eqb n 0) w ≡ b → Refusal t first c s i bytes number row
           by_row true g =
