@@ -123,11 +123,9 @@ fn print_sequents(
 {
     let mut batch = Batch::start(stdout);
     let mut slot = seek(index, Slot::start(0));
-    let mut done = 0;
-    while done < count {
+    for done in 0..count {
         batch = print_slot(bytes, index, slot, batch, out)?;
         slot = seek(index, slot.after());
-        done += 1;
     }
     batch.flush(bytes, out)
 }

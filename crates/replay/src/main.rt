@@ -99,8 +99,7 @@ fn replay_parts<R: Read>(
     let mut held = 0;
     let mut n = 0;
     let mut before = 0;
-    let mut parts = 0;
-    while parts < PARTS {
+    for parts in 0..PARTS {
         held = read_on(log, window, held).map_err(Failure::Log)?;
         let last = held < WINDOW;
         let part = &window[..held];
@@ -113,7 +112,6 @@ fn replay_parts<R: Read>(
             Ok(Part::Ended(steps)) => return print(rt, Ok(steps)),
             Err(refusal) => return print(rt, Err(refusal)),
         }
-        parts += 1;
     }
     Err(Failure::TooLong)
 }

@@ -1,5 +1,5 @@
 -- The sequents written, held or printed, are those before the slot's (Walk).
-use Rattle.std.proofs.Common.{◌≡◌, ◌-◌, ◌<◌, length}
+use Rattle.std.proofs.Common.{◌≡◌, ◌<◌, length}
 use Rattle.obligations.specs.Held.{Waits, written_to, enough}
 use Rattle.obligations.proofs.Walk.{Walked}
 use Rattle.obligations.proofs.print_sequents.Given as goal
@@ -11,6 +11,3 @@ invariant-loop-done l = record {
   few : l.batch.held < enough;
   walked : Walked l.bytes l.index.table.words.now l.count l.slot (written_to l.batch) l.done;
 }
-
-abbrev pub decreases-loop-done : goal.decreases-loop-done
-decreases-loop-done l = l.count - l.done

@@ -1,5 +1,5 @@
 -- The loop's invariant: the buffers keep their lengths, the window holds what is held, and each part has at most a step and a row for each of its bytes.
-use Rattle.std.proofs.Common.{◌≡◌, ◌*◌, ◌-◌, ◌≤◌, length}
+use Rattle.std.proofs.Common.{◌≡◌, ◌*◌, ◌≤◌, length}
 use Rattle.replay.proofs.replay_parts.Given as goal
 
 abbrev pub invariant-loop-parts : goal.invariant-loop-parts
@@ -10,8 +10,4 @@ invariant-loop-parts g l = record {
   held : l.held ≤ length l.window;
   steps : l.n ≤ 65536 * l.parts;
   rows : l.before ≤ 65536 * l.parts;
-  parts : l.parts ≤ 2147483648;
 }
-
-abbrev pub decreases-loop-parts : goal.decreases-loop-parts
-decreases-loop-parts g l = 2147483648 - l.parts
