@@ -1,6 +1,7 @@
 // What is known of a table, made once and read by everything above.
-ghost use Rattle.std.specs.Prelude.{◌≡◌, length};
+ghost use Rattle.std.specs.Prelude.{◌≡◌, ◌≤◌, length};
 ghost use Rattle.table.specs.Rows.{rows_of};
+ghost use Rattle.table.specs.Lookups.{most_words};
 ghost use Rattle.scan.specs.Spans.{span_words};
 ghost use Rattle.nodes.specs.Notes.{Noted};
 
@@ -18,7 +19,7 @@ pub struct Index<'a> {
 impl<'a> Index<'a> {
     // Counts the rows and fills the lent numbers.
     pub fn of(words: &'a [u64], spans: &'a mut [usize]) -> Index<'a>
-        requires { length spans.old ≡ span_words }
+        requires { (length words.now ≤ most_words) × (length spans.old ≡ span_words) }
         ensures { result.table.words ≡ words.entry }
     {
         let table = Counted::of(words);
