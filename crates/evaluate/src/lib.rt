@@ -115,7 +115,8 @@ pub fn stored_value(sort: u64, value: i64) -> Value
 pub fn value_at(values: &[i64], x: u64) -> i64
     ensures { result ≡ get_or values.now x (pos 0) }
 {
-    values.get(x as usize).copied().unwrap_or(0)
+    let i = x as usize;
+    if i < values.len() { values[i] } else { 0 }
 }
 
 // A column of a node: 1 operator, 2 and 3 operands. Where the nodes and the identifiers start is handed on by itself, as every node's call takes it.
