@@ -115,7 +115,8 @@ pub fn stored_value(sort: u64, value: i64) -> Value
 pub fn value_at(values: &[i64], x: u64) -> i64
     ensures { result ≡ get_or values.now x (pos 0) }
 {
-    values.get(x as usize).copied().unwrap_or(0)
+    let i = x as usize;
+    if i < values.len() { values[i] } else { 0 }
 }
 
 // The values at which a table's formulas are read: identifiers' present values and after values, by number.

@@ -1,4 +1,4 @@
--- Whether a record is wrong: of one identifier, and of all of them, one after another.
+-- Whether a record is wrong, of all identifiers, one after another; and whether that makes a state.
 use mathlib.Core.Path.{◌≡◌, sym, ap, ap₂, ◌∙◌}
 use mathlib.Core.Bool.{Bool, true, false, not, ◌&&◌, ◌||◌}
 use mathlib.Core.List.{List}
@@ -6,20 +6,14 @@ use Prim.Native.Nat.{ℕ, suc, ◌+◌, ◌-◌, ◌≤◌, ◌<◌}
 use native.Mathlib.Omega.{arith}
 use native.Mathlib.Numerals.{add-one}
 use lib.Dec.{eqb}
-use lib.IntN.{ℤ, pos}
-use lib.ListN.{length, get_or}
+use lib.IntN.{ℤ}
+use lib.ListN.{length}
 use Rattle.lists.specs.Below.{numbers}
 use Rattle.lists.specs.Different.{some_of}
-use Rattle.table.specs.Rows.{Rows, count, type_of}
-use Rattle.bench.specs.State.{is_of_type, is_wrong, is_state}
+use Rattle.table.specs.Rows.{Rows, count}
+use Rattle.bench.specs.State.{is_wrong, is_state}
 
 module _ (t : Rows) (zs : List ℤ) (types : List ℕ) where
-  pub wrong_is : (x : ℕ) {s k : ℕ} {b : Bool} {v : ℤ} → s ≡ get_or types x 0 → k ≡ type_of t (x + 1) → b ≡ is_of_type s v → v ≡ get_or zs x (pos 0) → not (eqb s k && b) ≡ is_wrong t zs types (x + 1)
-  wrong_is x {s} {v = v} p q r h =
-      let place : x + 1 - 1 ≡ x = omega arith in
-      ap₂ (λ k b. not (eqb s k && b)) q r ∙ ap₂ (λ s v. not (eqb s (type_of t (x + 1)) && is_of_type s v)) p h
-      ∙ sym (ap (λ i. not (eqb (get_or types i 0) (type_of t (x + 1)) && is_of_type (get_or types i 0) (get_or zs i (pos 0)))) place)
-
   pub state_is : {n : ℕ} {right : Bool} → n ≡ count t 10 → right ≡ not (some_of (is_wrong t zs types) (numbers (count t 10) 1))
       → ((eqb (length zs) n && eqb (length types) n) && right) ≡ is_state t zs types
   unfolding is_state
