@@ -278,13 +278,6 @@ fn query_tag(query: Query) -> u64
     }
 }
 
-// The lesser of two numbers.
-pub fn lesser(m: usize, n: usize) -> usize
-    ensures { result ≡ pick (ltb m n) m n }
-{
-    if m < n { m } else { n }
-}
-
 // Whether one of the rows before row n passes. Of these only those are read between which the rows of the query's tag stand.
 pub fn some_row(words: &[u64], spans: &[usize], query: Query, n: usize) -> bool
     requires { Spanned (rows_of words.now) spans.now × (n ≤ (rows_of words.now).size) × (query_tag query ≤ variant_tag) }
