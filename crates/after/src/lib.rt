@@ -18,7 +18,6 @@ ghost use Rattle.bench.specs.Press.{answered, after_by, completed};
 
 use evaluate::{Env, evaluate_expression, value_at};
 use nodes::Index;
-use scan::action_row;
 use signed::{Found, Value};
 use state::copy_list;
 use table::{Counted, Table, tag};
@@ -51,7 +50,7 @@ fn equal_after(table: &Counted, present: &[i64], root: u64) -> i64
 fn after_by(index: &Index, e: u64, x: u64, present: &[i64], after: &[i64]) -> i64
     ensures { result ≡ after_by (rows_of index.now.table.words.now) (values_of present.now after.now) x ((machine_of (rows_of index.now.table.words.now)).action e x) }
 {
-    let i = action_row(index.table.words, index.spans, e, x);
+    let i = index.action_row(e, x);
     if index.table.size() <= i {
         return value_at(present, x);
     }

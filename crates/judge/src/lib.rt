@@ -19,7 +19,6 @@ use events::is_initial;
 use nodes::Index;
 use operands::equal_values;
 use rules::Refusal;
-use scan::{action_row, span_at};
 use signed::{Fault, Found, Value};
 use table::{Counted, Table, a_at, b_at, identifier, is_variable_of, tag, tag_at};
 
@@ -117,7 +116,7 @@ fn first_untrue(index: &Index, present: &[i64], tag: u64, e: u64) -> Result<(), 
     requires { tag ≤ 50 }
     ensures { fault_number result ≡ first_untrue (rows_of index.now.table.words.now) present.now tag e }
 {
-    let span = span_at(index.table.words, index.spans, tag);
+    let span = index.span_at(tag);
     for i in span.from..span.to {
         row_fault(&index.table, present, tag, e, i)?;
     }
@@ -135,7 +134,7 @@ fn action_fault(
 ) -> Result<(), StepFault>
     ensures { fault_number result ≡ action_fault (rows_of index.now.table.words.now) present.now after.now e x }
 {
-    let i = action_row(index.table.words, index.spans, e, x);
+    let i = index.action_row(e, x);
     let sort = index.table.identifier_field(x, Table::TYPE);
     let moved = stored_value(sort, value_at(after, x));
     if index.table.size() <= i {

@@ -14,7 +14,7 @@ ghost use Rattle.mentioned.specs.Mentioned.{action_set, witness_set, entry_set};
 use nodes::{Index, note_at};
 use reply::tags;
 use row::Row;
-use scan::{Query, find_within, span_at};
+use scan::{Query, find_within};
 use select::action_row;
 use sequent::{Entry, form};
 use sets::{count, highest, lowest, single};
@@ -40,7 +40,7 @@ fn witness_root(index: &Index, event: u64, x: u64) -> u64
     ensures { result ≡ witness_node (rows_of index.now.table.words.now) event x }
 {
     let query = Query::Witnesses { event, target: x };
-    let witnesses = span_at(index.table.words, index.spans, tag::WITNESS);
+    let witnesses = index.span_at(tag::WITNESS);
     index
         .table
         .c_at(find_within(index.table.words, query, witnesses))

@@ -9,7 +9,7 @@ ghost use Rattle.scan.specs.Spans.{Spanned};
 ghost use Rattle.rules.specs.Rules.{action_wanted, witness_wanted, lacks_for, assigned, has_witness, event_lacks, missing};
 
 use nodes::Index;
-use scan::{Query, some_row, span_at};
+use scan::Query;
 use table::{event, identifier, number_in, tag, variable_kind};
 
 // Whether the event at row i, whose number is event, needs an action for the identifier at row j, whose number is target, and has none.
@@ -19,12 +19,7 @@ fn lacks_action(index: &Index, i: usize, j: usize, event: u64, target: u64) -> b
 {
     let variable = variable_kind(index.table.a_at(j), index.table.a_at(i));
     if (index.table.b_at(i) == event::INITIALISATION) & variable {
-        return !some_row(
-            index.table.words,
-            index.spans,
-            Query::Assigns { event, target },
-            index.table.size(),
-        );
+        return !index.some_row(Query::Assigns { event, target }, index.table.size());
     }
     false
 }
@@ -41,12 +36,7 @@ fn lacks_witness(index: &Index, i: usize, j: usize, event: u64, target: u64) -> 
             | ((kind == identifier::ABSTRACT_PARAMETER)
                 & (index.table.c_at(j) == index.table.c_at(i))))
     {
-        return !some_row(
-            index.table.words,
-            index.spans,
-            Query::Witnesses { event, target },
-            index.table.size(),
-        );
+        return !index.some_row(Query::Witnesses { event, target }, index.table.size());
     }
     false
 }
@@ -72,7 +62,7 @@ fn event_lacks(index: &Index, i: usize) -> bool
     if index.table.tag_at(i) != tag::EVENT {
         return false;
     }
-    let identifiers = span_at(index.table.words, index.spans, tag::IDENTIFIER);
+    let identifiers = index.span_at(tag::IDENTIFIER);
     for j in identifiers.from..identifiers.to {
         if lacks_for(index, i, j) {
             return true;
@@ -85,7 +75,7 @@ fn event_lacks(index: &Index, i: usize) -> bool
 fn some_event_lacks(index: &Index) -> bool
     ensures { result ≡ some_below (event_lacks (rows_of index.now.table.words.now)) (rows_of index.now.table.words.now).size }
 {
-    let events = span_at(index.table.words, index.spans, tag::EVENT);
+    let events = index.span_at(tag::EVENT);
     for i in events.from..events.to {
         if event_lacks(index, i) {
             return true;
@@ -99,37 +89,12 @@ pub fn missing(index: &Index) -> bool
     ensures { result ≡ missing (rows_of index.now.table.words.now) }
 {
     let rows = index.table.size();
-    let abstract_initialised = some_row(
-        index.table.words,
-        index.spans,
-        Query::Initialises(event::ABSTRACT),
-        rows,
-    );
-    let concrete_initialised = some_row(
-        index.table.words,
-        index.spans,
-        Query::Initialises(event::CONCRETE),
-        rows,
-    );
+    let abstract_initialised = index.some_row(Query::Initialises(event::ABSTRACT), rows);
+    let concrete_initialised = index.some_row(Query::Initialises(event::CONCRETE), rows);
     let lacks = some_event_lacks(index);
-    let convergent = some_row(
-        index.table.words,
-        index.spans,
-        Query::OfClass(event::CONVERGENT),
-        rows,
-    );
-    let anticipated = some_row(
-        index.table.words,
-        index.spans,
-        Query::OfClass(event::ANTICIPATED),
-        rows,
-    );
-    let variant = some_row(
-        index.table.words,
-        index.spans,
-        Query::Tagged(tag::VARIANT),
-        rows,
-    );
+    let convergent = index.some_row(Query::OfClass(event::CONVERGENT), rows);
+    let anticipated = index.some_row(Query::OfClass(event::ANTICIPATED), rows);
+    let variant = index.some_row(Query::Tagged(tag::VARIANT), rows);
     let lacks_variant = convergent & !variant;
     let lacks_new_event = variant & !(convergent | anticipated);
     !abstract_initialised | (!concrete_initialised | (lacks | (lacks_variant | lacks_new_event)))

@@ -8,7 +8,7 @@ ghost use Rattle.table.specs.Counts.{counts_of};
 ghost use Rattle.rules.specs.Rules.{abstract_ordinary_event, good_refined, out_of_order, event_offends, owner_event, good_owner, identifier_offends};
 
 use nodes::Index;
-use scan::{Query, some_row};
+use scan::Query;
 use table::{Counted, Table, event, identifier, tag};
 
 // Whether a number names an abstract ordinary event, which a concrete one may refine.
@@ -38,15 +38,10 @@ fn out_of_order(index: &Index, i: usize) -> bool
 {
     let machine = index.table.a_at(i);
     let after_concrete = (machine == event::ABSTRACT)
-        & some_row(
-            index.table.words,
-            index.spans,
-            Query::Event(event::CONCRETE),
-            i,
-        );
+        & index.some_row(Query::Event(event::CONCRETE), i);
     after_concrete
         | ((index.table.b_at(i) == event::INITIALISATION)
-            & some_row(index.table.words, index.spans, Query::Event(machine), i))
+            & index.some_row(Query::Event(machine), i))
 }
 
 // 5: bad machine, class or refined event, or out of order. Only an event's row is compared with the events before it.

@@ -9,7 +9,7 @@ ghost use Rattle.rules.specs.Tags.{columns_used, row_limit};
 ghost use Rattle.rules.specs.Rules.{tag_offends, full_offends, twice_offends};
 
 use nodes::Index;
-use scan::{Query, some_row, span_at, span_tag};
+use scan::{Query, span_tag};
 use table::{Table, b_at, c_at, tag, tag_at};
 
 // How many of the columns a, b, c a tag uses, and how many rows it may have; none of an unknown tag.
@@ -98,7 +98,7 @@ pub fn full_offends(index: &Index, i: usize) -> bool
     ensures { result ≡ full_offends (rows_of index.now.table.words.now) i }
 {
     let tag = index.table.tag_at(i);
-    let before = i - span_at(index.table.words, index.spans, span_tag(tag)).from;
+    let before = i - index.span_at(span_tag(tag)).from;
     tag_limits(tag).most <= before as u64
 }
 
@@ -113,10 +113,5 @@ pub fn twice_offends(index: &Index, i: usize) -> bool
     }
     let event = index.table.a_at(i);
     let target = index.table.b_at(i);
-    some_row(
-        index.table.words,
-        index.spans,
-        Query::SameTarget { tag, event, target },
-        i,
-    )
+    index.some_row(Query::SameTarget { tag, event, target }, i)
 }

@@ -10,7 +10,7 @@ ghost use Rattle.select.specs.Each.{item_at, divisions, weight, count_at};
 ghost use Rattle.select.specs.Sought.{Passed};
 
 use nodes::{Index, note_at, touches};
-use scan::{Span, span_at};
+use scan::Span;
 use table::{Counted, Table, a_at, is_variable_of, one_if, tag, tag_at};
 
 // Rows of a tag; or the rows 0, 1, .. in their stead that stand for the identifiers 1, 2, ..
@@ -74,7 +74,7 @@ fn variable_at(table: &Counted, own: u64, j: usize) -> bool
 pub fn action_row(index: &Index, event: u64, x: u64) -> usize
     ensures { result ≡ action_row (rows_of index.now.table.words.now) event x }
 {
-    scan::action_row(index.table.words, index.spans, event, x)
+    index.action_row(event, x)
 }
 
 // Whether it is assigned.
@@ -133,7 +133,7 @@ fn section_span(index: &Index, tag: u64) -> Span
     ensures { result ≡ section_span (rows_of index.now.table.words.now) tag }
 {
     if tag <= tag::VARIANT {
-        return span_at(index.table.words, index.spans, tag);
+        return index.span_at(tag);
     }
     Span {
         from: 0,

@@ -22,7 +22,6 @@ use nodes::Index;
 use reader::next_row;
 use recording::tags;
 use row::{Place, Read, Row};
-use scan::action_row;
 use signed::of_word;
 use table::{Counted, Table, event, identifier, is_variable_of, tag};
 
@@ -161,7 +160,7 @@ fn read_value(
 fn is_such_that(index: &Index, e: u64, x: u64) -> bool
     ensures { result ≡ is_such_that (action_of (rows_of index.now.table.words.now) e x) }
 {
-    let i = action_row(index.table.words, index.spans, e, x);
+    let i = index.action_row(e, x);
     (i < index.table.size()) & !(index.table.tag_at(i) == tag::BECOMES_EQUAL)
 }
 

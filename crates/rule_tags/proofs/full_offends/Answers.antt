@@ -22,7 +22,7 @@ span_tag-requires c = search rules
 pub span_at-requires : goal.span_at-requires
 unfolding full_offends
 span_at-requires c =
-    (subst (λ k. k ≤ variant_tag) (sym (c.span_tag.ensures ∙ ap span_tag c.tag_at-tag.ensures)) (span_tag_known _ c.requires.2), c.args.index.now.noted.spanned)
+    subst (λ k. k ≤ variant_tag) (sym (c.span_tag.ensures ∙ ap span_tag c.tag_at-tag.ensures)) (span_tag_known _ c.requires.2)
 
 pub overflow_sub-before : goal.overflow_sub-before
 unfolding full_offends

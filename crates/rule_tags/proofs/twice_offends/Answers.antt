@@ -30,7 +30,7 @@ b_at-target-requires c = search rules
 pub some_row-requires : goal.some_row-requires
 unfolding twice_offends
 some_row-requires c =
-    (c.args.index.now.noted.spanned, omega (arith, c.requires), target_known c.tag_at-tag.result c.if-not-tag.false)
+    (omega (arith, c.requires), target_known c.tag_at-tag.result c.if-not-tag.false)
 
 pub returns : goal.returns
 unfolding twice_offends

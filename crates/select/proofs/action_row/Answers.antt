@@ -1,6 +1,5 @@
 -- The row that is noted is the action's.
 use Rattle.select.specs.Selection.{action_row}
-use borrow.Author.Rules.{rules}
 use Rattle.select.proofs.action_row.Goals as goal
 
 pub returns : goal.returns
