@@ -38,7 +38,8 @@ fn row_offends(index: &Index, check: u64, i: usize) -> bool
 // The first row that offends against a check, counted from 0, or the number of rows, where the checks before it have passed. The checks of sorts and of uses go over
 // the rows themselves.
 pub fn first_row(index: &Index, check: u64) -> usize
-    requires { PassedBefore (rows_of index.now.table.words.now) check }
+    requires table_value { length index.now.table.words.now ≤ most_words }
+    requires passed_before { PassedBefore (rows_of index.now.table.words.now) check }
     ensures { result ≡ first_row (rows_of index.now.table.words.now) check }
 {
     if check == Refusal::SORT {
@@ -58,6 +59,7 @@ pub fn first_row(index: &Index, check: u64) -> usize
 
 // The first check from 3 on against which a row offends, or the last.
 pub fn first_check(index: &Index) -> u64
+    requires { length index.now.table.words.now ≤ most_words }
     ensures { result ≡ first_check (rows_of index.now.table.words.now) }
 {
     let rows = index.table.size();

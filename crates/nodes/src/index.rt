@@ -1,16 +1,15 @@
 // What is known of a table, made once and read by everything above.
 ghost use Rattle.std.specs.Prelude.{◌≡◌, ◌≤◌, length};
-ghost use Rattle.table.specs.Rows.{rows_of};
-ghost use Rattle.table.specs.Lookups.{most_words};
-ghost use Rattle.lists.specs.Below.{some_below, first};
+ghost use Rattle.lists.specs.Below.{first};
 ghost use Rattle.table.specs.Names.{variant_tag};
-ghost use Rattle.scan.specs.Query.{query_tag, passes_of};
+ghost use Rattle.table.specs.Rows.{rows_of};
+ghost use Rattle.scan.specs.Query.{passes_of};
 ghost use Rattle.scan.specs.declared.Query.TheVariants.{Assigns};
 ghost use Rattle.scan.specs.Spans.{span_words, tag_span};
 ghost use Rattle.nodes.specs.Notes.{Noted};
 
 use crate::fill_notes;
-use scan::{Query, Span};
+use scan::{Scanned, Span};
 use table::Counted;
 
 // A table's rows with their counts, and in lent numbers the spans of its tags, its actions and what is noted of its nodes and events.
@@ -24,12 +23,22 @@ pub struct Index<'a> {
 impl<'a> Index<'a> {
     // Counts the rows and fills the lent numbers.
     pub fn of(words: &'a [u64], spans: &'a mut [usize]) -> Index<'a>
-        requires { (length words.now ≤ most_words) × (length spans.old ≡ span_words) }
+        requires { length spans.old ≡ span_words }
         ensures { result.table.words ≡ words.entry }
     {
         let table = Counted::of(words);
         fill_notes(&table, spans);
         Index { table, spans }
+    }
+
+    // The same without what is noted of nodes and events.
+    pub fn scanned(&self) -> Scanned<'a>
+        ensures { result.table.words ≡ self.now.table.words }
+    {
+        Scanned {
+            table: self.table,
+            spans: self.spans,
+        }
     }
 
     // The rows between which those of a tag stand; of 51, those of 51 and 52.
@@ -45,13 +54,5 @@ impl<'a> Index<'a> {
         ensures { result ≡ first (passes_of (rows_of self.now.table.words.now) (Assigns event target)) (rows_of self.now.table.words.now).size 0 }
     {
         scan::action_row(self.table.words, self.spans, event, target)
-    }
-
-    // Whether one of the rows before row n passes.
-    pub fn some_row(&self, query: Query, n: usize) -> bool
-        requires { (n ≤ (rows_of self.now.table.words.now).size) × (query_tag query ≤ variant_tag) }
-        ensures { result ≡ some_below (passes_of (rows_of self.now.table.words.now) query) n }
-    {
-        scan::some_row(self.table.words, self.spans, query, n)
     }
 }

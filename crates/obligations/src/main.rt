@@ -132,7 +132,8 @@ fn print_sequents(
 
 // Prints the sequents of a table with these words, or its refusal by checks 3 to 12, by the counts of the rows and what is noted of them.
 fn print_judged(stdout: Stdout, bytes: &[u8], index: &Index, out: &mut [u8]) -> io::Result<Printer>
-    requires { (index.now.table.words.now ≡ words_of bytes.now) × (verdict_of bytes.now ≡ judge_of (rows_of index.now.table.words.now)) × (room most_rows ≤ length out.old) }
+    requires table_value { length index.now.table.words.now ≤ most_words }
+    requires words_value { (index.now.table.words.now ≡ words_of bytes.now) × (verdict_of bytes.now ≡ judge_of (rows_of index.now.table.words.now)) × (room most_rows ≤ length out.old) }
     ensures { IfOk result (λ printer. printer.at ≡ length (output bytes.now)) }
 {
     match judge_with(index) {

@@ -160,6 +160,7 @@ fn press_judged(
     sorts: &[u64],
     room: usize,
 ) -> Result<(), Refusal>
+    requires { length index.now.table.words.now ≤ most_words }
     ensures value { result ≡ reply_of (outcome_by (judge_of (rows_of index.now.table.words.now)) (press_on (rows_of index.now.table.words.now) step.now values.old sorts.now room)) }
     ensures values_after { values.new ≡ kept_or (λ zs. zs) values.old (outcome_by (judge_of (rows_of index.now.table.words.now)) (press_on (rows_of index.now.table.words.now) step.now values.old sorts.now room)) }
 {

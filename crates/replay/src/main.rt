@@ -126,6 +126,7 @@ fn replay_log<R: Read>(rt: &impl Print, index: &Index, log: &mut R) -> Result<()
 
 // The same of a table that may be refused.
 fn replay_judged<R: Read>(rt: &impl Print, index: &Index, log: &mut R) -> Result<(), Failure>
+    requires { length index.now.table.words.now ≤ most_words }
 {
     match judge_with(index) {
         Err(refusal) => print(rt, Err(refusal)),

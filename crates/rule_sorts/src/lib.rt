@@ -213,6 +213,7 @@ fn find_unused(table: &Counted, uses: &[usize]) -> usize
 
 // The first row that offends against check 9, or the number of rows.
 pub fn first_unused(table: &Counted) -> usize
+    requires { length table.now.words.now ≤ most_words }
     ensures { result ≡ first_row (rows_of table.now.words.now) 9 }
 {
     let mut uses = [0usize; Table::ROWS + 1];

@@ -165,6 +165,7 @@ fn serve_accepted(
 
 // Does what is asked of sequent k of the table of these rows, where it is accepted.
 fn serve_judged(index: &Index, k: u64, request: Request, out: &mut [u8]) -> Result<u64, Refusal>
+    requires { length index.now.table.words.now ≤ most_words }
     ensures { outcome result out.new ≡ serve_by (machine_of (rows_of index.now.table.words.now)) (judge_of (rows_of index.now.table.words.now)) k request out.old }
 {
     let count = judge_with(index)?;

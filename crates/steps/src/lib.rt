@@ -206,6 +206,7 @@ fn replay_log(index: &Index, run: &[u8]) -> Result<u64, Refusal>
 
 // The same of a table that may be refused: "After the table's checks".
 fn replay_judged(index: &Index, run: &[u8]) -> Result<u64, Refusal>
+    requires { length index.now.table.words.now ≤ most_words }
     ensures { result ≡ replay_by (judge_of (rows_of index.now.table.words.now)) (replay_log (rows_of index.now.table.words.now) run.now) }
 {
     judge_with(index)?;

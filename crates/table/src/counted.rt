@@ -1,7 +1,7 @@
 // The rows of a table together with their counts, and what is read of them.
-ghost use Rattle.std.specs.Prelude.{◌≡◌, ◌+◌, ◌*◌, ◌<◌, ◌≤◌, length, get_or};
+ghost use Rattle.std.specs.Prelude.{◌≡◌, ◌+◌, ◌*◌, ◌^◌, ◌<◌, length, get_or};
 ghost use Rattle.table.specs.Rows.{rows_of, named, row_of};
-ghost use Rattle.table.specs.Lookups.{is_variable_number, most_words};
+ghost use Rattle.table.specs.Lookups.{is_variable_number};
 ghost use Rattle.table.specs.Counts.{counts_of};
 
 use crate::{Table, among, field, identifier, is_variable_of};
@@ -12,13 +12,13 @@ pub struct Counted<'a> {
     pub words: &'a [u64],
     pub counts: Table,
     pub ghost counted: { counts ≡ counts_of (rows_of words.now) },
-    pub ghost few: { length words.now ≤ most_words },
+    // as every slice
+    pub ghost bounded: { length words.now < 2 ^ 60 },
 }
 
 impl<'a> Counted<'a> {
     // Counts the rows.
     pub fn of(words: &'a [u64]) -> Counted<'a>
-        requires { length words.now ≤ most_words }
         ensures { result.words ≡ words.entry }
     {
         let counts = Table::of(words);

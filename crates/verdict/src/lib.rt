@@ -50,6 +50,7 @@ pub fn load(bytes: &[u8], words: &mut [u64]) -> Result<usize, Refusal>
 
 // Checks 3 to 12, and the count of the sequents where none offends, by the counts of the rows and what is noted of them.
 pub fn judge_with(index: &Index) -> Result<u64, Refusal>
+    requires { length index.now.table.words.now ≤ most_words }
     ensures { result ≡ judge_of (rows_of index.now.table.words.now) }
 {
     let check = first_check(index);

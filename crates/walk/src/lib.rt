@@ -158,7 +158,8 @@ const MANY: u64 = 4294967296;
 
 // How many sequents a table that passes all checks has.
 pub fn count(index: &Index) -> u64
-    requires { Passes (rows_of index.now.table.words.now) }
+    requires table_value { length index.now.table.words.now ≤ most_words }
+    requires passes { Passes (rows_of index.now.table.words.now) }
     ensures { result ≡ length (sequents (machine_of (rows_of index.now.table.words.now))) }
 {
     let end = seek(index, Slot::start(MANY));

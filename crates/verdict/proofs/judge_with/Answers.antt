@@ -9,8 +9,11 @@ use Rattle.rules.specs.Verdict.{first_row, first_check, PassedBefore}
 use Rattle.rules.proofs.Cases.{judge_row, judge_missing, judge_accepted, row_at_most, first_passed}
 use Rattle.verdict.proofs.judge_with.Goals as goal
 
+pub first_check-check-requires : goal.first_check-check-requires
+first_check-check-requires c = c.requires
+
 pub first_row-requires : goal.first_row-requires
-first_row-requires c = subst (PassedBefore (rows_of c.args.index.now.table.words.now)) (sym c.first_check-check.ensures) (first_passed (rows_of c.args.index.now.table.words.now))
+first_row-requires c = record { table_value = c.requires; passed_before = subst (PassedBefore (rows_of c.args.index.now.table.words.now)) (sym c.first_check-check.ensures) (first_passed (rows_of c.args.index.now.table.words.now)) }
 
 pub overflow_add-row : goal.overflow_add-row
 overflow_add-row c =
@@ -34,7 +37,7 @@ returns-then-missing c =
 pub count-requires : goal.count-requires
 count-requires c =
     let t = rows_of c.args.index.now.table.words.now in
-    let all : 12 ≤ first_check t = omega (arith, c.first_check-check.ensures, c.if-check-lt-MISSING.false) in (λ k i low high l. first_passed t k i low (omega arith) l, sym c.missing.ensures ∙ c.if-missing.false)
+    let all : 12 ≤ first_check t = omega (arith, c.first_check-check.ensures, c.if-check-lt-MISSING.false) in record { table_value = c.requires; passes = (λ k i low high l. first_passed t k i low (omega arith) l, sym c.missing.ensures ∙ c.if-missing.false) }
 
 pub returns : goal.returns
 returns c =

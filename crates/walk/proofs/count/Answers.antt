@@ -17,10 +17,10 @@ pub overflow_sub-result : goal.overflow_sub-result
 overflow_sub-result c =
     let t = rows_of c.args.index.now.table.words.now in
     let at : position t c.start.result ≡ 4294967296 = ap (position t) c.start.ensures ∙ start_position t 4294967296 in
-    omega (arith, passed_all t 4294967296 c.seek-end.result (count_small t (omega (arith, c.args.index.now.table.few))) (subst (λ k. SoughtSlot t k c.seek-end.result) at c.seek-end.ensures))
+    omega (arith, passed_all t 4294967296 c.seek-end.result (count_small t (omega (arith, c.requires.table_value))) (subst (λ k. SoughtSlot t k c.seek-end.result) at c.seek-end.ensures))
 
 pub returns : goal.returns
 returns c =
     let t = rows_of c.args.index.now.table.words.now in
     let at : position t c.start.result ≡ 4294967296 = ap (position t) c.start.ensures ∙ start_position t 4294967296 in
-    omega (arith, walk_count_lem t (passes_obeys t c.requires), passed_all t 4294967296 c.seek-end.result (count_small t (omega (arith, c.args.index.now.table.few))) (subst (λ k. SoughtSlot t k c.seek-end.result) at c.seek-end.ensures))
+    omega (arith, walk_count_lem t (passes_obeys t c.requires.passes), passed_all t 4294967296 c.seek-end.result (count_small t (omega (arith, c.requires.table_value))) (subst (λ k. SoughtSlot t k c.seek-end.result) at c.seek-end.ensures))
