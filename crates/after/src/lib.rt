@@ -17,7 +17,7 @@ ghost use Rattle.bench.specs.State.{updated};
 ghost use Rattle.bench.specs.Press.{answered, after_by, completed};
 
 use evaluate::{Env, evaluate_expression, value_at};
-use nodes::Index;
+use scan::Scanned;
 use signed::{Found, Value};
 use state::copy_list;
 use table::{Counted, Table, tag};
@@ -47,35 +47,35 @@ fn equal_after(table: &Counted, present: &[i64], root: u64) -> i64
 }
 
 // The after value of the variable x: a 51 reads the state before, that of a 52 is given, without an action it keeps its value.
-fn after_by(index: &Index, e: u64, x: u64, present: &[i64], after: &[i64]) -> i64
-    ensures { result ≡ after_by (rows_of index.now.table.words.now) (values_of present.now after.now) x ((machine_of (rows_of index.now.table.words.now)).action e x) }
+fn after_by(scanned: &Scanned, e: u64, x: u64, present: &[i64], after: &[i64]) -> i64
+    ensures { result ≡ after_by (rows_of scanned.now.table.words.now) (values_of present.now after.now) x ((machine_of (rows_of scanned.now.table.words.now)).action e x) }
 {
-    let i = index.action_row(e, x);
-    if index.table.size() <= i {
+    let i = scanned.action_row(e, x);
+    if scanned.table.size() <= i {
         return value_at(present, x);
     }
-    if index.table.tag_at(i) == tag::BECOMES_EQUAL {
-        return equal_after(&index.table, present, index.table.c_at(i));
+    if scanned.table.tag_at(i) == tag::BECOMES_EQUAL {
+        return equal_after(&scanned.table, present, scanned.table.c_at(i));
     }
     value_at(after, x)
 }
 
 // Stores the after value of the identifier x, where it is a variable of the concrete machine.
-fn complete_value(index: &Index, e: u64, x: u64, present: &[i64], after: &mut [i64])
-    ensures { after.new ≡ pick (is_state_variable (rows_of index.now.table.words.now) x) (set after.old x (after_by (rows_of index.now.table.words.now) (values_of present.now after.old) x ((machine_of (rows_of index.now.table.words.now)).action e x))) after.old }
+fn complete_value(scanned: &Scanned, e: u64, x: u64, present: &[i64], after: &mut [i64])
+    ensures { after.new ≡ pick (is_state_variable (rows_of scanned.now.table.words.now) x) (set after.old x (after_by (rows_of scanned.now.table.words.now) (values_of present.now after.old) x ((machine_of (rows_of scanned.now.table.words.now)).action e x))) after.old }
 {
-    if is_state_variable(&index.table, x) {
-        let value = after_by(index, e, x, present, after);
+    if is_state_variable(&scanned.table, x) {
+        let value = after_by(scanned, e, x, present, after);
         put(after, x, value);
     }
 }
 
 // The after values of all variables of a step of the event e, of which those of its 52 actions are given.
-pub fn complete_values(index: &Index, e: u64, present: &[i64], after: &mut [i64])
-    ensures { values_of present.now after.new ≡ completed (rows_of index.now.table.words.now) e (values_of present.now after.old) }
+pub fn complete_values(scanned: &Scanned, e: u64, present: &[i64], after: &mut [i64])
+    ensures { values_of present.now after.new ≡ completed (rows_of scanned.now.table.words.now) e (values_of present.now after.old) }
 {
-    for x in 0..index.table.counts.identifiers {
-        complete_value(index, e, x + 1, present, after);
+    for x in 0..scanned.table.counts.identifiers {
+        complete_value(scanned, e, x + 1, present, after);
     }
 }
 

@@ -16,9 +16,9 @@ ghost use Rattle.judge.specs.Judge.{number_of, fault_number, step_fault_of, is_j
 
 use evaluate::{Env, evaluate_expression, evaluate_predicate, stored_value, value_at};
 use events::is_initial;
-use nodes::Index;
 use operands::equal_values;
 use rules::Refusal;
+use scan::Scanned;
 use signed::{Fault, Found, Value};
 use table::{Counted, Table, a_at, b_at, identifier, is_variable_of, tag, tag_at};
 
@@ -112,13 +112,13 @@ fn row_fault(table: &Counted, present: &[i64], tag: u64, e: u64, i: usize) -> Re
 }
 
 // The first fault of the axioms, or of the guards of the event e. Only the rows are read between which those of the tag stand.
-fn first_untrue(index: &Index, present: &[i64], tag: u64, e: u64) -> Result<(), StepFault>
+fn first_untrue(scanned: &Scanned, present: &[i64], tag: u64, e: u64) -> Result<(), StepFault>
     requires { tag ≤ 50 }
-    ensures { fault_number result ≡ first_untrue (rows_of index.now.table.words.now) present.now tag e }
+    ensures { fault_number result ≡ first_untrue (rows_of scanned.now.table.words.now) present.now tag e }
 {
-    let span = index.span_at(tag);
+    let span = scanned.span_at(tag);
     for i in span.from..span.to {
-        row_fault(&index.table, present, tag, e, i)?;
+        row_fault(&scanned.table, present, tag, e, i)?;
     }
     Ok(())
 }
@@ -126,27 +126,27 @@ fn first_untrue(index: &Index, present: &[i64], tag: u64, e: u64) -> Result<(), 
 // What is wrong with the after value of the variable x: "51: the root in the state before against the logged value; 52: the predicate with the logged after value;
 // unassigned: unchanged".
 fn action_fault(
-    index: &Index,
+    scanned: &Scanned,
     present: &[i64],
     after: &[i64],
     e: u64,
     x: u64,
 ) -> Result<(), StepFault>
-    ensures { fault_number result ≡ action_fault (rows_of index.now.table.words.now) present.now after.now e x }
+    ensures { fault_number result ≡ action_fault (rows_of scanned.now.table.words.now) present.now after.now e x }
 {
-    let i = index.action_row(e, x);
-    let sort = index.table.identifier_field(x, Table::TYPE);
+    let i = scanned.action_row(e, x);
+    let sort = scanned.table.identifier_field(x, Table::TYPE);
     let moved = stored_value(sort, value_at(after, x));
-    if index.table.size() <= i {
+    if scanned.table.size() <= i {
         return differs(moved, stored_value(sort, value_at(present, x)));
     }
-    let root = index.table.c_at(i);
+    let root = scanned.table.c_at(i);
     let env = Env {
-        table: &index.table,
+        table: &scanned.table,
         present,
         after,
     };
-    if index.table.tag_at(i) == tag::BECOMES_EQUAL {
+    if scanned.table.tag_at(i) == tag::BECOMES_EQUAL {
         let found = evaluate_expression(&env, root);
         return fault_of(moved, found);
     }
@@ -156,54 +156,69 @@ fn action_fault(
 
 // The same of the identifier x, where it is a variable of the concrete machine.
 fn variable_fault(
-    index: &Index,
+    scanned: &Scanned,
     present: &[i64],
     after: &[i64],
     e: u64,
     x: u64,
 ) -> Result<(), StepFault>
-    ensures { fault_number result ≡ variable_fault (rows_of index.now.table.words.now) present.now after.now e x }
+    ensures { fault_number result ≡ variable_fault (rows_of scanned.now.table.words.now) present.now after.now e x }
 {
-    let kind = index.table.identifier_field(x, Table::KIND);
+    let kind = scanned.table.identifier_field(x, Table::KIND);
     if is_variable_of(identifier::CONCRETE_VARIABLE, kind) {
-        return action_fault(index, present, after, e, x);
+        return action_fault(scanned, present, after, e, x);
     }
     Ok(())
 }
 
 // The first fault of the variables, in identifier order.
-fn first_not_allowed(index: &Index, present: &[i64], after: &[i64], e: u64) -> Result<(), StepFault>
-    ensures { fault_number result ≡ first_not_allowed (rows_of index.now.table.words.now) present.now after.now e }
+fn first_not_allowed(
+    scanned: &Scanned,
+    present: &[i64],
+    after: &[i64],
+    e: u64,
+) -> Result<(), StepFault>
+    ensures { fault_number result ≡ first_not_allowed (rows_of scanned.now.table.words.now) present.now after.now e }
 {
-    for x in 0..index.table.counts.identifiers {
-        variable_fault(index, present, after, e, x + 1)?;
+    for x in 0..scanned.table.counts.identifiers {
+        variable_fault(scanned, present, after, e, x + 1)?;
     }
     Ok(())
 }
 
 // The first fault of the axioms, where the event is an initialisation.
-fn axiom_fault(index: &Index, present: &[i64], e: u64) -> Result<(), StepFault>
-    ensures { fault_number result ≡ pick (is_initial (rows_of index.now.table.words.now) e) (first_untrue (rows_of index.now.table.words.now) present.now 30 e) 0 }
+fn axiom_fault(scanned: &Scanned, present: &[i64], e: u64) -> Result<(), StepFault>
+    ensures { fault_number result ≡ pick (is_initial (rows_of scanned.now.table.words.now) e) (first_untrue (rows_of scanned.now.table.words.now) present.now 30 e) 0 }
 {
-    if is_initial(&index.table, e) {
-        return first_untrue(index, present, tag::AXIOM, e);
+    if is_initial(&scanned.table, e) {
+        return first_untrue(scanned, present, tag::AXIOM, e);
     }
     Ok(())
 }
 
 // The first fault of a step of the event e.
-pub fn step_fault(index: &Index, present: &[i64], after: &[i64], e: u64) -> Result<(), StepFault>
-    ensures { fault_number result ≡ step_fault (rows_of index.now.table.words.now) e present.now after.now }
+pub fn step_fault(
+    scanned: &Scanned,
+    present: &[i64],
+    after: &[i64],
+    e: u64,
+) -> Result<(), StepFault>
+    ensures { fault_number result ≡ step_fault (rows_of scanned.now.table.words.now) e present.now after.now }
 {
-    axiom_fault(index, present, e)?;
-    first_untrue(index, present, tag::GUARD, e)?;
-    first_not_allowed(index, present, after, e)
+    axiom_fault(scanned, present, e)?;
+    first_untrue(scanned, present, tag::GUARD, e)?;
+    first_not_allowed(scanned, present, after, e)
 }
 
 // The first fault of a step of the event e that is pressed: "by replay's rules, axioms read first each time".
-pub fn press_fault(index: &Index, present: &[i64], after: &[i64], e: u64) -> Result<(), StepFault>
-    ensures { fault_number result ≡ press_fault (rows_of index.now.table.words.now) e present.now after.now }
+pub fn press_fault(
+    scanned: &Scanned,
+    present: &[i64],
+    after: &[i64],
+    e: u64,
+) -> Result<(), StepFault>
+    ensures { fault_number result ≡ press_fault (rows_of scanned.now.table.words.now) e present.now after.now }
 {
-    first_untrue(index, present, tag::AXIOM, e)?;
-    step_fault(index, present, after, e)
+    first_untrue(scanned, present, tag::AXIOM, e)?;
+    step_fault(scanned, present, after, e)
 }

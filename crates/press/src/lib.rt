@@ -24,7 +24,7 @@ use nodes::Index;
 use reader::next_row;
 use row::{Place, Read};
 use rules::Refusal;
-use scan::Span;
+use scan::{Scanned, Span};
 use state::{copy_list, is_state};
 use table::Table;
 use values::{is_step_row, read_values};
@@ -43,7 +43,7 @@ fn chosen_to(e: u64, end: usize, length: usize) -> Option<u64>
 
 // Reads the rows 91 of a choice of the event e, the last of its rows.
 fn choose_values(
-    index: &Index,
+    scanned: &Scanned,
     step: &[u8],
     e: u64,
     place: Place,
@@ -51,24 +51,24 @@ fn choose_values(
     after: &mut [i64],
 ) -> Option<u64>
     requires { (place.at ≡ row_length width) × (place.at ≤ length step.now) }
-    ensures { choice_of result (values_of present.new after.new) ≡ choice_found e (read_values (rows_of index.now.table.words.now) e (asked (rows_of index.now.table.words.now) e) 2 (lines_at step.now place.at) (values_of present.old after.old)) }
+    ensures { choice_of result (values_of present.new after.new) ≡ choice_found e (read_values (rows_of scanned.now.table.words.now) e (asked (rows_of scanned.now.table.words.now) e) 2 (lines_at step.now place.at) (values_of present.old after.old)) }
 {
-    match read_values(index, true, step, e, place, present, after) {
+    match read_values(scanned, true, step, e, place, present, after) {
         Err(_) => None,
         Ok(end) => chosen_to(e, end.at, step.len()),
     }
 }
 
 // Reads the rows of a choice: row 90 of a concrete event that is no initialisation, then its rows 91.
-fn choose(index: &Index, step: &[u8], present: &mut [i64], after: &mut [i64]) -> Option<u64>
-    ensures { choice_of result (values_of present.new after.new) ≡ choice (rows_of index.now.table.words.now) (lines step.now) (values_of present.old after.old) }
+fn choose(scanned: &Scanned, step: &[u8], present: &mut [i64], after: &mut [i64]) -> Option<u64>
+    ensures { choice_of result (values_of present.new after.new) ≡ choice (rows_of scanned.now.table.words.now) (lines step.now) (values_of present.old after.old) }
 {
     match next_row(Place::start(), step) {
         Read::End => None,
         Read::Malformed => None,
         Read::Next(row, next) => {
-            if is_step_row(&index.table, false, row) {
-                return choose_values(index, step, row.a, next, present, after);
+            if is_step_row(&scanned.table, false, row) {
+                return choose_values(scanned, step, row.a, next, present, after);
             }
             None
         }
@@ -77,74 +77,74 @@ fn choose(index: &Index, step: &[u8], present: &mut [i64], after: &mut [i64]) ->
 
 // Performs a step of the event e, whose values are stored, and updates the state's values; or tells the first fault.
 fn press_event(
-    index: &Index,
+    scanned: &Scanned,
     e: u64,
     present: &[i64],
     after: &mut [i64],
     values: &mut [i64],
 ) -> Result<(), Refusal>
-    requires { (count (rows_of index.now.table.words.now) identifier_tag ≤ 64) × (length values.old ≡ count (rows_of index.now.table.words.now) identifier_tag) × (length after.old ≡ 65) }
-    ensures value { result ≡ reply_of (press_choice (rows_of index.now.table.words.now) values.old (chosen e (values_of present.now after.old))) }
-    ensures values_after { values.new ≡ kept_or (λ zs. zs) values.old (press_choice (rows_of index.now.table.words.now) values.old (chosen e (values_of present.now after.old))) }
+    requires { (count (rows_of scanned.now.table.words.now) identifier_tag ≤ 64) × (length values.old ≡ count (rows_of scanned.now.table.words.now) identifier_tag) × (length after.old ≡ 65) }
+    ensures value { result ≡ reply_of (press_choice (rows_of scanned.now.table.words.now) values.old (chosen e (values_of present.now after.old))) }
+    ensures values_after { values.new ≡ kept_or (λ zs. zs) values.old (press_choice (rows_of scanned.now.table.words.now) values.old (chosen e (values_of present.now after.old))) }
 {
-    complete_values(index, e, present, after);
-    if let Err(fault) = press_fault(index, present, after, e) {
+    complete_values(scanned, e, present, after);
+    if let Err(fault) = press_fault(scanned, present, after, e) {
         return Err(Refusal {
             number: fault.number(),
             row: 0,
         });
     }
-    update_values(&index.table, after, values);
+    update_values(&scanned.table, after, values);
     Ok(())
 }
 
 // The same of the event that the rows of a step choose.
 fn press_step(
-    index: &Index,
+    scanned: &Scanned,
     step: &[u8],
     present: &mut [i64],
     after: &mut [i64],
     values: &mut [i64],
 ) -> Result<(), Refusal>
-    requires { (count (rows_of index.now.table.words.now) identifier_tag ≤ 64) × (length values.old ≡ count (rows_of index.now.table.words.now) identifier_tag) × (length after.old ≡ 65) }
-    ensures value { result ≡ reply_of (press_choice (rows_of index.now.table.words.now) values.old (choice (rows_of index.now.table.words.now) (lines step.now) (values_of present.old after.old))) }
-    ensures values_after { values.new ≡ kept_or (λ zs. zs) values.old (press_choice (rows_of index.now.table.words.now) values.old (choice (rows_of index.now.table.words.now) (lines step.now) (values_of present.old after.old))) }
+    requires { (count (rows_of scanned.now.table.words.now) identifier_tag ≤ 64) × (length values.old ≡ count (rows_of scanned.now.table.words.now) identifier_tag) × (length after.old ≡ 65) }
+    ensures value { result ≡ reply_of (press_choice (rows_of scanned.now.table.words.now) values.old (choice (rows_of scanned.now.table.words.now) (lines step.now) (values_of present.old after.old))) }
+    ensures values_after { values.new ≡ kept_or (λ zs. zs) values.old (press_choice (rows_of scanned.now.table.words.now) values.old (choice (rows_of scanned.now.table.words.now) (lines step.now) (values_of present.old after.old))) }
 {
-    match choose(index, step, present, after) {
+    match choose(scanned, step, present, after) {
         None => Err(Refusal {
             number: Refusal::LOG,
             row: 0,
         }),
-        Some(e) => press_event(index, e, present, after, values),
+        Some(e) => press_event(scanned, e, present, after, values),
     }
 }
 
 // The same with the state's values at hand.
-fn press_values(index: &Index, step: &[u8], values: &mut [i64]) -> Result<(), Refusal>
-    requires { (count (rows_of index.now.table.words.now) identifier_tag ≤ 64) × (length values.old ≡ count (rows_of index.now.table.words.now) identifier_tag) }
-    ensures value { result ≡ reply_of (press_choice (rows_of index.now.table.words.now) values.old (choice (rows_of index.now.table.words.now) (lines step.now) (at_hand (rows_of index.now.table.words.now) values.old))) }
-    ensures values_after { values.new ≡ kept_or (λ zs. zs) values.old (press_choice (rows_of index.now.table.words.now) values.old (choice (rows_of index.now.table.words.now) (lines step.now) (at_hand (rows_of index.now.table.words.now) values.old))) }
+fn press_values(scanned: &Scanned, step: &[u8], values: &mut [i64]) -> Result<(), Refusal>
+    requires { (count (rows_of scanned.now.table.words.now) identifier_tag ≤ 64) × (length values.old ≡ count (rows_of scanned.now.table.words.now) identifier_tag) }
+    ensures value { result ≡ reply_of (press_choice (rows_of scanned.now.table.words.now) values.old (choice (rows_of scanned.now.table.words.now) (lines step.now) (at_hand (rows_of scanned.now.table.words.now) values.old))) }
+    ensures values_after { values.new ≡ kept_or (λ zs. zs) values.old (press_choice (rows_of scanned.now.table.words.now) values.old (choice (rows_of scanned.now.table.words.now) (lines step.now) (at_hand (rows_of scanned.now.table.words.now) values.old))) }
 {
     let mut present = [0i64; Table::IDENTIFIERS as usize + 1];
     let mut after = [0i64; Table::IDENTIFIERS as usize + 1];
     copy_list(values, &mut present[1..]);
-    press_step(index, step, &mut present, &mut after, values)
+    press_step(scanned, step, &mut present, &mut after, values)
 }
 
 // Presses on a state of the table of these rows, which is accepted, where all is right that is looked at "before any term is read".
 fn press_state(
-    index: &Index,
+    scanned: &Scanned,
     step: &[u8],
     values: &mut [i64],
     sorts: &[u64],
     room: usize,
 ) -> Result<(), Refusal>
-    requires { count (rows_of index.now.table.words.now) identifier_tag ≤ 64 }
-    ensures value { result ≡ reply_of (press_on (rows_of index.now.table.words.now) step.now values.old sorts.now room) }
-    ensures values_after { values.new ≡ kept_or (λ zs. zs) values.old (press_on (rows_of index.now.table.words.now) step.now values.old sorts.now room) }
+    requires { count (rows_of scanned.now.table.words.now) identifier_tag ≤ 64 }
+    ensures value { result ≡ reply_of (press_on (rows_of scanned.now.table.words.now) step.now values.old sorts.now room) }
+    ensures values_after { values.new ≡ kept_or (λ zs. zs) values.old (press_on (rows_of scanned.now.table.words.now) step.now values.old sorts.now room) }
 {
-    if is_state(&index.table, values, sorts) & (room as u64 == index.table.counts.identifiers) {
-        return press_values(index, step, values);
+    if is_state(&scanned.table, values, sorts) & (room as u64 == scanned.table.counts.identifiers) {
+        return press_values(scanned, step, values);
     }
     Err(Refusal {
         number: Refusal::LOG,
@@ -165,7 +165,8 @@ fn press_judged(
     ensures values_after { values.new ≡ kept_or (λ zs. zs) values.old (outcome_by (judge_of (rows_of index.now.table.words.now)) (press_on (rows_of index.now.table.words.now) step.now values.old sorts.now room)) }
 {
     judge_with(index)?;
-    press_state(index, step, values, sorts, room)
+    let scanned = index.scanned();
+    press_state(&scanned, step, values, sorts, room)
 }
 
 // The same of the rows alone.

@@ -18,7 +18,7 @@ use nodes::Index;
 use reply::tags;
 use row::Row;
 use rules::Refusal;
-use scan::Span;
+use scan::{Scanned, Span};
 use std::fs::File;
 use std::io::Read;
 use std::process::ExitCode;
@@ -88,7 +88,7 @@ fn read_on<R: Read>(file: &mut R, window: &mut [u8], held: usize) -> io::Result<
 // Replays the log that a file holds, with no values known before.
 fn replay_parts<R: Read>(
     rt: &impl Print,
-    index: &Index,
+    scanned: &Scanned,
     log: &mut R,
     window: &mut [u8],
     present: &mut [i64],
@@ -103,7 +103,7 @@ fn replay_parts<R: Read>(
         held = read_on(log, window, held).map_err(Failure::Log)?;
         let last = held < WINDOW;
         let part = &window[..held];
-        match replay_part(index, part, last, n, before, present, after) {
+        match replay_part(scanned, part, last, n, before, present, after) {
             Ok(Part::More(steps, next)) => {
                 n = steps;
                 before += (next.at / Row::LENGTH) as u64;
@@ -117,11 +117,11 @@ fn replay_parts<R: Read>(
 }
 
 // Replays the log that a file holds, of the table of these rows, which is accepted.
-fn replay_log<R: Read>(rt: &impl Print, index: &Index, log: &mut R) -> Result<(), Failure> {
+fn replay_log<R: Read>(rt: &impl Print, scanned: &Scanned, log: &mut R) -> Result<(), Failure> {
     let mut window = [0u8; WINDOW];
     let mut present = [0i64; Table::IDENTIFIERS as usize + 1];
     let mut after = [0i64; Table::IDENTIFIERS as usize + 1];
-    replay_parts(rt, index, log, &mut window, &mut present, &mut after)
+    replay_parts(rt, scanned, log, &mut window, &mut present, &mut after)
 }
 
 // The same of a table that may be refused.
@@ -130,7 +130,7 @@ fn replay_judged<R: Read>(rt: &impl Print, index: &Index, log: &mut R) -> Result
 {
     match judge_with(index) {
         Err(refusal) => print(rt, Err(refusal)),
-        Ok(_) => replay_log(rt, index, log),
+        Ok(_) => replay_log(rt, &index.scanned(), log),
     }
 }
 

@@ -8,63 +8,62 @@ ghost use Rattle.table.specs.Counts.{counts_of};
 ghost use Rattle.scan.specs.Spans.{Spanned};
 ghost use Rattle.rules.specs.Rules.{action_wanted, witness_wanted, lacks_for, assigned, has_witness, event_lacks, missing};
 
-use nodes::Index;
-use scan::Query;
+use scan::{Query, Scanned};
 use table::{event, identifier, number_in, tag, variable_kind};
 
 // Whether the event at row i, whose number is event, needs an action for the identifier at row j, whose number is target, and has none.
 // 02, request 2: of a shared variable "both initialisations must".
-fn lacks_action(index: &Index, i: usize, j: usize, event: u64, target: u64) -> bool
-    ensures { result ≡ action_wanted (rows_of index.now.table.words.now) i j && not (assigned (rows_of index.now.table.words.now) event target) }
+fn lacks_action(scanned: &Scanned, i: usize, j: usize, event: u64, target: u64) -> bool
+    ensures { result ≡ action_wanted (rows_of scanned.now.table.words.now) i j && not (assigned (rows_of scanned.now.table.words.now) event target) }
 {
-    let variable = variable_kind(index.table.a_at(j), index.table.a_at(i));
-    if (index.table.b_at(i) == event::INITIALISATION) & variable {
-        return !index.some_row(Query::Assigns { event, target }, index.table.size());
+    let variable = variable_kind(scanned.table.a_at(j), scanned.table.a_at(i));
+    if (scanned.table.b_at(i) == event::INITIALISATION) & variable {
+        return !scanned.some_row(Query::Assigns { event, target }, scanned.table.size());
     }
     false
 }
 
 // The same of a witness.
-fn lacks_witness(index: &Index, i: usize, j: usize, event: u64, target: u64) -> bool
-    ensures { result ≡ witness_wanted (rows_of index.now.table.words.now) i j && not (has_witness (rows_of index.now.table.words.now) event target) }
+fn lacks_witness(scanned: &Scanned, i: usize, j: usize, event: u64, target: u64) -> bool
+    ensures { result ≡ witness_wanted (rows_of scanned.now.table.words.now) i j && not (has_witness (rows_of scanned.now.table.words.now) event target) }
 {
-    let kind = index.table.a_at(j);
-    let refining = (index.table.a_at(i) == event::CONCRETE)
-        & (index.table.b_at(i) < event::CONVERGENT);
+    let kind = scanned.table.a_at(j);
+    let refining = (scanned.table.a_at(i) == event::CONCRETE)
+        & (scanned.table.b_at(i) < event::CONVERGENT);
     if refining
         & ((kind == identifier::ABSTRACT_VARIABLE)
             | ((kind == identifier::ABSTRACT_PARAMETER)
-                & (index.table.c_at(j) == index.table.c_at(i))))
+                & (scanned.table.c_at(j) == scanned.table.c_at(i))))
     {
-        return !index.some_row(Query::Witnesses { event, target }, index.table.size());
+        return !scanned.some_row(Query::Witnesses { event, target }, scanned.table.size());
     }
     false
 }
 
 // Whether row j is an identifier for which the event at row i lacks an action or a witness.
-fn lacks_for(index: &Index, i: usize, j: usize) -> bool
+fn lacks_for(scanned: &Scanned, i: usize, j: usize) -> bool
     requires { (i < 2 ^ 63) × (j < 2 ^ 63) }
-    ensures { result ≡ lacks_for (rows_of index.now.table.words.now) i j }
+    ensures { result ≡ lacks_for (rows_of scanned.now.table.words.now) i j }
 {
-    if index.table.tag_at(j) != tag::IDENTIFIER {
+    if scanned.table.tag_at(j) != tag::IDENTIFIER {
         return false;
     }
-    let event = number_in(index.table.counts.events_start, i);
-    let target = number_in(index.table.counts.identifiers_start, j);
-    lacks_action(index, i, j, event, target) | lacks_witness(index, i, j, event, target)
+    let event = number_in(scanned.table.counts.events_start, i);
+    let target = number_in(scanned.table.counts.identifiers_start, j);
+    lacks_action(scanned, i, j, event, target) | lacks_witness(scanned, i, j, event, target)
 }
 
 // Whether row i is an event that lacks an action or a witness for some identifier.
-fn event_lacks(index: &Index, i: usize) -> bool
+fn event_lacks(scanned: &Scanned, i: usize) -> bool
     requires { i < 2 ^ 63 }
-    ensures { result ≡ event_lacks (rows_of index.now.table.words.now) i }
+    ensures { result ≡ event_lacks (rows_of scanned.now.table.words.now) i }
 {
-    if index.table.tag_at(i) != tag::EVENT {
+    if scanned.table.tag_at(i) != tag::EVENT {
         return false;
     }
-    let identifiers = index.span_at(tag::IDENTIFIER);
+    let identifiers = scanned.span_at(tag::IDENTIFIER);
     for j in identifiers.from..identifiers.to {
-        if lacks_for(index, i, j) {
+        if lacks_for(scanned, i, j) {
             return true;
         }
     }
@@ -72,12 +71,12 @@ fn event_lacks(index: &Index, i: usize) -> bool
 }
 
 // Whether some event does.
-fn some_event_lacks(index: &Index) -> bool
-    ensures { result ≡ some_below (event_lacks (rows_of index.now.table.words.now)) (rows_of index.now.table.words.now).size }
+fn some_event_lacks(scanned: &Scanned) -> bool
+    ensures { result ≡ some_below (event_lacks (rows_of scanned.now.table.words.now)) (rows_of scanned.now.table.words.now).size }
 {
-    let events = index.span_at(tag::EVENT);
+    let events = scanned.span_at(tag::EVENT);
     for i in events.from..events.to {
-        if event_lacks(index, i) {
+        if event_lacks(scanned, i) {
             return true;
         }
     }
@@ -85,16 +84,16 @@ fn some_event_lacks(index: &Index) -> bool
 }
 
 // 12: an initialisation of either machine, an action or a witness, a variant for class 2, or class 2 or 3 for a variant.
-pub fn missing(index: &Index) -> bool
-    ensures { result ≡ missing (rows_of index.now.table.words.now) }
+pub fn missing(scanned: &Scanned) -> bool
+    ensures { result ≡ missing (rows_of scanned.now.table.words.now) }
 {
-    let rows = index.table.size();
-    let abstract_initialised = index.some_row(Query::Initialises(event::ABSTRACT), rows);
-    let concrete_initialised = index.some_row(Query::Initialises(event::CONCRETE), rows);
-    let lacks = some_event_lacks(index);
-    let convergent = index.some_row(Query::OfClass(event::CONVERGENT), rows);
-    let anticipated = index.some_row(Query::OfClass(event::ANTICIPATED), rows);
-    let variant = index.some_row(Query::Tagged(tag::VARIANT), rows);
+    let rows = scanned.table.size();
+    let abstract_initialised = scanned.some_row(Query::Initialises(event::ABSTRACT), rows);
+    let concrete_initialised = scanned.some_row(Query::Initialises(event::CONCRETE), rows);
+    let lacks = some_event_lacks(scanned);
+    let convergent = scanned.some_row(Query::OfClass(event::CONVERGENT), rows);
+    let anticipated = scanned.some_row(Query::OfClass(event::ANTICIPATED), rows);
+    let variant = scanned.some_row(Query::Tagged(tag::VARIANT), rows);
     let lacks_variant = convergent & !variant;
     let lacks_new_event = variant & !(convergent | anticipated);
     !abstract_initialised | (!concrete_initialised | (lacks | (lacks_variant | lacks_new_event)))

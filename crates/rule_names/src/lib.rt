@@ -7,8 +7,7 @@ ghost use Rattle.scan.specs.Spans.{Spanned};
 ghost use Rattle.table.specs.Counts.{counts_of};
 ghost use Rattle.rules.specs.Rules.{abstract_ordinary_event, good_refined, out_of_order, event_offends, owner_event, good_owner, identifier_offends};
 
-use nodes::Index;
-use scan::Query;
+use scan::{Query, Scanned};
 use table::{Counted, Table, event, identifier, tag};
 
 // Whether a number names an abstract ordinary event, which a concrete one may refine.
@@ -32,33 +31,33 @@ fn good_refined(table: &Counted, i: usize) -> bool
 }
 
 // Whether an event stands after one that it must stand before.
-fn out_of_order(index: &Index, i: usize) -> bool
-    requires { i ≤ (rows_of index.now.table.words.now).size }
-    ensures { result ≡ out_of_order (rows_of index.now.table.words.now) i }
+fn out_of_order(scanned: &Scanned, i: usize) -> bool
+    requires { i ≤ (rows_of scanned.now.table.words.now).size }
+    ensures { result ≡ out_of_order (rows_of scanned.now.table.words.now) i }
 {
-    let machine = index.table.a_at(i);
+    let machine = scanned.table.a_at(i);
     let after_concrete = (machine == event::ABSTRACT)
-        & index.some_row(Query::Event(event::CONCRETE), i);
+        & scanned.some_row(Query::Event(event::CONCRETE), i);
     after_concrete
-        | ((index.table.b_at(i) == event::INITIALISATION)
-            & index.some_row(Query::Event(machine), i))
+        | ((scanned.table.b_at(i) == event::INITIALISATION)
+            & scanned.some_row(Query::Event(machine), i))
 }
 
 // 5: bad machine, class or refined event, or out of order. Only an event's row is compared with the events before it.
-pub fn event_offends(index: &Index, i: usize) -> bool
-    requires { i ≤ (rows_of index.now.table.words.now).size }
-    ensures { result ≡ event_offends (rows_of index.now.table.words.now) i }
+pub fn event_offends(scanned: &Scanned, i: usize) -> bool
+    requires { i ≤ (rows_of scanned.now.table.words.now).size }
+    ensures { result ≡ event_offends (rows_of scanned.now.table.words.now) i }
 {
-    if index.table.tag_at(i) != tag::EVENT {
+    if scanned.table.tag_at(i) != tag::EVENT {
         return false;
     }
-    let machine = index.table.a_at(i);
-    let class = index.table.b_at(i);
+    let machine = scanned.table.a_at(i);
+    let class = scanned.table.b_at(i);
     let good_machine = (machine == event::ABSTRACT) | (machine == event::CONCRETE);
     let good_class = (class < event::CONVERGENT)
         | (((class == event::CONVERGENT) | (class == event::ANTICIPATED))
             & (machine == event::CONCRETE));
-    let rest = good_refined(&index.table, i) & !out_of_order(index, i);
+    let rest = good_refined(&scanned.table, i) & !out_of_order(scanned, i);
     !(good_machine & (good_class & rest))
 }
 

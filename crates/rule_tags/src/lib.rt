@@ -8,8 +8,7 @@ ghost use Rattle.scan.specs.Spans.{Spanned};
 ghost use Rattle.rules.specs.Tags.{columns_used, row_limit};
 ghost use Rattle.rules.specs.Rules.{tag_offends, full_offends, twice_offends};
 
-use nodes::Index;
-use scan::{Query, span_tag};
+use scan::{Query, Scanned, span_tag};
 use table::{Table, b_at, c_at, tag, tag_at};
 
 // How many of the columns a, b, c a tag uses, and how many rows it may have; none of an unknown tag.
@@ -93,25 +92,25 @@ pub fn tag_offends(words: &[u64], i: usize) -> bool
 }
 
 // 4: as many rows before it as its tag may have. Where tags never fall these are all rows from the first of its tag on.
-pub fn full_offends(index: &Index, i: usize) -> bool
-    requires { Rising (rows_of index.now.table.words.now) × (i < (rows_of index.now.table.words.now).size) × ((rows_of index.now.table.words.now).tag i ≤ variant_tag) }
-    ensures { result ≡ full_offends (rows_of index.now.table.words.now) i }
+pub fn full_offends(scanned: &Scanned, i: usize) -> bool
+    requires { Rising (rows_of scanned.now.table.words.now) × (i < (rows_of scanned.now.table.words.now).size) × ((rows_of scanned.now.table.words.now).tag i ≤ variant_tag) }
+    ensures { result ≡ full_offends (rows_of scanned.now.table.words.now) i }
 {
-    let tag = index.table.tag_at(i);
-    let before = i - index.span_at(span_tag(tag)).from;
+    let tag = scanned.table.tag_at(i);
+    let before = i - scanned.span_at(span_tag(tag)).from;
     tag_limits(tag).most <= before as u64
 }
 
 // 11: an action or a witness whose event and target an earlier one has. It is compared with the actions, or the witnesses, before it.
-pub fn twice_offends(index: &Index, i: usize) -> bool
-    requires { i ≤ (rows_of index.now.table.words.now).size }
-    ensures { result ≡ twice_offends (rows_of index.now.table.words.now) i }
+pub fn twice_offends(scanned: &Scanned, i: usize) -> bool
+    requires { i ≤ (rows_of scanned.now.table.words.now).size }
+    ensures { result ≡ twice_offends (rows_of scanned.now.table.words.now) i }
 {
-    let tag = index.table.tag_at(i);
+    let tag = scanned.table.tag_at(i);
     if !(((tag == tag::BECOMES_EQUAL) | (tag == tag::BECOMES_SUCH)) | (tag == tag::WITNESS)) {
         return false;
     }
-    let event = index.table.a_at(i);
-    let target = index.table.b_at(i);
-    index.some_row(Query::SameTarget { tag, event, target }, i)
+    let event = scanned.table.a_at(i);
+    let target = scanned.table.b_at(i);
+    scanned.some_row(Query::SameTarget { tag, event, target }, i)
 }

@@ -1,6 +1,8 @@
 // Rows that pass a test: whether there is one before a row, the first, and between which rows they stand.
 #![tactic(auto)]
 
+mod scanned;
+
 ghost use Rattle.std.specs.Prelude.{◌≡◌, ℕ, ◌+◌, ◌-◌, ◌^◌, ◌≤◌, ◌<◌, length, get_or, ◌&&◌, eqb, ltb, leb};
 ghost use Rattle.table.specs.Names.{variant_tag};
 ghost use Rattle.lists.specs.Below.{NoneBelow, some_below, first};
@@ -12,6 +14,7 @@ ghost use Rattle.scan.specs.declared.Query.TheVariants.{Assigns};
 ghost use Rattle.scan.specs.Spans.{event_limit, identifier_limit, span_words, tag_span, action_at, Spanned, SpannedTo, ActionsTo, noted};
 ghost use Rattle.scan.specs.Query.{span_tag};
 
+pub use scanned::Scanned;
 use table::{Table, a_at, b_at, event, size, tag, tag_at};
 
 // A test of a row, with the numbers that it compares the row's with.

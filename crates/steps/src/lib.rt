@@ -21,7 +21,7 @@ use nodes::Index;
 use reader::next_row;
 use row::{Place, Read, Row};
 use rules::Refusal;
-use scan::Span;
+use scan::{Scanned, Span};
 use table::Table;
 use values::{is_step_row, move_values, read_values, row_number};
 use verdict::{judge_with, load};
@@ -48,29 +48,29 @@ fn ended(n: u64) -> Result<Progress, Refusal>
 
 // Judges a step of the event e whose row 90 has this number, and where it is allowed goes on at the place after its rows, with the values that it left.
 fn judge_step(
-    index: &Index,
+    scanned: &Scanned,
     e: u64,
     row: u64,
     next: Place,
     present: &mut [i64],
     after: &mut [i64],
 ) -> Result<Progress, Refusal>
-    ensures value { result ≡ step_progress (rows_of index.now.table.words.now) e row next (values_of present.old after.old) }
-    ensures after_after { values_of present.new after.new ≡ step_values (rows_of index.now.table.words.now) e (values_of present.old after.old) }
+    ensures value { result ≡ step_progress (rows_of scanned.now.table.words.now) e row next (values_of present.old after.old) }
+    ensures after_after { values_of present.new after.new ≡ step_values (rows_of scanned.now.table.words.now) e (values_of present.old after.old) }
 {
-    if let Err(fault) = step_fault(index, present, after, e) {
+    if let Err(fault) = step_fault(scanned, present, after, e) {
         return Err(Refusal {
             number: fault.number(),
             row,
         });
     }
-    move_values(&index.table, present, after);
+    move_values(&scanned.table, present, after);
     Ok(Progress::Going(next))
 }
 
 // Takes the step of the event e, whose row 90 is the row before a place.
 fn take_step(
-    index: &Index,
+    scanned: &Scanned,
     run: &[u8],
     e: u64,
     row: u64,
@@ -79,28 +79,28 @@ fn take_step(
     after: &mut [i64],
 ) -> Result<Progress, Refusal>
     requires { place.at ≤ length run.now }
-    ensures takes_step { TakesStep (rows_of index.now.table.words.now) e row run.now place.at (values_of present.old after.old) result (values_of present.new after.new) }
+    ensures takes_step { TakesStep (rows_of scanned.now.table.words.now) e row run.now place.at (values_of present.old after.old) result (values_of present.new after.new) }
     ensures begins_within { BeginsWithin result place.at (length run.now) }
 {
-    match read_values(index, false, run, e, place, present, after) {
+    match read_values(scanned, false, run, e, place, present, after) {
         Err(bad) => Err(Refusal {
             number: Refusal::LOG,
             row: bad.row,
         }),
-        Ok(next) => judge_step(index, e, row, next, present, after),
+        Ok(next) => judge_step(scanned, e, row, next, present, after),
     }
 }
 
 // Replays the step at a place, before which n steps were allowed.
 fn replay_step(
-    index: &Index,
+    scanned: &Scanned,
     run: &[u8],
     n: u64,
     place: Place,
     present: &mut [i64],
     after: &mut [i64],
 ) -> Result<Progress, Refusal>
-    ensures replays_step { ReplaysStep (rows_of index.now.table.words.now) n run.now place.at (values_of present.old after.old) result (values_of present.new after.new) }
+    ensures replays_step { ReplaysStep (rows_of scanned.now.table.words.now) n run.now place.at (values_of present.old after.old) result (values_of present.new after.new) }
     ensures begins_within { BeginsWithin result (place.at + row_length width) (length run.now) }
 {
     match next_row(place, run) {
@@ -110,10 +110,10 @@ fn replay_step(
             row: row_number(place),
         }),
         Read::Next(row, next) => {
-            if is_step_row(&index.table, n == 0, row) {
+            if is_step_row(&scanned.table, n == 0, row) {
                 let e = row.a;
                 let at = row_number(place);
-                return take_step(index, run, e, at, next, present, after);
+                return take_step(scanned, run, e, at, next, present, after);
             }
             Err(Refusal {
                 number: Refusal::LOG,
@@ -144,7 +144,7 @@ fn later_row(before: u64, row: u64) -> u64
 
 // Replays the steps of a part of a run, before which n steps were allowed and so many rows read: all of them where it is the last part, else those whose rows are at hand in any case.
 pub fn replay_part(
-    index: &Index,
+    scanned: &Scanned,
     part: &[u8],
     last: bool,
     n: u64,
@@ -153,13 +153,15 @@ pub fn replay_part(
     after: &mut [i64],
 ) -> Result<Part, Refusal>
     requires { (n + length part.now < 2 ^ 64) × (before + 1 + length part.now < 2 ^ 64) }
-    ensures replays_part { ReplaysPart (rows_of index.now.table.words.now) n before part.now last (values_of present.old after.old) result (values_of present.new after.new) }
+    ensures replays_part { ReplaysPart (rows_of scanned.now.table.words.now) n before part.now last (values_of present.old after.old) result (values_of present.new after.new) }
     ensures stops { Stops result n part.now last }
 {
     let mut place = Place::start();
     let mut n = n;
-    while last | (index.table.counts.identifiers < ((part.len() - place.at) / Row::LENGTH) as u64) {
-        match replay_step(index, part, n, place, present, after) {
+    while last
+        | (scanned.table.counts.identifiers < ((part.len() - place.at) / Row::LENGTH) as u64)
+    {
+        match replay_step(scanned, part, n, place, present, after) {
             Ok(Progress::Going(next)) => {
                 place = next;
             }
@@ -178,14 +180,14 @@ pub fn replay_part(
 
 // Replays all steps of a run, with no values known before.
 fn replay_steps(
-    index: &Index,
+    scanned: &Scanned,
     run: &[u8],
     present: &mut [i64],
     after: &mut [i64],
 ) -> Result<u64, Refusal>
-    ensures { result ≡ replay_rest (rows_of index.now.table.words.now) 0 1 (lines run.now) (values_of present.old after.old) }
+    ensures { result ≡ replay_rest (rows_of scanned.now.table.words.now) 0 1 (lines run.now) (values_of present.old after.old) }
 {
-    match replay_part(index, run, true, 0, 0, present, after)? {
+    match replay_part(scanned, run, true, 0, 0, present, after)? {
         // not of the last part
         Part::More(n, place) => Err(Refusal {
             number: Refusal::LOG,
@@ -196,12 +198,12 @@ fn replay_steps(
 }
 
 // Replays a run of the table of these rows, which is accepted.
-fn replay_log(index: &Index, run: &[u8]) -> Result<u64, Refusal>
-    ensures { result ≡ replay_log (rows_of index.now.table.words.now) run.now }
+fn replay_log(scanned: &Scanned, run: &[u8]) -> Result<u64, Refusal>
+    ensures { result ≡ replay_log (rows_of scanned.now.table.words.now) run.now }
 {
     let mut present = [0i64; Table::IDENTIFIERS as usize + 1];
     let mut after = [0i64; Table::IDENTIFIERS as usize + 1];
-    replay_steps(index, run, &mut present, &mut after)
+    replay_steps(scanned, run, &mut present, &mut after)
 }
 
 // The same of a table that may be refused: "After the table's checks".
@@ -210,7 +212,8 @@ fn replay_judged(index: &Index, run: &[u8]) -> Result<u64, Refusal>
     ensures { result ≡ replay_by (judge_of (rows_of index.now.table.words.now)) (replay_log (rows_of index.now.table.words.now) run.now) }
 {
     judge_with(index)?;
-    replay_log(index, run)
+    let scanned = index.scanned();
+    replay_log(&scanned, run)
 }
 
 // The same of the rows alone.

@@ -18,10 +18,10 @@ ghost use Rattle.values.specs.Values.{values_of, row_at, is_told, is_wanted, wan
 
 use evaluate::value_at;
 use events::is_initial;
-use nodes::Index;
 use reader::next_row;
 use recording::tags;
 use row::{Place, Read, Row};
+use scan::Scanned;
 use signed::of_word;
 use table::{Counted, Table, event, identifier, is_variable_of, tag};
 
@@ -157,28 +157,28 @@ fn read_value(
 }
 
 // Whether the action of the event e for the identifier x is a 52.
-fn is_such_that(index: &Index, e: u64, x: u64) -> bool
-    ensures { result ≡ is_such_that (action_of (rows_of index.now.table.words.now) e x) }
+fn is_such_that(scanned: &Scanned, e: u64, x: u64) -> bool
+    ensures { result ≡ is_such_that (action_of (rows_of scanned.now.table.words.now) e x) }
 {
-    let i = index.action_row(e, x);
-    (i < index.table.size()) & !(index.table.tag_at(i) == tag::BECOMES_EQUAL)
+    let i = scanned.action_row(e, x);
+    (i < scanned.table.size()) & !(scanned.table.tag_at(i) == tag::BECOMES_EQUAL)
 }
 
 // Whether the rows tell the after value of an identifier of this kind: a log that of each variable, a choice for a press that of a 52 alone.
-fn is_told(index: &Index, pressing: bool, kind: u64, e: u64, x: u64) -> bool
-    requires { kind ≡ kind_of (rows_of index.now.table.words.now) x }
-    ensures { result ≡ is_told (rows_of index.now.table.words.now) pressing e x }
+fn is_told(scanned: &Scanned, pressing: bool, kind: u64, e: u64, x: u64) -> bool
+    requires { kind ≡ kind_of (rows_of scanned.now.table.words.now) x }
+    ensures { result ≡ is_told (rows_of scanned.now.table.words.now) pressing e x }
 {
     let variable = is_variable_of(identifier::CONCRETE_VARIABLE, kind);
     if pressing {
-        return is_such_that(index, e, x) & variable;
+        return is_such_that(scanned, e, x) & variable;
     }
     variable
 }
 
 // The same of an identifier that may have none.
 fn read_identifier(
-    index: &Index,
+    scanned: &Scanned,
     pressing: bool,
     run: &[u8],
     initial: bool,
@@ -188,21 +188,21 @@ fn read_identifier(
     present: &mut [i64],
     after: &mut [i64],
 ) -> Result<Place, BadRow>
-    requires { (initial ≡ is_initial (rows_of index.now.table.words.now) e) × (place.at ≤ length run.now) }
-    ensures reads_identifier { ReadsIdentifier (rows_of index.now.table.words.now) pressing e x run.now place.at (values_of present.old after.old) result (values_of present.new after.new) }
-    ensures reaches { Reaches result run.now (place.at + row_length width * one_if (is_wanted (rows_of index.now.table.words.now) pressing e x)) }
+    requires { (initial ≡ is_initial (rows_of scanned.now.table.words.now) e) × (place.at ≤ length run.now) }
+    ensures reads_identifier { ReadsIdentifier (rows_of scanned.now.table.words.now) pressing e x run.now place.at (values_of present.old after.old) result (values_of present.new after.new) }
+    ensures reaches { Reaches result run.now (place.at + row_length width * one_if (is_wanted (rows_of scanned.now.table.words.now) pressing e x)) }
 {
-    let kind = index.table.identifier_field(x, Table::KIND);
-    let given = is_given(&index.table, initial, kind, e, x);
-    if given | is_told(index, pressing, kind, e, x) {
-        return read_value(&index.table, run, given, x, place, present, after);
+    let kind = scanned.table.identifier_field(x, Table::KIND);
+    let given = is_given(&scanned.table, initial, kind, e, x);
+    if given | is_told(scanned, pressing, kind, e, x) {
+        return read_value(&scanned.table, run, given, x, place, present, after);
     }
     Ok(place)
 }
 
 // Reads the rows 91 of a step of the event e, "in identifier order": those of a log, or those of a choice for a press.
 pub fn read_values(
-    index: &Index,
+    scanned: &Scanned,
     pressing: bool,
     run: &[u8],
     e: u64,
@@ -211,14 +211,14 @@ pub fn read_values(
     after: &mut [i64],
 ) -> Result<Place, BadRow>
     requires { place.at ≤ length run.now }
-    ensures reads_values { ReadsValues (rows_of index.now.table.words.now) e (wanted (rows_of index.now.table.words.now) pressing e) run.now place.at (values_of present.old after.old) result (values_of present.new after.new) }
-    ensures reaches { Reaches result run.now (place.at + row_length width * length (wanted (rows_of index.now.table.words.now) pressing e)) }
+    ensures reads_values { ReadsValues (rows_of scanned.now.table.words.now) e (wanted (rows_of scanned.now.table.words.now) pressing e) run.now place.at (values_of present.old after.old) result (values_of present.new after.new) }
+    ensures reaches { Reaches result run.now (place.at + row_length width * length (wanted (rows_of scanned.now.table.words.now) pressing e)) }
 {
-    let initial = is_initial(&index.table, e);
+    let initial = is_initial(&scanned.table, e);
     let mut place = place;
-    for x in 0..index.table.counts.identifiers {
+    for x in 0..scanned.table.counts.identifiers {
         place = read_identifier(
-            index,
+            scanned,
             pressing,
             run,
             initial,

@@ -53,12 +53,13 @@ pub fn judge_with(index: &Index) -> Result<u64, Refusal>
     requires { length index.now.table.words.now ≤ most_words }
     ensures { result ≡ judge_of (rows_of index.now.table.words.now) }
 {
-    let check = first_check(index);
+    let scanned = index.scanned();
+    let check = first_check(&scanned);
     if check < Refusal::MISSING {
-        let row = first_row(index, check) as u64 + 1;
+        let row = first_row(&scanned, check) as u64 + 1;
         return Err(Refusal { number: check, row });
     }
-    if missing(index) {
+    if missing(&scanned) {
         return Err(Refusal {
             number: Refusal::MISSING,
             row: 0,

@@ -10,18 +10,18 @@ use Rattle.after.proofs.complete_values.Goals as goal
 
 pub loop-x-init : goal.loop-x-init
 loop-x-init c =
-    (refl, complete_start (rows_of c.args.index.now.table.words.now) c.args.e (values_of c.args.present.now c.args.after.now))
+    (refl, complete_start (rows_of c.args.scanned.now.table.words.now) c.args.e (values_of c.args.present.now c.args.after.now))
 
 pub loop-x-preserved : goal.loop-x-preserved
 loop-x-preserved c =
-    let t = rows_of c.args.index.now.table.words.now in
+    let t = rows_of c.args.scanned.now.table.words.now in
     let size : length c.complete_value.new.after ≡ length c.loop-x.after = search rules in (
       size ∙ c.loop-x.invariant.0,
-      complete_next t c.args.e c.loop-x.x (omega (arith, c.loop-x-test.true, counts_identifiers t c.args.index.now.table.counts c.args.index.now.table.counted)) c.args.present.now c.loop-x.after _ c.complete_value.ensures
+      complete_next t c.args.e c.loop-x.x (omega (arith, c.loop-x-test.true, counts_identifiers t c.args.scanned.now.table.counts c.args.scanned.now.table.counted)) c.args.present.now c.loop-x.after _ c.complete_value.ensures
           ∙ c.loop-x.invariant.1,
     )
 
 pub returns : goal.returns
 returns c =
-    let t = rows_of c.args.index.now.table.words.now in
-    complete_end t c.args.e c.loop-x.x (omega (arith, c.loop-x-test.false, counts_identifiers t c.args.index.now.table.counts c.args.index.now.table.counted)) (values_of c.args.present.now c.loop-x.after) ∙ c.loop-x.invariant.1
+    let t = rows_of c.args.scanned.now.table.words.now in
+    complete_end t c.args.e c.loop-x.x (omega (arith, c.loop-x-test.false, counts_identifiers t c.args.scanned.now.table.counts c.args.scanned.now.table.counted)) (values_of c.args.present.now c.loop-x.after) ∙ c.loop-x.invariant.1

@@ -9,5 +9,5 @@ use Rattle.after.proofs.complete_values.Given as goal
 
 abbrev pub invariant-loop-x : goal.invariant-loop-x
 invariant-loop-x l =
-    let t = rows_of l.index.table.words.now in
+    let t = rows_of l.scanned.table.words.now in
     (length l.after ≡ length l.initial.after) × (complete t l.e (variables_from t l.x) (values_of l.present l.after) ≡ completed t l.e (values_of l.present l.initial.after))

@@ -16,7 +16,7 @@ loop-check-init c =
 pub returns-then-first_row-rows : goal.returns-then-first_row-rows
 unfolding first_check
 returns-then-first_row-rows c =
-    let t = rows_of c.args.index.now.table.words.now in
+    let t = rows_of c.args.scanned.now.table.words.now in
     let k = c.loop-check.check in
     sym (first_here (λ k. ltb (first_row t k) t.size) 12 k c.loop-check-test.true
     (lt-ltb (first_row t k) t.size (omega (arith, c.first_row.ensures, c.size-rows.ensures, c.if-first_row-rows.true)))) ∙ c.loop-check.invariant.1
@@ -24,9 +24,9 @@ returns-then-first_row-rows c =
 pub loop-check-preserved : goal.loop-check-preserved
 unfolding first_check
 loop-check-preserved c = (
-  let t = rows_of c.args.index.now.table.words.now in
+  let t = rows_of c.args.scanned.now.table.words.now in
       passed_next t c.loop-check.check c.loop-check.invariant.0 (omega (arith, c.first_row.ensures, c.size-rows.ensures, c.if-first_row-rows.false)),
-  let t = rows_of c.args.index.now.table.words.now in
+  let t = rows_of c.args.scanned.now.table.words.now in
       let k = c.loop-check.check in
       sym (first_next (λ k. ltb (first_row t k) t.size) 12 k c.loop-check-test.true
       (le-ltb (first_row t k) t.size (omega (arith, c.first_row.ensures, c.size-rows.ensures, c.if-first_row-rows.false)))) ∙ c.loop-check.invariant.1,
@@ -35,6 +35,6 @@ loop-check-preserved c = (
 pub returns : goal.returns
 unfolding first_check
 returns c =
-    let t = rows_of c.args.index.now.table.words.now in
+    let t = rows_of c.args.scanned.now.table.words.now in
     let end : 12 ≡ c.loop-check.check = omega arith in
     end ∙ sym (first_end (λ k. ltb (first_row t k) t.size) 12 c.loop-check.check c.loop-check-test.false) ∙ c.loop-check.invariant.1

@@ -9,4 +9,4 @@ use Rattle.fault.proofs.first_check.Given as goal
 
 abbrev pub invariant-loop-check : goal.invariant-loop-check
 invariant-loop-check l =
-    PassedBefore (rows_of l.index.table.words.now) l.check × (first (λ k. ltb (first_row (rows_of l.index.table.words.now) k) (rows_of l.index.table.words.now).size) (12 - l.check) l.check ≡ first_check (rows_of l.index.table.words.now))
+    PassedBefore (rows_of l.scanned.table.words.now) l.check × (first (λ k. ltb (first_row (rows_of l.scanned.table.words.now) k) (rows_of l.scanned.table.words.now).size) (12 - l.check) l.check ≡ first_check (rows_of l.scanned.table.words.now))

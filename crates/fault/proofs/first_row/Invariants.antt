@@ -9,4 +9,4 @@ use Rattle.fault.proofs.first_row.Given as goal
 
 abbrev pub invariant-loop-i : goal.invariant-loop-i
 invariant-loop-i l =
-    first (offends (rows_of l.index.table.words.now) l.check) (l.rows - l.i) l.i ≡ first_row (rows_of l.index.table.words.now) l.check
+    first (offends (rows_of l.scanned.table.words.now) l.check) (l.rows - l.i) l.i ≡ first_row (rows_of l.scanned.table.words.now) l.check

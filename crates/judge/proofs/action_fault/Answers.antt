@@ -16,7 +16,7 @@ use Rattle.judge.proofs.action_fault.Goals as goal
 
 pub returns-then-size-i : goal.returns-then-size-i
 returns-then-size-i c =
-    let t = rows_of c.args.index.now.table.words.now in
+    let t = rows_of c.args.scanned.now.table.words.now in
     let v = stored_value_is c.identifier_field-sort.ensures c.value_at.result c.value_at.type_inv c.value_at.ensures c.stored_value-moved.ensures in
     let w = stored_value_is c.identifier_field-sort.ensures c.value_at-then-size-i.result c.value_at-then-size-i.type_inv c.value_at-then-size-i.ensures c.stored_value.ensures in
     c.differs.ensures ∙ ap₂ differs v w
@@ -24,7 +24,7 @@ returns-then-size-i c =
 
 pub returns-then-tag_at-eq-BECOMES_EQUAL : goal.returns-then-tag_at-eq-BECOMES_EQUAL
 returns-then-tag_at-eq-BECOMES_EQUAL c =
-    let t = rows_of c.args.index.now.table.words.now in
+    let t = rows_of c.args.scanned.now.table.words.now in
     let ρ = stored_env (machine_of t).type c.args.present.now c.args.after.now in
     let v = stored_value_is c.identifier_field-sort.ensures c.value_at.result c.value_at.type_inv c.value_at.ensures c.stored_value-moved.ensures in
     let w = ap answer_of c.evaluate_expression-found.ensures ∙ answer_found (answer ρ (tree_of t c.c_at-root.result)) ∙ ap (λ n. answer ρ (tree_of t n)) c.c_at-root.ensures in
@@ -33,7 +33,7 @@ returns-then-tag_at-eq-BECOMES_EQUAL c =
 
 pub returns : goal.returns
 returns c =
-    let t = rows_of c.args.index.now.table.words.now in
+    let t = rows_of c.args.scanned.now.table.words.now in
     let ρ = stored_env (machine_of t).type c.args.present.now c.args.after.now in
     let w = ap answer_of c.evaluate_predicate-met.ensures ∙ answer_found (answer ρ (tree_of t c.c_at-root.result)) ∙ ap (λ n. answer ρ (tree_of t n)) c.c_at-root.ensures in
     c.fault_of-2.ensures ∙ ap (fault_of (truth true)) w

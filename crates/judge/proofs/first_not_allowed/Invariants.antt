@@ -6,4 +6,4 @@ use Rattle.judge.proofs.Faults.{NoneFrom}
 use Rattle.judge.proofs.first_not_allowed.Given as goal
 
 abbrev pub invariant-loop-x : goal.invariant-loop-x
-invariant-loop-x l = NoneFrom (variable_fault (rows_of l.index.table.words.now) l.present l.after l.e) 1 (l.x + 1)
+invariant-loop-x l = NoneFrom (variable_fault (rows_of l.scanned.table.words.now) l.present l.after l.e) 1 (l.x + 1)

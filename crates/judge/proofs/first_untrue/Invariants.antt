@@ -5,4 +5,4 @@ use Rattle.judge.proofs.Faults.{NoneFrom}
 use Rattle.judge.proofs.first_untrue.Given as goal
 
 abbrev pub invariant-loop-i : goal.invariant-loop-i
-invariant-loop-i l = NoneFrom (row_fault (rows_of l.index.table.words.now) l.present l.tag l.e) 0 l.i
+invariant-loop-i l = NoneFrom (row_fault (rows_of l.scanned.table.words.now) l.present l.tag l.e) 0 l.i

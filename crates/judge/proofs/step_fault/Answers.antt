@@ -8,7 +8,7 @@ use Rattle.judge.proofs.step_fault.Goals as goal
 
 pub returns-in_err-axiom_fault : goal.returns-in_err-axiom_fault
 returns-in_err-axiom_fault c =
-    let t = rows_of c.args.index.now.table.words.now in
+    let t = rows_of c.args.scanned.now.table.words.now in
     let actions = first_not_allowed t c.args.present.now c.args.after.now c.args.e in
     let first = c.in_err-axiom_fault.ensures in
     handed_on c.from_residual.result _ c.from_residual.ensures.1
@@ -17,7 +17,7 @@ returns-in_err-axiom_fault c =
 
 pub returns-in_err-first_untrue : goal.returns-in_err-first_untrue
 returns-in_err-first_untrue c =
-    let t = rows_of c.args.index.now.table.words.now in
+    let t = rows_of c.args.scanned.now.table.words.now in
     let actions = first_not_allowed t c.args.present.now c.args.after.now c.args.e in
     let guard = c.in_err-first_untrue.ensures in
     handed_on c.from_residual-in_err-first_untrue.result _ c.from_residual-in_err-first_untrue.ensures.1
@@ -26,7 +26,7 @@ returns-in_err-first_untrue c =
 
 pub returns : goal.returns
 returns c =
-    let t = rows_of c.args.index.now.table.words.now in
+    let t = rows_of c.args.scanned.now.table.words.now in
     let actions = first_not_allowed t c.args.present.now c.args.after.now c.args.e in
     c.first_not_allowed.ensures
     ∙ third_of actions c.in_ok-axiom_fault.ensures refl c.in_ok-first_untrue.ensures refl

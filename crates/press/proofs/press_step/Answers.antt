@@ -17,12 +17,12 @@ pub returns-in-None : goal.returns-in-None
 returns-in-None c =
     let a = c.args in
     let us = values_of c.choose.new.present c.choose.new.after in
-    let both = refused_answers a.values.now (ap (press_choice (rows_of a.index.now.table.words.now) a.values.now) (sym c.choose.ensures ∙ ap (λ c. choice_of c us) c.in-None.is)) in
+    let both = refused_answers a.values.now (ap (press_choice (rows_of a.scanned.now.table.words.now) a.values.now) (sym c.choose.ensures ∙ ap (λ c. choice_of c us) c.in-None.is)) in
     record { value = both.0; values_after = both.1 }
 
 pub returns-in-Some : goal.returns-in-Some
 returns-in-Some c =
     let a = c.args in
     let us = values_of c.choose.new.present c.choose.new.after in
-    let both = as_answers a.values.now (ap (press_choice (rows_of a.index.now.table.words.now) a.values.now) (sym c.choose.ensures ∙ ap (λ c. choice_of c us) c.in-Some.is)) (c.press_event.ensures.value, c.press_event.ensures.values_after) in
+    let both = as_answers a.values.now (ap (press_choice (rows_of a.scanned.now.table.words.now) a.values.now) (sym c.choose.ensures ∙ ap (λ c. choice_of c us) c.in-Some.is)) (c.press_event.ensures.value, c.press_event.ensures.values_after) in
     record { value = both.0; values_after = both.1 }

@@ -21,7 +21,7 @@ slice_bounds-press_step-end c =
 pub returns : goal.returns
 returns c =
     let a = c.args in
-    let t = rows_of a.index.now.table.words.now in
+    let t = rows_of a.scanned.now.table.words.now in
     let present = placed_is a.values.now (pos 0 ∷ (c.copy_list.new.to ++ [])) (ap (λ zs. pos 0 ∷ zs) (append-nil c.copy_list.new.to ∙ c.copy_list.ensures)) in
     let both = as_answers a.values.now (ap (λ ps. press_choice t a.values.now (choice t (lines a.step.now) (values_of ps (replicate 65 (pos 0))))) (sym present)) (c.press_step.ensures.value, c.press_step.ensures.values_after) in
     record { value = both.0; values_after = both.1 }

@@ -5,4 +5,4 @@ use Rattle.rules.specs.Rules.{lacks_for}
 use Rattle.rule_missing.proofs.event_lacks.Given as goal
 
 abbrev pub invariant-loop-j : goal.invariant-loop-j
-invariant-loop-j l = NoneBelow (lacks_for (rows_of l.index.table.words.now) l.i) l.j
+invariant-loop-j l = NoneBelow (lacks_for (rows_of l.scanned.table.words.now) l.i) l.j

@@ -13,7 +13,7 @@ use Rattle.rule_missing.proofs.lacks_action.Goals as goal
 pub returns-then-b_at-variable : goal.returns-then-b_at-variable
 returns-then-b_at-variable c =
     let a = c.args in
-    let t = rows_of a.index.now.table.words.now in
+    let t = rows_of a.scanned.now.table.words.now in
     let same : (eqb c.b_at.result 0 && c.variable_kind-variable.result)
     ≡ action_wanted t a.i a.j
     = simp (c.variable_kind-variable.ensures, c.a_at-2.ensures, c.a_at.ensures, c.b_at.ensures) in
@@ -23,7 +23,7 @@ returns-then-b_at-variable c =
 pub returns : goal.returns
 returns c =
     let a = c.args in
-    let t = rows_of a.index.now.table.words.now in
+    let t = rows_of a.scanned.now.table.words.now in
     let same : (eqb c.b_at.result 0 && c.variable_kind-variable.result)
     ≡ action_wanted t a.i a.j
     = simp (c.variable_kind-variable.ensures, c.a_at-2.ensures, c.a_at.ensures, c.b_at.ensures) in

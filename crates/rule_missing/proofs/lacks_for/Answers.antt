@@ -12,18 +12,18 @@ use Rattle.rule_missing.proofs.lacks_for.Goals as goal
 pub returns-then-tag_at-ne-IDENTIFIER : goal.returns-then-tag_at-ne-IDENTIFIER
 returns-then-tag_at-ne-IDENTIFIER c =
     let a = c.args in
-    let t = rows_of a.index.now.table.words.now in
+    let t = rows_of a.scanned.now.table.words.now in
     sym (and_failed (tagged t 10 a.j) (lacks_action t a.i a.j || lacks_witness t a.i a.j)
     (ne_eqb (t.tag a.j) 10 (λ e. c.if-tag_at-ne-IDENTIFIER.true (c.tag_at.ensures ∙ e))))
 
 pub returns : goal.returns
 returns c =
     let a = c.args in
-    let t = rows_of a.index.now.table.words.now in
+    let t = rows_of a.scanned.now.table.words.now in
     let event : c.number_in-event.result ≡ number_in t 40 a.i =
-    c.number_in-event.ensures ∙ ap (λ c. a.i + 1 - c) (starts_events t a.index.now.table.counts c.args.index.now.table.counted) in
+    c.number_in-event.ensures ∙ ap (λ c. a.i + 1 - c) (starts_events t a.scanned.now.table.counts c.args.scanned.now.table.counted) in
     let target : c.number_in-target.result ≡ number_in t 10 a.j =
-    c.number_in-target.ensures ∙ ap (λ c. a.j + 1 - c) (starts_identifiers t a.index.now.table.counts c.args.index.now.table.counted) in
+    c.number_in-target.ensures ∙ ap (λ c. a.j + 1 - c) (starts_identifiers t a.scanned.now.table.counts c.args.scanned.now.table.counted) in
     let action = c.lacks_action.ensures ∙ ap₂ (λ e x. action_wanted t a.i a.j && not (assigned t e x)) event target in
     let witness = c.lacks_witness.ensures ∙ ap₂ (λ e x. witness_wanted t a.i a.j && not (has_witness t e x)) event target in
     ap₂ (λ x y. x || y) action witness

@@ -13,7 +13,7 @@ use Rattle.rule_missing.proofs.lacks_witness.Goals as goal
 pub returns-then-refining-kind : goal.returns-then-refining-kind
 returns-then-refining-kind c =
     let a = c.args in
-    let t = rows_of a.index.now.table.words.now in
+    let t = rows_of a.scanned.now.table.words.now in
     let same : ((eqb c.a_at.result 2 && ltb c.b_at.result 2) && (eqb c.a_at-kind.result 2 || (eqb c.a_at-kind.result 4 && eqb c.c_at.result c.c_at-2.result)))
     ≡ witness_wanted t a.i a.j
     = simp (c.c_at-2.ensures, c.c_at.ensures, c.b_at.ensures, c.a_at.ensures, c.a_at-kind.ensures) in
@@ -23,7 +23,7 @@ returns-then-refining-kind c =
 pub returns : goal.returns
 returns c =
     let a = c.args in
-    let t = rows_of a.index.now.table.words.now in
+    let t = rows_of a.scanned.now.table.words.now in
     let same : ((eqb c.a_at.result 2 && ltb c.b_at.result 2) && (eqb c.a_at-kind.result 2 || (eqb c.a_at-kind.result 4 && eqb c.c_at.result c.c_at-2.result)))
     ≡ witness_wanted t a.i a.j
     = simp (c.c_at-2.ensures, c.c_at.ensures, c.b_at.ensures, c.a_at.ensures, c.a_at-kind.ensures) in

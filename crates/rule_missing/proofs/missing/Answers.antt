@@ -18,7 +18,7 @@ missing_parts t a b l k n v ea eb el ek en ev = simp (ea, eb, el, ek, en, ev)
 pub returns : goal.returns
 returns c =
     let rows = c.size-rows.ensures in
-    let t = rows_of c.args.index.now.table.words.now in
+    let t = rows_of c.args.scanned.now.table.words.now in
     missing_parts t c.some_row-abstract_initialised.result c.some_row-concrete_initialised.result c.some_event_lacks-lacks.result c.some_row-convergent.result
     c.some_row-anticipated.result c.some_row-variant.result
     (c.some_row-abstract_initialised.ensures ∙ ap (some_below (passes_of t (Initialises 1))) rows)

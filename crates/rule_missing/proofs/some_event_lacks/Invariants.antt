@@ -5,4 +5,4 @@ use Rattle.rules.specs.Rules.{event_lacks}
 use Rattle.rule_missing.proofs.some_event_lacks.Given as goal
 
 abbrev pub invariant-loop-i : goal.invariant-loop-i
-invariant-loop-i l = NoneBelow (event_lacks (rows_of l.index.table.words.now)) l.i
+invariant-loop-i l = NoneBelow (event_lacks (rows_of l.scanned.table.words.now)) l.i

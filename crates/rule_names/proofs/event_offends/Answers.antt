@@ -14,7 +14,7 @@ pub returns-then-tag_at-ne-EVENT : goal.returns-then-tag_at-ne-EVENT
 unfolding event_offends
 returns-then-tag_at-ne-EVENT c =
     let a = c.args in
-    rw (ne_eqb ((rows_of a.index.now.table.words.now).tag a.i) 40 (λ e. c.if-tag_at-ne-EVENT.true (c.tag_at.ensures ∙ e)))
+    rw (ne_eqb ((rows_of a.scanned.now.table.words.now).tag a.i) 40 (λ e. c.if-tag_at-ne-EVENT.true (c.tag_at.ensures ∙ e)))
 
 pub a_at-machine-requires : goal.a_at-machine-requires
 unfolding event_offends
@@ -32,5 +32,5 @@ pub returns : goal.returns
 unfolding event_offends
 returns c =
     let a = c.args in
-    rw (eq-eqb ((rows_of a.index.now.table.words.now).tag a.i) 40 (sym c.tag_at.ensures ∙ c.if-tag_at-ne-EVENT.false))
+    rw (eq-eqb ((rows_of a.scanned.now.table.words.now).tag a.i) 40 (sym c.tag_at.ensures ∙ c.if-tag_at-ne-EVENT.false))
     (simp (c.out_of_order.ensures, c.good_refined.ensures, c.b_at-class.ensures, c.a_at-machine.ensures))

@@ -27,7 +27,7 @@ span_at-requires c =
 pub overflow_sub-before : goal.overflow_sub-before
 unfolding full_offends
 overflow_sub-before c =
-    let t = rows_of c.args.index.now.table.words.now in
+    let t = rows_of c.args.scanned.now.table.words.now in
     let from : c.span_at.result.from ≡ (tag_span t (span_tag (t.tag c.args.i))).from =
     ap (λ r. r.from) c.span_at.ensures ∙ ap (λ k. (tag_span t k).from) (c.span_tag.ensures ∙ ap span_tag c.tag_at-tag.ensures) in
     omega (arith, from, from_before t c.requires.0 c.args.i c.requires.1)
@@ -39,7 +39,7 @@ tag_limits-requires c = search rules
 pub returns : goal.returns
 unfolding full_offends
 returns c =
-    let t = rows_of c.args.index.now.table.words.now in
+    let t = rows_of c.args.scanned.now.table.words.now in
     let from : c.span_at.result.from ≡ (tag_span t (span_tag (t.tag c.args.i))).from =
     ap (λ r. r.from) c.span_at.ensures ∙ ap (λ k. (tag_span t k).from) (c.span_tag.ensures ∙ ap span_tag c.tag_at-tag.ensures) in
     simp (c.tag_limits.ensures.1, c.tag_at-tag.ensures, from, rows_counted t c.requires.0 c.args.i c.requires.1)

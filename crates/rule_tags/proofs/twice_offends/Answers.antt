@@ -17,7 +17,7 @@ pub returns-then-not-tag : goal.returns-then-not-tag
 unfolding twice_offends
 returns-then-not-tag c =
     let a = c.args in
-    sym (twice_none (rows_of a.index.now.table.words.now) a.i (ap (λ k. not ((eqb k 51 || eqb k 52) || eqb k 60)) (sym c.tag_at-tag.ensures) ∙ ap not c.if-not-tag.true))
+    sym (twice_none (rows_of a.scanned.now.table.words.now) a.i (ap (λ k. not ((eqb k 51 || eqb k 52) || eqb k 60)) (sym c.tag_at-tag.ensures) ∙ ap not c.if-not-tag.true))
 
 pub a_at-event-requires : goal.a_at-event-requires
 unfolding twice_offends

@@ -6,4 +6,4 @@ use Rattle.steps.proofs.replay_log.Goals as goal
 
 pub returns : goal.returns
 returns c =
-    c.replay_steps.ensures ∙ replay_whole (rows_of c.args.index.now.table.words.now) c.args.run.now
+    c.replay_steps.ensures ∙ replay_whole (rows_of c.args.scanned.now.table.words.now) c.args.run.now

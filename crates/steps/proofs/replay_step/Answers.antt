@@ -5,7 +5,7 @@ use Rattle.steps.proofs.Steps.{step_ended, end_begins, step_malformed, row_withi
 use Rattle.steps.proofs.replay_step.Goals as goal
 
 pub take_step-requires : goal.take_step-requires
-take_step-requires c = row_within (rows_of c.args.index.now.table.words.now) c.args.n c.args.run.now c.args.place.at (values_of c.args.present.now c.args.after.now) c.next_row.ensures c.in-Next.row c.in-Next.next c.in-Next.is
+take_step-requires c = row_within (rows_of c.args.scanned.now.table.words.now) c.args.n c.args.run.now c.args.place.at (values_of c.args.present.now c.args.after.now) c.next_row.ensures c.in-Next.row c.in-Next.next c.in-Next.is
     c.is_step_row.ensures
 
 pub returns-then-is_step_row : goal.returns-then-is_step_row
@@ -15,7 +15,7 @@ returns-then-is_step_row c =
     let r = c.in-Next.row in
     let next = c.in-Next.next in
     let seen = c.next_row.ensures in
-    let t = rows_of c.args.index.now.table.words.now in
+    let t = rows_of c.args.scanned.now.table.words.now in
     let vs = values_of c.args.present.now c.args.after.now in
     let good = c.is_step_row.ensures in
     record {
@@ -28,7 +28,7 @@ pub returns-in-End : goal.returns-in-End
 returns-in-End c =
     let run = c.args.run.now in
     let at = c.args.place.at in
-    let t = rows_of c.args.index.now.table.words.now in
+    let t = rows_of c.args.scanned.now.table.words.now in
     let vs = values_of c.args.present.now c.args.after.now in
     let seen = c.next_row.ensures in
     record {
@@ -41,7 +41,7 @@ returns-in-Malformed c =
     let run = c.args.run.now in
     let at = c.args.place.at in
     record {
-      replays_step = step_malformed (rows_of c.args.index.now.table.words.now) c.args.n run at (values_of c.args.present.now c.args.after.now) c.next_row.ensures c.in-Malformed.is c.row_number.ensures;
+      replays_step = step_malformed (rows_of c.args.scanned.now.table.words.now) c.args.n run at (values_of c.args.present.now c.args.after.now) c.next_row.ensures c.in-Malformed.is c.row_number.ensures;
       begins_within = tt;
     }
 
@@ -53,6 +53,6 @@ returns-else-is_step_row c =
     let next = c.in-Next.next in
     let seen = c.next_row.ensures in
     record {
-      replays_step = step_wrong (rows_of c.args.index.now.table.words.now) c.args.n run at (values_of c.args.present.now c.args.after.now) seen r next c.in-Next.is c.is_step_row.ensures c.if-is_step_row.false c.row_number-in-Next.ensures;
+      replays_step = step_wrong (rows_of c.args.scanned.now.table.words.now) c.args.n run at (values_of c.args.present.now c.args.after.now) seen r next c.in-Next.is c.is_step_row.ensures c.if-is_step_row.false c.row_number-in-Next.ensures;
       begins_within = tt;
     }

@@ -5,4 +5,4 @@ use Rattle.values.proofs.is_such_that.Goals as goal
 
 pub returns : goal.returns
 returns c =
-    such_that (rows_of c.args.index.now.table.words.now) c.args.e c.args.x c.action_row-i.ensures c.size.ensures c.tag_at.ensures
+    such_that (rows_of c.args.scanned.now.table.words.now) c.args.e c.args.x c.action_row-i.ensures c.size.ensures c.tag_at.ensures

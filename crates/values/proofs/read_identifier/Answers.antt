@@ -15,13 +15,13 @@ is_told-requires c = c.identifier_field-kind.ensures
 pub returns-then-given-is_told : goal.returns-then-given-is_told
 returns-then-given-is_told c =
     let given = c.is_given-given.ensures in
-    let both = identifier_read (rows_of c.args.index.now.table.words.now) c.args.pressing c.args.e c.args.x c.args.run.now (ap₂ ◌||◌ given c.is_told.ensures)
+    let both = identifier_read (rows_of c.args.scanned.now.table.words.now) c.args.pressing c.args.e c.args.x c.args.run.now (ap₂ ◌||◌ given c.is_told.ensures)
     c.args.place.at (values_of c.args.present.now c.args.after.now) c.is_given-given.result _ _ c.if-given-is_told.true given c.read_value.ensures.reads_value c.read_value.ensures.reaches in
     record { reads_identifier = both.0; reaches = both.1 }
 
 pub returns : goal.returns
 returns c =
-    let both = identifier_skipped (rows_of c.args.index.now.table.words.now) c.args.pressing c.args.e c.args.x c.args.run.now
+    let both = identifier_skipped (rows_of c.args.scanned.now.table.words.now) c.args.pressing c.args.e c.args.x c.args.run.now
     (ap₂ ◌||◌ c.is_given-given.ensures c.is_told.ensures)
     c.args.place (values_of c.args.present.now c.args.after.now) c.requires.1 c.if-given-is_told.false in
     record { reads_identifier = both.0; reaches = both.1 }

@@ -9,4 +9,4 @@ use Rattle.values.proofs.read_values.Given as goal
 abbrev pub invariant-loop-x : goal.invariant-loop-x
 invariant-loop-x l =
     (length l.present ≡ length l.initial.present) × (length l.after ≡ length l.initial.after)
-    × Rest (rows_of l.index.table.words.now) l.pressing l.e l.run l.initial.place.at (values_of l.initial.present l.initial.after) l.x l.place.at (values_of l.present l.after)
+    × Rest (rows_of l.scanned.table.words.now) l.pressing l.e l.run l.initial.place.at (values_of l.initial.present l.initial.after) l.x l.place.at (values_of l.present l.after)
