@@ -12,10 +12,25 @@ returns-then-node-eq0 t c =
     let d = c.node_at-node in
     spelled_as (defined_none (rows_of c.args.table.now.words.now) c.args.n d.result d.ensures c.if-node-eq0.true) c.row_83.ensures
 
+pub spell_defined-requires : goal.spell_defined-requires
+spell_defined-requires t c =
+    let d = c.node_at-node in
+    (omega (arith, left_below d.result c.if-node-eq0.false, above_falls (rows_of c.args.table.now.words.now) false c.args.n d.result d.ensures, c.decreases), tt)
+
 pub returns-then-node-eq1 : goal.returns-then-node-eq1
 returns-then-node-eq1 t c =
     let d = c.node_at-node in
     spelled_as (defined_one (rows_of c.args.table.now.words.now) c.args.n d.result d.ensures c.if-node-eq1.true) c.spell_defined.ensures
+
+pub spell_defined-left-requires : goal.spell_defined-left-requires
+spell_defined-left-requires t c =
+    let d = c.node_at-node in
+    (omega (arith, left_below d.result c.if-node-eq0.false, above_falls (rows_of c.args.table.now.words.now) false c.args.n d.result d.ensures, c.decreases), tt)
+
+pub spell_defined-right-requires : goal.spell_defined-right-requires
+spell_defined-right-requires t c =
+    let d = c.node_at-node in
+    (omega (arith, right_below d.result c.if-node-eq0.false, above_falls (rows_of c.args.table.now.words.now) false c.args.n d.result d.ensures, c.decreases), tt)
 
 pub returns : goal.returns
 returns t c =

@@ -7,6 +7,12 @@ use Rattle.spell.proofs.Nodes.{operands_two, shown_read, above_falls}
 use Rattle.spell.proofs.Written.{spelled_none, spelled_join, spelled_as}
 use Rattle.spell.proofs.+spell_expression_spell_operands_spell_predicate.Goals as goal
 
+pub spell_expression-spell_operands-operands-requires : goal.spell_expression-spell_operands-operands-requires
+spell_expression-spell_operands-operands-requires t c =
+    let a = c.args in
+    let d = c.node_at-node in
+    (omega (arith, above_falls (rows_of a.table.now.words.now) a.primed a.n d.result d.ensures, c.decreases), tt)
+
 pub spell_expression-returns : goal.spell_expression-returns
 spell_expression-returns t c =
     let a = c.args in
@@ -26,6 +32,12 @@ spell_operands-returns t c =
     let rows = shown_rows (rows_of c.args.table.now.words.now) c.args.primed in
     spelled_as (operands_two d.operands (rows d.left) (rows d.right) c.if-node-eq0.false c.if-node-eq1.false)
     (spelled_join (omega (arith, c.well_formed)) (omega arith) c.spell_expression-left.ensures c.rest_start-at.ensures.value c.spell_expression-right.ensures c.add_rows.ensures)
+
+pub spell_predicate-spell_operands-operands-requires : goal.spell_predicate-spell_operands-operands-requires
+spell_predicate-spell_operands-operands-requires t c =
+    let a = c.args in
+    let d = c.node_at-node in
+    (omega (arith, above_falls (rows_of a.table.now.words.now) a.primed a.n d.result d.ensures, c.decreases), tt)
 
 pub spell_predicate-returns : goal.spell_predicate-returns
 spell_predicate-returns t c =
