@@ -18,7 +18,7 @@ ghost use Rattle.rules.specs.Rules.{good_operands, root_sort, sort_offends, use_
 use operators::{find_operator, names_identifier, operand_count};
 use rule_references::{names_root, root_at};
 use scan::clear;
-use table::{Counted, Table, a_at, b_at, c_at, number_in, sort, tag, tag_at};
+use table::{Counted, Table, a_at, b_at, c_at, number_in, size, sort, tag, tag_at};
 
 // The sort of a node, from its operator, whatever its operands are.
 pub fn sort_of(table: &Counted, n: u64) -> u64
