@@ -1,13 +1,50 @@
 // 01, Sequents: the list of a table's sequents.
 #![tactic(auto)]
 
-pub mod form;
+ghost use Rattle.std.specs.Prelude.{◌≡◌};
+ghost use Rattle.sequent.specs.Numbers.{form_number};
+
 pub mod kind;
+
+// 01, Sequents: the forms of entries.
+#[derive(Clone, Copy, PartialEq, Eq)]
+pub enum Form {
+    Written,
+    Primed,
+    Defined,
+    Moves,
+    Feasible,
+    Witnessed,
+    Natural,
+    Decreases,
+    NotIncreased,
+    Unchanged,
+}
+
+impl Form {
+    // Its number in rows 81 and 82.
+    pub fn number(self) -> u64
+        ensures { result ≡ form_number self }
+    {
+        match self {
+            Form::Written => 1,
+            Form::Primed => 2,
+            Form::Defined => 3,
+            Form::Moves => 4,
+            Form::Feasible => 5,
+            Form::Witnessed => 6,
+            Form::Natural => 7,
+            Form::Decreases => 8,
+            Form::NotIncreased => 9,
+            Form::Unchanged => 10,
+        }
+    }
+}
 
 // "An entry has a form and two numbers."
 #[derive(Clone, Copy)]
 pub struct Entry {
-    pub form: u64,
+    pub form: Form,
     pub first: u64,
     pub second: u64,
 }
