@@ -1,4 +1,4 @@
--- The tables of goals and segments, read at a known number and at one that is none of those that a match names; where the rows of a segment end.
+-- The table of segments, read at a known number and at one that is none of those that a match names; where the rows of a segment end.
 use Prim.Native.Nat.{ℕ, ◌≤◌, ◌<◌}
 use mathlib.Core.Path.{◌≡◌, refl, sym, ap, ◌∙◌}
 use mathlib.Core.Bool.{Bool, true, false}
@@ -12,9 +12,7 @@ use Rattle.lists.specs.Below.{numbers}
 use Rattle.lists.proofs.All.{all_at}
 use Rattle.lists.proofs.Below.{numbers_in}
 use Rattle.lists.proofs.Choice.{chosen, not_chosen}
-use Rattle.lists.proofs.Range.{table_rest}
 use Rattle.table.specs.Rows.{Rows}
-use Rattle.sequent.specs.Entry.{defined}
 use Rattle.sequent.specs.declared.Form.{Form}
 use Rattle.sequent.specs.declared.Form.TheVariants.{Written, Primed, Defined, Moves, Feasible, Witnessed, Natural, Decreases, NotIncreased, Unchanged}
 use Rattle.sequent.specs.Numbers.{form_number, numbers as numbers_at, numbers_of}
@@ -23,7 +21,7 @@ use Rattle.select.specs.declared.Item.TheVariants.{A}
 use Rattle.select.specs.Each.{item_at}
 use Rattle.walk.specs.declared.Slot.{Slot}
 use Rattle.segments.specs.declared.Segment.{Segment}
-use Rattle.segments.specs.Segments.{goals, goal_of, segments, segment_of, segment_table, segment_at, segment_entry}
+use Rattle.segments.specs.Segments.{segments, segment_of, segment_table, segment_at, segment_entry}
 
 -- whether a form is that of moves, as a number tells it
 abbrev are_moves : Form → Bool
@@ -42,14 +40,6 @@ other_form NotIncreased h = refl
 other_form Unchanged h = refl
 
 module _ (t : Rows) where
-  pub goal_rest : (k e x : ℕ) → (k ≡ 2 → ⊥) → (k ≡ 3 → ⊥) → (k ≡ 4 → ⊥) → (k ≡ 5 → ⊥) → (k ≡ 6 → ⊥) → (k ≡ 7 → ⊥) → (k ≡ 8 → ⊥) → defined x ≡ goal_of t k e x
-  unfolding numbers goal_of
-  goal_rest k e x n2 n3 n4 n5 n6 n7 n8 =
-      sym (ap (λ f. f e x)
-      (table_rest (goals t) (λ e x. defined x) k
-      (all_cons (λ p. refl) (all_cons (λ p. refl) (all_cons (λ p. absurd (n2 p)) (all_cons (λ p. absurd (n3 p)) (all_cons (λ p. absurd (n4 p))
-      (all_cons (λ p. absurd (n5 p)) (all_cons (λ p. absurd (n6 p)) (all_cons (λ p. absurd (n7 p)) (all_cons (λ p. absurd (n8 p)) all_nil)))))))))))
-
   -- a segment whose number is known
   pub at_number : (s : Slot) {g : ℕ} (k : ℕ) → g ≡ k → {r : Segment} → r ≡ segment_at t s k → r ≡ segment_at t s g
   at_number s k p q = q ∙ sym (ap (segment_at t s) p)

@@ -8,6 +8,8 @@ use Rattle.table.specs.Names.{axiom_tag, abstract_invariant_tag, concrete_invari
 use Rattle.table.specs.Rows.{Rows}
 use Rattle.table.specs.Lookups.{is_variable_number}
 use Rattle.sequent.specs.Entry.{Entry, written, primed, defined, moves, feasible, witnessed, natural, decreases, not_increased, unchanged}
+use Rattle.sequent.specs.declared.Kind.{Kind}
+use Rattle.sequent.specs.declared.Kind.TheVariants.{WD, INV, FIS, GRD, SIM, WFIS, NAT, VAR}
 use Rattle.sequent.specs.declared.Form.{Form}
 use Rattle.sequent.specs.declared.Form.TheVariants.{Written, Moves}
 use Rattle.sequent.specs.Numbers.{form_number}
@@ -39,14 +41,16 @@ module _ (t : Rows) where
   abbrev pub variant_goal : ℕ → ℕ → Entry
   variant_goal e x = pick (is_convergent t e) (decreases x) (not_increased x)
 
-  -- column "goal", kind by kind, of an event and an item; 0 is no kind and counts as 1
-  abbrev pub goals : List (ℕ → ℕ → Entry)
-  goals =
-      (λ e x. defined x) ∷ (λ e x. defined x) ∷ (λ e x. primed x) ∷ (λ e x. feasible e x) ∷ (λ e x. written x) ∷ (λ e x. sim_goal e x)
-      ∷ (λ e x. witnessed e x) ∷ (λ e x. natural x) ∷ (λ e x. variant_goal e x) ∷ []
-
-  unfoldable pub goal_of : ℕ → ℕ → ℕ → Entry
-  goal_of kind e x = get_or goals kind (λ e x. defined x) e x
+  -- column "goal", kind by kind, of an event and an item
+  unfoldable pub goal_of : Kind → ℕ → ℕ → Entry
+  goal_of WD e x = defined x
+  goal_of INV e x = primed x
+  goal_of FIS e x = feasible e x
+  goal_of GRD e x = written x
+  goal_of SIM e x = sim_goal e x
+  goal_of WFIS e x = witnessed e x
+  goal_of NAT e x = natural x
+  goal_of VAR e x = variant_goal e x
 
 -- a group of no event
 abbrev pub of_none : Slot → Bool

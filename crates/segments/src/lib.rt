@@ -18,7 +18,7 @@ use events::{is_abstract, is_convergent, is_initial, is_new, matched_by, own_kin
 use groups::{Group, when};
 use nodes::Index;
 use select::{Item, Selection, item_at};
-use sequent::{Entry, Form, kind};
+use sequent::{Entry, Form, Kind};
 use table::{Counted, identifier, size, tag};
 use walk::Slot;
 
@@ -256,18 +256,18 @@ fn variant_goal(table: &Counted, event: u64, root: u64) -> Entry
 }
 
 // The goal of a kind, for an event and an item.
-pub fn goal_of(table: &Counted, kind: u64, event: u64, item: u64) -> Entry
+pub fn goal_of(table: &Counted, kind: Kind, event: u64, item: u64) -> Entry
     ensures { result ≡ numbers_of (goal_of (rows_of table.now.words.now) kind event item) }
 {
     match kind {
-        kind::INV => of_one(Form::Primed, item),
-        kind::FIS => of_event(Form::Feasible, event, item),
-        kind::GRD => of_one(Form::Written, item),
-        kind::SIM => sim_goal(table, event, item),
-        kind::WFIS => of_event(Form::Witnessed, event, item),
-        kind::NAT => of_one(Form::Natural, item),
-        kind::VAR => variant_goal(table, event, item),
-        _ => of_one(Form::Defined, item),
+        Kind::WD => of_one(Form::Defined, item),
+        Kind::INV => of_one(Form::Primed, item),
+        Kind::FIS => of_event(Form::Feasible, event, item),
+        Kind::GRD => of_one(Form::Written, item),
+        Kind::SIM => sim_goal(table, event, item),
+        Kind::WFIS => of_event(Form::Witnessed, event, item),
+        Kind::NAT => of_one(Form::Natural, item),
+        Kind::VAR => variant_goal(table, event, item),
     }
 }
 

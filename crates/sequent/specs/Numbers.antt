@@ -1,9 +1,24 @@
--- 01, Sequents: "An entry has a form and two numbers": an entry as the code holds it and as rows 81 and 82 write it.
+-- 01, Sequents: the kinds as the code holds them and as row 80 writes them; "An entry has a form and two numbers": an entry as the code holds it and as rows 81 and 82
+-- write it.
 use Rattle.std.specs.Prelude.{ℕ}
+use Rattle.sequent.specs.declared.Kind.{Kind}
+use Rattle.sequent.specs.declared.Kind.TheVariants as kind
 use Rattle.sequent.specs.declared.Form.{Form}
 use Rattle.sequent.specs.declared.Form.TheVariants.{Written, Primed, Defined, Moves, Feasible, Witnessed, Natural, Decreases, NotIncreased, Unchanged}
 use Rattle.sequent.specs.declared.Entry.{Entry as Numbers}
 use Rattle.sequent.specs.Entry.{Entry, written, primed, defined, moves, feasible, witnessed, natural, decreases, not_increased, unchanged}
+use Rattle.sequent.specs.Sequent.{WD, INV, FIS, GRD, SIM, WFIS, NAT, VAR}
+
+-- the kinds by number
+abbrev pub kind_number : Kind → ℕ
+kind_number kind.WD = WD
+kind_number kind.INV = INV
+kind_number kind.FIS = FIS
+kind_number kind.GRD = GRD
+kind_number kind.SIM = SIM
+kind_number kind.WFIS = WFIS
+kind_number kind.NAT = NAT
+kind_number kind.VAR = VAR
 
 -- the forms by number
 abbrev pub form_number : Form → ℕ

@@ -2,9 +2,38 @@
 #![tactic(auto)]
 
 ghost use Rattle.std.specs.Prelude.{◌≡◌};
-ghost use Rattle.sequent.specs.Numbers.{form_number};
+ghost use Rattle.sequent.specs.Numbers.{kind_number, form_number};
 
-pub mod kind;
+// 01, Sequents: the kinds.
+#[derive(Clone, Copy, PartialEq, Eq)]
+pub enum Kind {
+    WD,
+    INV,
+    FIS,
+    GRD,
+    SIM,
+    WFIS,
+    NAT,
+    VAR,
+}
+
+impl Kind {
+    // Its number in row 80.
+    pub fn number(self) -> u64
+        ensures { result ≡ kind_number self }
+    {
+        match self {
+            Kind::WD => 1,
+            Kind::INV => 2,
+            Kind::FIS => 3,
+            Kind::GRD => 4,
+            Kind::SIM => 5,
+            Kind::WFIS => 6,
+            Kind::NAT => 7,
+            Kind::VAR => 8,
+        }
+    }
+}
 
 // 01, Sequents: the forms of entries.
 #[derive(Clone, Copy, PartialEq, Eq)]
