@@ -150,7 +150,7 @@ fn entry_row(tag: u64, entry: Entry) -> Row
 {
     Row {
         tag,
-        a: entry.form,
+        a: entry.form.number(),
         b: entry.first,
         c: entry.second,
     }

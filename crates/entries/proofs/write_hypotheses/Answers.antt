@@ -40,7 +40,7 @@ seek_entry-cursor-requires-in-loop-cursor c = record { table_value = c.requires.
 
 pub overflow_add-at : goal.overflow_add-at
 overflow_add-at c =
-    omega (arith, room c.loop-cursor.invariant c.loop-cursor-test.true c.requires.slot_in_bounds, c.loop-cursor.invariant.size, c.well_formed.1.1.0.0)
+    omega (arith, room c.loop-cursor.invariant c.loop-cursor-test.true c.requires.slot_in_bounds, c.loop-cursor.invariant.size, c.well_formed)
 
 pub loop-cursor-smaller : goal.loop-cursor-smaller
 loop-cursor-smaller c =

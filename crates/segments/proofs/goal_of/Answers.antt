@@ -1,97 +1,54 @@
--- Each kind by its row of the table.
-use mathlib.Core.Path.{◌≡◌, sym, ap, ◌∙◌}
-use native.Mathlib.Omega.{arith}
+-- Each kind by its line of the definition.
+use mathlib.Core.Path.{sym, ap, ◌∙◌}
 use Rattle.table.specs.Rows.{rows_of}
 use Rattle.sequent.specs.Numbers.{numbers_of}
 use Rattle.segments.specs.Segments.{goal_of}
-use Rattle.segments.proofs.Tables.{goal_rest}
-use borrow.Author.Rules.{rules}
 use Rattle.segments.proofs.goal_of.Goals as goal
 
-pub of_one-requires : goal.of_one-requires
+pub returns-in-WD : goal.returns-in-WD
 unfolding goal_of
-of_one-requires c = search rules
-
-pub of_event-requires : goal.of_event-requires
-unfolding goal_of
-of_event-requires c = search rules
-
-pub of_one-requires-in-4 : goal.of_one-requires-in-4
-unfolding goal_of
-of_one-requires-in-4 c = search rules
-
-pub of_event-requires-in-6 : goal.of_event-requires-in-6
-unfolding goal_of
-of_event-requires-in-6 c = search rules
-
-pub of_one-requires-in-7 : goal.of_one-requires-in-7
-unfolding goal_of
-of_one-requires-in-7 c = search rules
-
-pub of_one-requires-in_default : goal.of_one-requires-in_default
-unfolding goal_of
-of_one-requires-in_default c = search rules
-
-pub returns-in-2 : goal.returns-in-2
-unfolding goal_of
-returns-in-2 c =
+returns-in-WD c =
     let a = c.args in
-    let t = rows_of a.table.now.words.now in
-    let e : a.kind ≡ 2 = omega arith in
-    c.of_one.ensures ∙ ap (λ k. numbers_of (goal_of t k a.event a.item)) (sym e)
+    c.of_one.ensures ∙ ap (λ k. numbers_of (goal_of (rows_of a.table.now.words.now) k a.event a.item)) (sym c.in-WD.is)
 
-pub returns-in-3 : goal.returns-in-3
+pub returns-in-INV : goal.returns-in-INV
 unfolding goal_of
-returns-in-3 c =
+returns-in-INV c =
     let a = c.args in
-    let t = rows_of a.table.now.words.now in
-    let e : a.kind ≡ 3 = omega arith in
-    c.of_event.ensures ∙ ap (λ k. numbers_of (goal_of t k a.event a.item)) (sym e)
+    c.of_one-in-INV.ensures ∙ ap (λ k. numbers_of (goal_of (rows_of a.table.now.words.now) k a.event a.item)) (sym c.in-INV.is)
 
-pub returns-in-4 : goal.returns-in-4
+pub returns-in-FIS : goal.returns-in-FIS
 unfolding goal_of
-returns-in-4 c =
+returns-in-FIS c =
     let a = c.args in
-    let t = rows_of a.table.now.words.now in
-    let e : a.kind ≡ 4 = omega arith in
-    c.of_one-in-4.ensures ∙ ap (λ k. numbers_of (goal_of t k a.event a.item)) (sym e)
+    c.of_event.ensures ∙ ap (λ k. numbers_of (goal_of (rows_of a.table.now.words.now) k a.event a.item)) (sym c.in-FIS.is)
 
-pub returns-in-5 : goal.returns-in-5
+pub returns-in-GRD : goal.returns-in-GRD
 unfolding goal_of
-returns-in-5 c =
+returns-in-GRD c =
     let a = c.args in
-    let t = rows_of a.table.now.words.now in
-    let e : a.kind ≡ 5 = omega arith in
-    c.sim_goal.ensures ∙ ap (λ k. numbers_of (goal_of t k a.event a.item)) (sym e)
+    c.of_one-in-GRD.ensures ∙ ap (λ k. numbers_of (goal_of (rows_of a.table.now.words.now) k a.event a.item)) (sym c.in-GRD.is)
 
-pub returns-in-6 : goal.returns-in-6
+pub returns-in-SIM : goal.returns-in-SIM
 unfolding goal_of
-returns-in-6 c =
+returns-in-SIM c =
     let a = c.args in
-    let t = rows_of a.table.now.words.now in
-    let e : a.kind ≡ 6 = omega arith in
-    c.of_event-in-6.ensures ∙ ap (λ k. numbers_of (goal_of t k a.event a.item)) (sym e)
+    c.sim_goal.ensures ∙ ap (λ k. numbers_of (goal_of (rows_of a.table.now.words.now) k a.event a.item)) (sym c.in-SIM.is)
 
-pub returns-in-7 : goal.returns-in-7
+pub returns-in-WFIS : goal.returns-in-WFIS
 unfolding goal_of
-returns-in-7 c =
+returns-in-WFIS c =
     let a = c.args in
-    let t = rows_of a.table.now.words.now in
-    let e : a.kind ≡ 7 = omega arith in
-    c.of_one-in-7.ensures ∙ ap (λ k. numbers_of (goal_of t k a.event a.item)) (sym e)
+    c.of_event-in-WFIS.ensures ∙ ap (λ k. numbers_of (goal_of (rows_of a.table.now.words.now) k a.event a.item)) (sym c.in-WFIS.is)
 
-pub returns-in-8 : goal.returns-in-8
+pub returns-in-NAT : goal.returns-in-NAT
 unfolding goal_of
-returns-in-8 c =
+returns-in-NAT c =
     let a = c.args in
-    let t = rows_of a.table.now.words.now in
-    let e : a.kind ≡ 8 = omega arith in
-    c.variant_goal.ensures ∙ ap (λ k. numbers_of (goal_of t k a.event a.item)) (sym e)
+    c.of_one-in-NAT.ensures ∙ ap (λ k. numbers_of (goal_of (rows_of a.table.now.words.now) k a.event a.item)) (sym c.in-NAT.is)
 
-pub returns-in_default : goal.returns-in_default
+pub returns-in-VAR : goal.returns-in-VAR
 unfolding goal_of
-returns-in_default c =
+returns-in-VAR c =
     let a = c.args in
-    let t = rows_of a.table.now.words.now in
-    let o = c.in_default.in_default-own.rest in
-    c.of_one-in_default.ensures ∙ ap numbers_of (goal_rest t a.kind a.event a.item (λ e. o.0.0.0.0.0.0.1 e) (λ e. o.0.0.0.0.0.1 e) (λ e. o.0.0.0.0.1 e) (λ e. o.0.0.0.1 e) (λ e. o.0.0.1 e) (λ e. o.0.1 e) (λ e. o.1 e))
+    c.variant_goal.ensures ∙ ap (λ k. numbers_of (goal_of (rows_of a.table.now.words.now) k a.event a.item)) (sym c.in-VAR.is)
