@@ -1,4 +1,4 @@
--- The table of segments, read at a known number and at one that is none of those that a match names; where the rows of a segment end.
+-- The table of segments at a known number, the entry of a row by its form, and where the rows of a segment end.
 use Prim.Native.Nat.{ℕ, ◌≤◌, ◌<◌}
 use mathlib.Core.Path.{◌≡◌, refl, sym, ap, ◌∙◌}
 use mathlib.Core.Bool.{Bool, true, false}
