@@ -21,9 +21,7 @@ use Rattle.machine.specs.Machine.{Witness, unshared_variables}
 use Rattle.machine.specs.Described.{machine_of}
 use Rattle.machine.proofs.Variables.{variable_numbered, unshared_numbered}
 use Rattle.sequent.specs.Entry.{Entry, written, moves, variable}
-use Rattle.sequent.specs.declared.Kind.TheVariants.{WD, WFIS}
-use Rattle.sequent.specs.Numbers.{kind_number}
-use Rattle.sequent.specs.Sequent.{Sequent, sequent}
+use Rattle.sequent.specs.Sequent.{Sequent, sequent, WD, WFIS}
 use Rattle.formula.specs.Identifiers.{divides}
 use Rattle.sequent.specs.Listed.{formulas, base, guarded, moved, all_written, witness_entries, parameter_witnesses, inv_hypotheses, witness_hypotheses, needed}
 use Rattle.rules.proofs.Obeys.{Obeys}
@@ -217,7 +215,7 @@ module _ (t : Rows) where
 
     -- all but the hypotheses computes
     abbrev WithOwn : ℕ → ℕ → Sequent → Type 0
-    WithOwn g w s = s ≡ sequent (kind_number (header_kind t e g i w)) e (header_item t e g i w) s.hypotheses (goal_at t (slot_at e g i w))
+    WithOwn g w s = s ≡ sequent (header_kind t e g i w) e (header_item t e g i w) s.hypotheses (goal_at t (slot_at e g i w))
 
     first_own : All (λ g. (eqb g witness_group ≡ false) → WithOwn g 0 (get_or (made t e g i) 0 d)) (numbers groups 0)
     unfolding made numbers goal_of group_at header_kind header_item
@@ -229,7 +227,7 @@ module _ (t : Rows) where
         → s ≡ slot_sequent t (slot_at e g i w)
     segmented g w s hs own =
         own
-        ∙ ap (λ xs. sequent (kind_number (header_kind t e g i w)) e (header_item t e g i w) xs (goal_at t (slot_at e g i w)))
+        ∙ ap (λ xs. sequent (header_kind t e g i w) e (header_item t e g i w) xs (goal_at t (slot_at e g i w)))
         (sym (append-nil s.hypotheses) ∙ hs [] ∙ append-nil (hypothesis_walk t (slot_at e g i w)))
 
     first_segmented : (g : ℕ) → g < groups → eqb g witness_group ≡ false → get_or (made t e g i) 0 d ≡ slot_sequent t (slot_at e g i 0)
@@ -242,13 +240,13 @@ module _ (t : Rows) where
     of_witness b =
         let k = pick b WFIS WD in
         let x = pick b (t.b i) (t.c i) in
-        sequent (kind_number k) e x (witness_hypotheses (machine_of t) (role_of t e) e (witness_of t i)) (goal_of t k e x)
+        sequent k e x (witness_hypotheses (machine_of t) (role_of t e) e (witness_of t i)) (goal_of t k e x)
 
     witness_segmented : (w : ℕ) (b : Bool) → is_wfis t witness_group i w ≡ b → of_witness b ≡ slot_sequent t (slot_at e witness_group i w)
     unfolding header_kind header_item group_at
     witness_segmented w b p =
         segmented witness_group w (of_witness b) (λ r. witness_then e i r ∙ sym (walk_then t (slot_at e witness_group i w) r))
-        (ap (λ b. sequent (kind_number (pick b WFIS WD)) e (pick b (t.b i) (t.c i)) (witness_hypotheses (machine_of t) (role_of t e) e (witness_of t i)) (goal_of t (pick b WFIS WD) e (pick b (t.b i) (t.c i)))) (sym p))
+        (ap (λ b. sequent (pick b WFIS WD) e (pick b (t.b i) (t.c i)) (witness_hypotheses (machine_of t) (role_of t e) e (witness_of t i)) (goal_of t (pick b WFIS WD) e (pick b (t.b i) (t.c i)))) (sym p))
 
   -- what is kept of one sequent
   kept_single : (P : Sequent → Bool) (s d : Sequent) (w : ℕ) → w < length (keep P (s ∷ [])) → (w ≡ 0) × (get_or (keep P (s ∷ [])) w d ≡ s)

@@ -6,7 +6,6 @@ use Rattle.lists.specs.Sum.{sum_below}
 use Rattle.table.specs.Rows.{Rows}
 use Rattle.sequent.specs.Entry.{Entry}
 use Rattle.sequent.specs.Sequent.{Sequent, sequent}
-use Rattle.sequent.specs.Numbers.{kind_number}
 use Rattle.walk.specs.declared.Slot.{Slot}
 use Rattle.walk.specs.Headers.{header_kind, header_item}
 use Rattle.segments.specs.Segments.{goal_of, segments, segment_at, in_segment, hypothesis_walk}
@@ -19,7 +18,7 @@ module _ (t : Rows) (s : Slot) where
   -- the slot's sequent: header, hypotheses and goal
   abbrev pub slot_sequent : Sequent
   slot_sequent =
-      sequent (kind_number (header_kind t s.event s.group s.row s.left)) s.event (header_item t s.event s.group s.row s.left) (hypothesis_walk t s) goal_at
+      sequent (header_kind t s.event s.group s.row s.left) s.event (header_item t s.event s.group s.row s.left) (hypothesis_walk t s) goal_at
 
   -- how many hypotheses a segment has, and how many stand before the row j of a segment
   abbrev pub segment_count : ℕ → ℕ

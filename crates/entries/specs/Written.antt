@@ -3,7 +3,6 @@ use Rattle.std.specs.Prelude.{ℕ, List, [], ◌∷◌, ◌++◌, map}
 use Rattle.row.specs.declared.Row.{Row}
 use Rattle.table.specs.Rows.{Rows}
 use Rattle.sequent.specs.declared.Entry.{Entry as Numbers}
-use Rattle.sequent.specs.Numbers.{form_number}
 use Rattle.walk.specs.declared.Slot.{Slot}
 use Rattle.reply.specs.Row.{row}
 use Rattle.reply.specs.Printed.{entry_row}
@@ -12,7 +11,7 @@ use Rattle.entries.specs.Sequent.{goal_at}
 
 -- the row of an entry as the code holds it
 abbrev pub numbers_row : ℕ → Numbers → Row
-numbers_row tag n = row tag (form_number n.form) n.first n.second
+numbers_row tag n = row tag n.form n.first n.second
 
 module _ (t : Rows) (s : Slot) where
   unfoldable pub hypothesis_rows : List Row

@@ -150,7 +150,7 @@ fn entry_row(tag: u64, entry: Entry) -> Row
 {
     Row {
         tag,
-        a: entry.form.number(),
+        a: entry.form,
         b: entry.first,
         c: entry.second,
     }

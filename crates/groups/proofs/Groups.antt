@@ -3,7 +3,7 @@ use Prim.Native.Nat.{ℕ, ◌≤◌}
 use mathlib.Core.Path.{◌≡◌, sym, ap, ◌∙◌}
 use lib.ListN.{get_or-eq_default}
 use Rattle.table.specs.Rows.{Rows}
-use Rattle.sequent.specs.declared.Kind.TheVariants.{WD}
+use Rattle.sequent.specs.Sequent.{WD}
 use Rattle.select.specs.declared.Selection.TheVariants.{None}
 use Rattle.select.specs.declared.Item.TheVariants.{A}
 use Rattle.groups.specs.declared.Group.{Group}

@@ -11,8 +11,7 @@ use Rattle.select.specs.declared.Item.{Item}
 use Rattle.select.specs.declared.Item.TheVariants.{A, B, C, Action, Identifier}
 use Rattle.select.specs.declared.Each.{Each}
 use Rattle.select.specs.declared.Each.TheVariants.{One, Defined, Witness, Touched}
-use Rattle.sequent.specs.declared.Kind.{Kind}
-use Rattle.sequent.specs.declared.Kind.TheVariants.{WD, INV, FIS, GRD, SIM, NAT, VAR}
+use Rattle.sequent.specs.Sequent.{WD, INV, FIS, GRD, SIM, NAT, VAR}
 use Rattle.groups.specs.declared.Group.{Group}
 use Rattle.events.specs.Events.{is_refining, is_matched, is_convergent, is_new, keeps_all, own_kind, own_invariant_tag}
 
@@ -60,14 +59,14 @@ var_group = 12
 abbrev pub groups : ℕ
 groups = 13
 
-abbrev pub group_of : Kind → Selection → Item → Each → Group
+abbrev pub group_of : ℕ → Selection → Item → Each → Group
 group_of kind rows item each = record { kind = kind; rows = rows; item = item; each = each }
 
 -- WD, where the formula divides; a kind that is listed whole
 abbrev pub defined_group : Selection → Item → ℕ → Group
 defined_group rows item e = group_of WD rows item (Defined item e)
 
-abbrev pub whole_group : Kind → Selection → Item → Group
+abbrev pub whole_group : ℕ → Selection → Item → Group
 whole_group kind rows item = group_of kind rows item One
 
 -- rows where a test passes

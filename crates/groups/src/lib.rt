@@ -5,7 +5,7 @@ ghost use Rattle.std.specs.Prelude.{◌≡◌};
 ghost use Rattle.table.specs.Names.{guard_tag, variant_tag};
 ghost use Rattle.table.specs.Rows.{rows_of, refined_by};
 ghost use Rattle.table.specs.Counts.{counts_of};
-ghost use Rattle.sequent.specs.declared.Kind.TheVariants.{WD};
+ghost use Rattle.sequent.specs.Sequent.{WD};
 ghost use Rattle.select.specs.declared.Selection.TheVariants.{Tagged, OfEvent, Assigned, SuchThat};
 ghost use Rattle.select.specs.declared.Each.TheVariants.{One, Defined};
 ghost use Rattle.events.specs.Events.{is_refining, own_kind, own_invariant_tag};
@@ -15,7 +15,7 @@ use events::{
     is_convergent, is_matched, is_new, is_refining, keeps_all, own_invariant_tag, own_kind,
 };
 use select::{Each, Item, Selection};
-use sequent::Kind;
+use sequent::kind;
 use table::{Counted, Table, event, identifier, tag};
 
 // Rows where a test passes.
@@ -51,7 +51,7 @@ fn of_event(event: u64, rows: Selection) -> Selection
 // A line of 01's "Order": the kind of its sequents, the rows that they are made for, their items, and how many of a row are listed.
 #[derive(Clone, Copy)]
 pub struct Group {
-    pub kind: Kind,
+    pub kind: u64,
     pub rows: Selection,
     pub item: Item,
     pub each: Each,
@@ -87,7 +87,7 @@ impl Group {
 
     pub const COUNT: u64 = 13;
 
-    fn new(kind: Kind, rows: Selection, item: Item, each: Each) -> Self
+    fn new(kind: u64, rows: Selection, item: Item, each: Each) -> Self
         ensures { result ≡ group_of kind rows item each }
     {
         Self {
@@ -103,7 +103,7 @@ impl Group {
         ensures { result ≡ group_of WD rows item (Defined item event) }
     {
         let each = Each::Defined { item, event };
-        Group::new(Kind::WD, rows, item, each)
+        Group::new(kind::WD, rows, item, each)
     }
 
     // WD of the rows of a tag that belong to no event.
@@ -114,7 +114,7 @@ impl Group {
     }
 
     // A kind of which every sequent is listed.
-    fn whole(kind: Kind, rows: Selection, item: Item) -> Self
+    fn whole(kind: u64, rows: Selection, item: Item) -> Self
         ensures { result ≡ group_of kind rows item One }
     {
         Group::new(kind, rows, item, Each::One)
@@ -202,31 +202,31 @@ pub fn group_at(table: &Counted, event: u64, group: u64) -> Group
         Group::VARIANT => Group::formulas(event, tag::VARIANT),
         Group::GUARD => Group::defined(rows_of(event, tag::GUARD), Item::B, event),
         Group::ACTION => Group::defined(assigned(table, event), Item::Action, event),
-        Group::FIS => Group::whole(Kind::FIS, such_that(table, event), Item::Identifier),
+        Group::FIS => Group::whole(kind::FIS, such_that(table, event), Item::Identifier),
         Group::WITNESS => Group::new(
-            Kind::WD,
+            kind::WD,
             rows_of(event, tag::WITNESS),
             Item::C,
             Each::Witness,
         ),
-        Group::GRD => Group::whole(Kind::GRD, refined_guards(table, event), Item::B),
-        Group::SIM => Group::whole(Kind::SIM, simulated(table, event), Item::Identifier),
+        Group::GRD => Group::whole(kind::GRD, refined_guards(table, event), Item::B),
+        Group::SIM => Group::whole(kind::SIM, simulated(table, event), Item::Identifier),
         Group::INV => Group::new(
-            Kind::INV,
+            kind::INV,
             own_invariants(table, event),
             Item::A,
             invariant_each(table, event),
         ),
         Group::NAT => Group::whole(
-            Kind::NAT,
+            kind::NAT,
             variant_when(event, is_convergent(table, event)),
             Item::A,
         ),
         Group::VAR => Group::whole(
-            Kind::VAR,
+            kind::VAR,
             variant_when(event, is_new(table, event)),
             Item::A,
         ),
-        _ => Group::whole(Kind::WD, Selection::None, Item::A),
+        _ => Group::whole(kind::WD, Selection::None, Item::A),
     }
 }

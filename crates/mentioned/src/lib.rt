@@ -16,7 +16,7 @@ use reply::tags;
 use row::Row;
 use scan::{Query, find_within};
 use select::action_row;
-use sequent::{Entry, Form};
+use sequent::{Entry, form};
 use sets::{count, highest, lowest, single};
 use table::tag;
 
@@ -62,14 +62,12 @@ fn entry_set(index: &Index, entry: Entry) -> u64
     let first = entry.first;
     let second = entry.second;
     match form {
-        Form::Written | Form::Primed | Form::Natural | Form::Decreases | Form::NotIncreased => {
-            note_at(index, first).mentioned
-        }
-        Form::Defined => note_at(index, first).defined,
-        Form::Moves => action_set(index, first, second),
-        Form::Feasible => single(second) | action_set(index, first, second),
-        Form::Witnessed => witness_set(index, first, second),
-        Form::Unchanged => single(first),
+        form::DEFINED => note_at(index, first).defined,
+        form::MOVES => action_set(index, first, second),
+        form::FEASIBLE => single(second) | action_set(index, first, second),
+        form::WITNESSED => witness_set(index, first, second),
+        form::UNCHANGED => single(first),
+        _ => note_at(index, first).mentioned,
     }
 }
 

@@ -26,7 +26,7 @@ use Rattle.machine.specs.Operator.{Operator, literalOf, identifierOf, after_of, 
 use Rattle.machine.specs.Described.{node, earlier, tree_to, tree_of, machine_of}
 use Rattle.machine.proofs.Operator.{operator_passes}
 use Rattle.sequent.specs.Entry.{Entry, written, primed, defined, moves, feasible, witnessed, natural, decreases, not_increased, unchanged, witness_root, variable, action_tree, witness_tree, formula}
-use Rattle.sequent.specs.Numbers.{form_number, numbers_of}
+use Rattle.sequent.specs.Numbers.{numbers_of}
 use Rattle.sequent.specs.Sequent.{Sequent}
 use Rattle.sequent.specs.Listed.{sequents}
 use Rattle.rules.specs.Refusal.{refused}
@@ -196,7 +196,7 @@ after_writable v (connective o t u) h =
 entry_writable : (tag : ℕ) → tag ≤ greatest → Fits 4 tag → (h : Entry) → EntryRanged h → W (entry_row tag h)
 entry_writable tag small fits h r = row_writable tag _ _ _ small fits (small_ranged _ (omega (arith, form_small h))) r.0 r.1
   where
-    form_small : (h : Entry) → form_number (numbers_of h).form ≤ 10
+    form_small : (h : Entry) → (numbers_of h).form ≤ 10
     form_small (written r) = omega arith
     form_small (primed r) = omega arith
     form_small (defined r) = omega arith

@@ -7,7 +7,7 @@ use Rattle.row.specs.declared.Row.{Row}
 use Rattle.row.specs.Row.{row_bytes, width}
 use Rattle.machine.specs.Machine.{Machine}
 use Rattle.sequent.specs.Entry.{Entry, formula}
-use Rattle.sequent.specs.Numbers.{form_number, numbers_of}
+use Rattle.sequent.specs.Numbers.{numbers_of}
 use Rattle.sequent.specs.Sequent.{Sequent}
 use Rattle.reply.specs.Row.{row}
 use Rattle.reply.specs.Spelled.{some_value_number, some_after_value_number, spell}
@@ -26,7 +26,7 @@ mentioned_tag = 84
 
 -- "rows 81 (hypotheses), row 82 (goal)": the tag, then the entry's form and two numbers
 abbrev pub entry_row : ℕ → Entry → Row
-entry_row t h = let n = numbers_of h in row t (form_number n.form) n.first n.second
+entry_row t h = let n = numbers_of h in row t n.form n.first n.second
 
 -- 02, request 4: "counting every identifier in the spelled rows": column b of operators 2 and 3, and of 40 and 41
 abbrev pub has_identifier : Row → Bool

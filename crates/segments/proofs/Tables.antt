@@ -1,45 +1,37 @@
--- The table of segments at a known number, the entry of a row by its form, and where the rows of a segment end.
+-- The tables of goals and segments, read at a known number and at one that is none of those that a match names; where the rows of a segment end.
 use Prim.Native.Nat.{ℕ, ◌≤◌, ◌<◌}
 use mathlib.Core.Path.{◌≡◌, refl, sym, ap, ◌∙◌}
 use mathlib.Core.Bool.{Bool, true, false}
 use native.Mathlib.Omega.{arith}
 use lib.Dec.{ltb, eqb}
 use lib.ListN.{get_or-eq_default}
-use borrow.Author.Tests.{ltb-true, ltb-false}
+use borrow.Author.Tests.{eq-eqb, ne_eqb, ltb-true, ltb-false}
 use Rattle.lists.specs.Choice.{pick}
 use Rattle.lists.specs.All.{All, all_nil, all_cons}
 use Rattle.lists.specs.Below.{numbers}
 use Rattle.lists.proofs.All.{all_at}
 use Rattle.lists.proofs.Below.{numbers_in}
 use Rattle.lists.proofs.Choice.{chosen, not_chosen}
+use Rattle.lists.proofs.Range.{table_rest}
 use Rattle.table.specs.Rows.{Rows}
-use Rattle.sequent.specs.declared.Form.{Form}
-use Rattle.sequent.specs.declared.Form.TheVariants.{Written, Primed, Defined, Moves, Feasible, Witnessed, Natural, Decreases, NotIncreased, Unchanged}
-use Rattle.sequent.specs.Numbers.{form_number, numbers as numbers_at, numbers_of}
+use Rattle.sequent.specs.Entry.{defined}
+use Rattle.sequent.specs.Numbers.{numbers as numbers_at, numbers_of, written_form, moves_form}
 use Rattle.select.specs.declared.Selection.TheVariants.{None}
 use Rattle.select.specs.declared.Item.TheVariants.{A}
 use Rattle.select.specs.Each.{item_at}
 use Rattle.walk.specs.declared.Slot.{Slot}
 use Rattle.segments.specs.declared.Segment.{Segment}
-use Rattle.segments.specs.Segments.{segments, segment_of, segment_table, segment_at, segment_entry}
-
--- whether a form is that of moves, as a number tells it
-abbrev are_moves : Form → Bool
-are_moves f = eqb (form_number f) (form_number Moves)
-
-other_form : (f : Form) → (f ≡ Moves → ⊥) → are_moves f ≡ false
-other_form Written h = refl
-other_form Primed h = refl
-other_form Defined h = refl
-other_form Moves h = absurd (h refl)
-other_form Feasible h = refl
-other_form Witnessed h = refl
-other_form Natural h = refl
-other_form Decreases h = refl
-other_form NotIncreased h = refl
-other_form Unchanged h = refl
+use Rattle.segments.specs.Segments.{goals, goal_of, segments, segment_of, segment_table, segment_at, segment_entry}
 
 module _ (t : Rows) where
+  pub goal_rest : (k e x : ℕ) → (k ≡ 2 → ⊥) → (k ≡ 3 → ⊥) → (k ≡ 4 → ⊥) → (k ≡ 5 → ⊥) → (k ≡ 6 → ⊥) → (k ≡ 7 → ⊥) → (k ≡ 8 → ⊥) → defined x ≡ goal_of t k e x
+  unfolding numbers goal_of
+  goal_rest k e x n2 n3 n4 n5 n6 n7 n8 =
+      sym (ap (λ f. f e x)
+      (table_rest (goals t) (λ e x. defined x) k
+      (all_cons (λ p. refl) (all_cons (λ p. refl) (all_cons (λ p. absurd (n2 p)) (all_cons (λ p. absurd (n3 p)) (all_cons (λ p. absurd (n4 p))
+      (all_cons (λ p. absurd (n5 p)) (all_cons (λ p. absurd (n6 p)) (all_cons (λ p. absurd (n7 p)) (all_cons (λ p. absurd (n8 p)) all_nil)))))))))))
+
   -- a segment whose number is known
   pub at_number : (s : Slot) {g : ℕ} (k : ℕ) → g ≡ k → {r : Segment} → r ≡ segment_at t s k → r ≡ segment_at t s g
   at_number s k p q = q ∙ sym (ap (segment_at t s) p)
@@ -49,17 +41,17 @@ module _ (t : Rows) where
     item : x ≡ item_at t (segment_at t s k).item s.event j
     item = q ∙ ap (λ r. item_at t r.item s.event j) p
 
-    pub entry_moves : r.form ≡ Moves → numbers_at Moves s.event x ≡ numbers_of (segment_entry t s k j)
+    pub entry_moves : r.form ≡ moves_form → numbers_at moves_form s.event x ≡ numbers_of (segment_entry t s k j)
     unfolding segment_entry
     entry_moves h =
-        ap (numbers_at Moves s.event) item
-        ∙ ap numbers_of (sym (chosen (are_moves (segment_at t s k).form) _ _ (ap are_moves (ap (λ r. r.form) (sym p) ∙ h))))
+        ap (numbers_at moves_form s.event) item
+        ∙ ap numbers_of (sym (chosen (eqb (segment_at t s k).form moves_form) _ _ (eq-eqb _ moves_form (ap (λ r. r.form) (sym p) ∙ h))))
 
-    pub entry_written : (r.form ≡ Moves → ⊥) → numbers_at Written x 0 ≡ numbers_of (segment_entry t s k j)
+    pub entry_written : (r.form ≡ moves_form → ⊥) → numbers_at written_form x 0 ≡ numbers_of (segment_entry t s k j)
     unfolding segment_entry
     entry_written h =
-        ap (λ x. numbers_at Written x 0) item
-        ∙ ap numbers_of (sym (not_chosen (are_moves (segment_at t s k).form) _ _ (other_form (segment_at t s k).form (λ e. h (ap (λ r. r.form) p ∙ e)))))
+        ap (λ x. numbers_at written_form x 0) item
+        ∙ ap numbers_of (sym (not_chosen (eqb (segment_at t s k).form moves_form) _ _ (ne_eqb _ moves_form (λ e. h (ap (λ r. r.form) p ∙ e)))))
 
 module _ (t : Rows) (s : Slot) where
   abbrev pub end : ℕ → ℕ
@@ -80,5 +72,5 @@ module _ (t : Rows) (s : Slot) where
       by_number : (b : Bool) → ltb k segments ≡ b → (segment_at t s k).before ≤ t.size
       by_number true p = all_at all (numbers_in segments 0 k (omega arith) (omega (arith, ltb-true k segments p)))
       by_number false p =
-          let none : (segment_at t s k).before ≡ 0 = ap (λ r. r.before) (get_or-eq_default (segment_table t s) (segment_of None 0 Written A) (ltb-false k segments p)) in
+          let none : (segment_at t s k).before ≡ 0 = ap (λ r. r.before) (get_or-eq_default (segment_table t s) (segment_of None 0 1 A) (ltb-false k segments p)) in
           omega (arith, none)

@@ -8,11 +8,7 @@ use Rattle.table.specs.Names.{axiom_tag, abstract_invariant_tag, concrete_invari
 use Rattle.table.specs.Rows.{Rows}
 use Rattle.table.specs.Lookups.{is_variable_number}
 use Rattle.sequent.specs.Entry.{Entry, written, primed, defined, moves, feasible, witnessed, natural, decreases, not_increased, unchanged}
-use Rattle.sequent.specs.declared.Kind.{Kind}
-use Rattle.sequent.specs.declared.Kind.TheVariants.{WD, INV, FIS, GRD, SIM, WFIS, NAT, VAR}
-use Rattle.sequent.specs.declared.Form.{Form}
-use Rattle.sequent.specs.declared.Form.TheVariants.{Written, Moves}
-use Rattle.sequent.specs.Numbers.{form_number}
+use Rattle.sequent.specs.Numbers.{written_form, moves_form}
 use Rattle.select.specs.declared.Selection.{Selection}
 use Rattle.select.specs.declared.Selection.TheVariants.{None, Tagged, OfEvent, ForParameters, Identifiers, Variables}
 use Rattle.select.specs.Selection.{selects}
@@ -25,7 +21,7 @@ use Rattle.select.specs.Each.{item_at}
 use Rattle.groups.specs.Groups.{when}
 use Rattle.segments.specs.declared.Segment.{Segment}
 
-abbrev pub segment_of : Selection → ℕ → Form → Item → Segment
+abbrev pub segment_of : Selection → ℕ → ℕ → Item → Segment
 segment_of rows before form item = record { rows = rows; before = before; form = form; item = item }
 
 -- how many segments there are
@@ -41,16 +37,14 @@ module _ (t : Rows) where
   abbrev pub variant_goal : ℕ → ℕ → Entry
   variant_goal e x = pick (is_convergent t e) (decreases x) (not_increased x)
 
-  -- column "goal", kind by kind, of an event and an item
-  unfoldable pub goal_of : Kind → ℕ → ℕ → Entry
-  goal_of WD e x = defined x
-  goal_of INV e x = primed x
-  goal_of FIS e x = feasible e x
-  goal_of GRD e x = written x
-  goal_of SIM e x = sim_goal e x
-  goal_of WFIS e x = witnessed e x
-  goal_of NAT e x = natural x
-  goal_of VAR e x = variant_goal e x
+  -- column "goal", kind by kind, of an event and an item; 0 is no kind and counts as 1
+  abbrev pub goals : List (ℕ → ℕ → Entry)
+  goals =
+      (λ e x. defined x) ∷ (λ e x. defined x) ∷ (λ e x. primed x) ∷ (λ e x. feasible e x) ∷ (λ e x. written x) ∷ (λ e x. sim_goal e x)
+      ∷ (λ e x. witnessed e x) ∷ (λ e x. natural x) ∷ (λ e x. variant_goal e x) ∷ []
+
+  unfoldable pub goal_of : ℕ → ℕ → ℕ → Entry
+  goal_of kind e x = get_or goals kind (λ e x. defined x) e x
 
 -- a group of no event
 abbrev pub of_none : Slot → Bool
@@ -90,23 +84,23 @@ module _ (t : Rows) (s : Slot) where
   abbrev pub segment_table : List Segment
   segment_table =
       -- the axioms
-      segment_of (Tagged axiom_tag) (up_to axiom_group) Written A
+      segment_of (Tagged axiom_tag) (up_to axiom_group) written_form A
       -- the invariants
-      ∷ segment_of (when has_abstract (Tagged abstract_invariant_tag)) (up_to abstract_invariant_group) Written A
-      ∷ segment_of (when has_concrete (Tagged concrete_invariant_tag)) (up_to concrete_invariant_group) Written A
+      ∷ segment_of (when has_abstract (Tagged abstract_invariant_tag)) (up_to abstract_invariant_group) written_form A
+      ∷ segment_of (when has_concrete (Tagged concrete_invariant_tag)) (up_to concrete_invariant_group) written_form A
       -- the guards
-      ∷ segment_of (when (not (of_none s)) (OfEvent guard_tag s.event)) (up_to guard_group) Written B
+      ∷ segment_of (when (not (of_none s)) (OfEvent guard_tag s.event)) (up_to guard_group) written_form B
       -- the moves
-      ∷ segment_of (when has_moves (Variables (own_kind t s.event))) t.size Moves Identifier
+      ∷ segment_of (when has_moves (Variables (own_kind t s.event))) t.size moves_form Identifier
       -- the witnesses
-      ∷ segment_of witness_rows t.size Written C
+      ∷ segment_of witness_rows t.size written_form C
       -- the abstract moves; 02, request 2: "Form 4 of it stands once among hypotheses": a shared variable's is among the moves
-      ∷ segment_of (when has_abstract_moves (Identifiers abstract_variable_kind)) t.size Moves Identifier
+      ∷ segment_of (when has_abstract_moves (Identifiers abstract_variable_kind)) t.size moves_form Identifier
       ∷ []
 
   -- a segment by number; another number has no rows
   unfoldable pub segment_at : ℕ → Segment
-  segment_at k = get_or segment_table k (segment_of None 0 Written A)
+  segment_at k = get_or segment_table k (segment_of None 0 written_form A)
 
   -- the rows of a segment
   abbrev pub in_segment : ℕ → ℕ → Bool
@@ -116,7 +110,7 @@ module _ (t : Rows) (s : Slot) where
   unfoldable pub segment_entry : ℕ → ℕ → Entry
   segment_entry k j =
       let x = item_at t (segment_at k).item s.event j in
-      pick (eqb (form_number (segment_at k).form) (form_number Moves)) (moves s.event x) (written x)
+      pick (eqb (segment_at k).form moves_form) (moves s.event x) (written x)
 
   abbrev pub segment : ℕ → List Entry
   segment k = map (segment_entry k) (keep (in_segment k) (numbers (segment_at k).before 0))

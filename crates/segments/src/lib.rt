@@ -7,8 +7,7 @@ ghost use Rattle.table.specs.Counts.{counts_of};
 ghost use Rattle.table.specs.Names.{guard_tag};
 ghost use Rattle.nodes.specs.Notes.{Noted};
 ghost use Rattle.select.specs.declared.Selection.TheVariants.{Tagged, OfEvent};
-ghost use Rattle.sequent.specs.declared.Form.TheVariants.{Written, Moves};
-ghost use Rattle.sequent.specs.Numbers.{numbers, numbers_of};
+ghost use Rattle.sequent.specs.Numbers.{numbers, numbers_of, written_form, moves_form};
 ghost use Rattle.select.specs.declared.Item.TheVariants.{A as column_a, B as column_b, Identifier};
 ghost use Rattle.groups.specs.Groups.{when, guard_group};
 ghost use Rattle.segments.specs.Segments.{segment_of, sim_goal, variant_goal, goal_of, up_to, of_none, has_abstract, has_concrete, has_moves, has_witnesses, has_abstract_moves, witness_rows};
@@ -18,7 +17,7 @@ use events::{is_abstract, is_convergent, is_initial, is_new, matched_by, own_kin
 use groups::{Group, when};
 use nodes::Index;
 use select::{Item, Selection, item_at};
-use sequent::{Entry, Form, Kind};
+use sequent::{Entry, form, kind};
 use table::{Counted, identifier, size, tag};
 use walk::Slot;
 
@@ -104,7 +103,7 @@ fn witness_rows(table: &Counted, slot: Slot) -> Selection
 pub struct Segment {
     pub rows: Selection,
     pub before: usize,
-    pub form: Form,
+    pub form: u64,
     pub item: Item,
 }
 
@@ -126,7 +125,7 @@ impl Segment {
 
     pub const COUNT: u64 = 7;
 
-    fn new(rows: Selection, before: usize, form: Form, item: Item) -> Self
+    fn new(rows: Selection, before: usize, form: u64, item: Item) -> Self
         ensures { result ≡ segment_of rows before form item }
     {
         Self {
@@ -140,15 +139,15 @@ impl Segment {
 
 // The axioms or invariants of a tag, where a slot has them, up to the row of a slot of their own group.
 fn formulas(words: &[u64], slot: Slot, has: bool, tag: u64, group: u64) -> Segment
-    ensures { result ≡ segment_of (when has (Tagged tag)) (up_to (rows_of words.now) slot group) Written column_a }
+    ensures { result ≡ segment_of (when has (Tagged tag)) (up_to (rows_of words.now) slot group) written_form column_a }
 {
     let rows = when(has, Selection::Tagged(tag));
-    Segment::new(rows, up_to(words, slot, group), Form::Written, Item::A)
+    Segment::new(rows, up_to(words, slot, group), form::WRITTEN, Item::A)
 }
 
 // The guards of an event, up to the slot's own where it is of a guard.
 fn guards(words: &[u64], slot: Slot) -> Segment
-    ensures { result ≡ segment_of (when (not (of_none slot)) (OfEvent guard_tag slot.event)) (up_to (rows_of words.now) slot guard_group) Written column_b }
+    ensures { result ≡ segment_of (when (not (of_none slot)) (OfEvent guard_tag slot.event)) (up_to (rows_of words.now) slot guard_group) written_form column_b }
 {
     let event = slot.event;
     let guards = Selection::OfEvent {
@@ -159,17 +158,17 @@ fn guards(words: &[u64], slot: Slot) -> Segment
     Segment::new(
         rows,
         up_to(words, slot, Group::GUARD),
-        Form::Written,
+        form::WRITTEN,
         Item::B,
     )
 }
 
 // The moves of an event for some variables.
 fn moves(words: &[u64], has: bool, variables: Selection) -> Segment
-    ensures { result ≡ segment_of (when has variables) (rows_of words.now).size Moves Identifier }
+    ensures { result ≡ segment_of (when has variables) (rows_of words.now).size moves_form Identifier }
 {
     let rows = when(has, variables);
-    Segment::new(rows, size(words), Form::Moves, Item::Identifier)
+    Segment::new(rows, size(words), form::MOVES, Item::Identifier)
 }
 
 // A segment of a slot, by number: the table of segments.
@@ -201,7 +200,7 @@ pub fn segment_at(table: &Counted, slot: Slot, segment: u64) -> Segment
         Segment::WITNESSES => Segment::new(
             witness_rows(table, slot),
             table.size(),
-            Form::Written,
+            form::WRITTEN,
             Item::C,
         ),
         Segment::ABSTRACT_MOVES => moves(
@@ -209,12 +208,12 @@ pub fn segment_at(table: &Counted, slot: Slot, segment: u64) -> Segment
             has_abstract_moves(table, slot),
             Selection::Identifiers(identifier::ABSTRACT_VARIABLE),
         ),
-        _ => Segment::new(Selection::None, 0, Form::Written, Item::A),
+        _ => Segment::new(Selection::None, 0, form::WRITTEN, Item::A),
     }
 }
 
 // An entry of one number, a root or a variable: its form, the number, then 0.
-fn of_one(form: Form, number: u64) -> Entry
+fn of_one(form: u64, number: u64) -> Entry
     ensures { result ≡ numbers form number 0 }
 {
     Entry {
@@ -225,7 +224,7 @@ fn of_one(form: Form, number: u64) -> Entry
 }
 
 // An entry of an event and an identifier.
-fn of_event(form: Form, event: u64, x: u64) -> Entry
+fn of_event(form: u64, event: u64, x: u64) -> Entry
     ensures { result ≡ numbers form event x }
 {
     Entry {
@@ -240,9 +239,9 @@ fn sim_goal(table: &Counted, event: u64, x: u64) -> Entry
     ensures { result ≡ numbers_of (sim_goal (rows_of table.now.words.now) event x) }
 {
     if is_new(table, event) {
-        return of_one(Form::Unchanged, x);
+        return of_one(form::UNCHANGED, x);
     }
-    of_event(Form::Moves, matched_by(table, event), x)
+    of_event(form::MOVES, matched_by(table, event), x)
 }
 
 // The goal of VAR: form 8 of a convergent event, form 9 of an anticipated one.
@@ -250,24 +249,24 @@ fn variant_goal(table: &Counted, event: u64, root: u64) -> Entry
     ensures { result ≡ numbers_of (variant_goal (rows_of table.now.words.now) event root) }
 {
     if is_convergent(table, event) {
-        return of_one(Form::Decreases, root);
+        return of_one(form::DECREASES, root);
     }
-    of_one(Form::NotIncreased, root)
+    of_one(form::NOT_INCREASED, root)
 }
 
 // The goal of a kind, for an event and an item.
-pub fn goal_of(table: &Counted, kind: Kind, event: u64, item: u64) -> Entry
+pub fn goal_of(table: &Counted, kind: u64, event: u64, item: u64) -> Entry
     ensures { result ≡ numbers_of (goal_of (rows_of table.now.words.now) kind event item) }
 {
     match kind {
-        Kind::WD => of_one(Form::Defined, item),
-        Kind::INV => of_one(Form::Primed, item),
-        Kind::FIS => of_event(Form::Feasible, event, item),
-        Kind::GRD => of_one(Form::Written, item),
-        Kind::SIM => sim_goal(table, event, item),
-        Kind::WFIS => of_event(Form::Witnessed, event, item),
-        Kind::NAT => of_one(Form::Natural, item),
-        Kind::VAR => variant_goal(table, event, item),
+        kind::INV => of_one(form::PRIMED, item),
+        kind::FIS => of_event(form::FEASIBLE, event, item),
+        kind::GRD => of_one(form::WRITTEN, item),
+        kind::SIM => sim_goal(table, event, item),
+        kind::WFIS => of_event(form::WITNESSED, event, item),
+        kind::NAT => of_one(form::NATURAL, item),
+        kind::VAR => variant_goal(table, event, item),
+        _ => of_one(form::DEFINED, item),
     }
 }
 
@@ -279,8 +278,8 @@ pub fn segment_entry(index: &Index, slot: Slot, segment: u64, j: usize) -> Entry
     let part = segment_at(&index.table, slot, segment);
     let item = part.item;
     let x = item_at(index, item, slot.event, j);
-    if part.form == Form::Moves {
-        return of_event(Form::Moves, slot.event, x);
+    if part.form == form::MOVES {
+        return of_event(form::MOVES, slot.event, x);
     }
-    of_one(Form::Written, x)
+    of_one(form::WRITTEN, x)
 }

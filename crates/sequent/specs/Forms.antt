@@ -1,23 +1,14 @@
 -- The entry that a form and two numbers stand for, as the code takes an entry apart.
-use Rattle.std.specs.Prelude.{ℕ}
-use Rattle.sequent.specs.declared.Form.{Form}
-use Rattle.sequent.specs.declared.Form.TheVariants.{Written, Primed, Defined, Moves, Feasible, Witnessed, Natural, Decreases, NotIncreased, Unchanged}
+use Rattle.std.specs.Prelude.{ℕ, List, [], ◌∷◌, get_or}
 use Rattle.sequent.specs.declared.Entry.{Entry as Numbers}
 use Rattle.sequent.specs.Entry.{Entry, written, primed, defined, moves, feasible, witnessed, natural, decreases, not_increased, unchanged}
 
--- the entry of each form, of two numbers
-abbrev pub entry_by : Form → ℕ → ℕ → Entry
-entry_by Written a b = written a
-entry_by Primed a b = primed a
-entry_by Defined a b = defined a
-entry_by Moves a b = moves a b
-entry_by Feasible a b = feasible a b
-entry_by Witnessed a b = witnessed a b
-entry_by Natural a b = natural a
-entry_by Decreases a b = decreases a
-entry_by NotIncreased a b = not_increased a
-entry_by Unchanged a b = unchanged a
+-- the forms by number, each an entry of two numbers; 0 is no form and counts as 1
+abbrev pub forms : List (ℕ → ℕ → Entry)
+forms =
+    (λ a b. written a) ∷ (λ a b. written a) ∷ (λ a b. primed a) ∷ (λ a b. defined a) ∷ (λ a b. moves a b) ∷ (λ a b. feasible a b) ∷ (λ a b. witnessed a b)
+    ∷ (λ a b. natural a) ∷ (λ a b. decreases a) ∷ (λ a b. not_increased a) ∷ (λ a b. unchanged a) ∷ []
 
 -- the entry of a form and two numbers
 unfoldable pub entry_of : Numbers → Entry
-entry_of n = entry_by n.form n.first n.second
+entry_of n = get_or forms n.form (λ a b. written a) n.first n.second

@@ -5,7 +5,6 @@ use Rattle.table.specs.Rows.{Rows}
 use Rattle.machine.specs.Machine.{Machine}
 use Rattle.machine.specs.Described.{machine_of}
 use Rattle.sequent.specs.Entry.{formula}
-use Rattle.sequent.specs.Numbers.{kind_number}
 use Rattle.sequent.specs.Sequent.{Sequent}
 use Rattle.sequent.specs.Listed.{sequents}
 use Rattle.rules.specs.declared.Refusal.{Refusal}
@@ -27,7 +26,7 @@ outcome r out = record { reply = r; buffer = out }
 
 -- "row 80 (kind, event or 0, item)"
 abbrev pub header_row : Rows → Slot → Row
-header_row t s = row 80 (kind_number (header_kind t s.event s.group s.row s.left)) s.event (header_item t s.event s.group s.row s.left)
+header_row t s = row 80 (header_kind t s.event s.group s.row s.left) s.event (header_item t s.event s.group s.row s.left)
 
 -- row 84 of its goal, spelled out, and the rows after row 80
 abbrev pub goal_row : Rows → Slot → Row

@@ -45,7 +45,7 @@ fn header(index: &Index, slot: Slot) -> Row
     let item = header_item(index, slot);
     Row {
         tag: tags::SEQUENT,
-        a: header_kind(index, slot).number(),
+        a: header_kind(index, slot),
         b: slot.event,
         c: item,
     }

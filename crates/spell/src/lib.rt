@@ -17,7 +17,7 @@ use operators::{Shape, find_operator};
 use reply::tags;
 use row::Row;
 use scan::{Query, find_row};
-use sequent::{Entry, Form};
+use sequent::{Entry, form};
 use table::{Counted, Table, c_at, operand, operator, size, sort, tag};
 
 // More rows than any buffer has room for.
@@ -457,13 +457,12 @@ pub fn spell(table: &Counted, entry: Entry, out: &mut [u8]) -> u64
     let first = entry.first;
     let second = entry.second;
     match form {
-        Form::Written => spell_expression(table, first, false, out),
-        Form::Primed => spell_expression(table, first, true, out),
-        Form::Defined => spell_defined(table, first, out),
-        Form::Moves => spell_moves(table, first, second, out),
-        Form::Feasible => spell_feasible(table, first, second, out),
-        Form::Witnessed => spell_witnessed(table, first, second, out),
-        Form::Natural => spell_comparison(
+        form::PRIMED => spell_expression(table, first, true, out),
+        form::DEFINED => spell_defined(table, first, out),
+        form::MOVES => spell_moves(table, first, second, out),
+        form::FEASIBLE => spell_feasible(table, first, second, out),
+        form::WITNESSED => spell_witnessed(table, first, second, out),
+        form::NATURAL => spell_comparison(
             table,
             operator::AT_MOST,
             operator::LITERAL,
@@ -471,8 +470,9 @@ pub fn spell(table: &Counted, entry: Entry, out: &mut [u8]) -> u64
             first,
             out,
         ),
-        Form::Decreases => spell_variants(table, operator::LESS, first, out),
-        Form::NotIncreased => spell_variants(table, operator::AT_MOST, first, out),
-        Form::Unchanged => spell_unchanged(first, out),
+        form::DECREASES => spell_variants(table, operator::LESS, first, out),
+        form::NOT_INCREASED => spell_variants(table, operator::AT_MOST, first, out),
+        form::UNCHANGED => spell_unchanged(first, out),
+        _ => spell_expression(table, first, false, out),
     }
 }

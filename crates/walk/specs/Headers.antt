@@ -2,8 +2,7 @@
 use Rattle.std.specs.Prelude.{ℕ, Bool, ◌&&◌, eqb}
 use Rattle.lists.specs.Choice.{pick}
 use Rattle.table.specs.Rows.{Rows}
-use Rattle.sequent.specs.declared.Kind.{Kind}
-use Rattle.sequent.specs.declared.Kind.TheVariants.{WFIS}
+use Rattle.sequent.specs.Sequent.{WFIS}
 use Rattle.select.specs.Each.{item_at, divisions}
 use Rattle.groups.specs.Groups.{witness_group, group_at}
 
@@ -13,7 +12,7 @@ module _ (t : Rows) where
   is_wfis g i w = eqb g witness_group && eqb w (divisions t (t.c i))
 
   -- the kind and the item of row 80
-  unfoldable pub header_kind : ℕ → ℕ → ℕ → ℕ → Kind
+  unfoldable pub header_kind : ℕ → ℕ → ℕ → ℕ → ℕ
   header_kind e g i w = pick (is_wfis g i w) WFIS (group_at t e g).kind
 
   unfoldable pub header_item : ℕ → ℕ → ℕ → ℕ → ℕ

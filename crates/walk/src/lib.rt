@@ -17,7 +17,7 @@ ghost use Rattle.walk.specs.Headers.{is_wfis, header_kind, header_item};
 use groups::{Group, group_at};
 use nodes::Index;
 use select::{Sought, divisions, item_at, seek_row};
-use sequent::Kind;
+use sequent::kind;
 
 // A slot of the walk, and how many sequents from its first on a search has still to pass over.
 #[derive(Clone, Copy)]
@@ -99,11 +99,11 @@ fn is_wfis(index: &Index, slot: Slot) -> bool
 }
 
 // The kind of a slot's sequent.
-pub fn header_kind(index: &Index, slot: Slot) -> Kind
+pub fn header_kind(index: &Index, slot: Slot) -> u64
     ensures { result ≡ header_kind (rows_of index.now.table.words.now) slot.event slot.group slot.row slot.left }
 {
     if is_wfis(index, slot) {
-        return Kind::WFIS;
+        return kind::WFIS;
     }
     group_at(&index.table, slot.event, slot.group).kind
 }

@@ -5,7 +5,7 @@ use Rattle.lists.specs.All.{all_nil, all_cons}
 use Rattle.lists.specs.Below.{numbers}
 use Rattle.lists.proofs.Range.{table_rest}
 use Rattle.table.specs.Rows.{rows_of}
-use Rattle.sequent.specs.declared.Kind.TheVariants.{WD, INV, FIS, GRD, SIM, NAT, VAR}
+use Rattle.sequent.specs.Sequent.{WD, INV, FIS, GRD, SIM, NAT, VAR}
 use Rattle.select.specs.declared.Selection.TheVariants.{None, Tagged}
 use Rattle.select.specs.declared.Item.TheVariants.{A, B, C, Action, Identifier}
 use Rattle.select.specs.declared.Each.TheVariants.{Witness}

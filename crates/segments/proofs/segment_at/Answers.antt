@@ -5,7 +5,6 @@ use Rattle.lists.specs.All.{all_nil, all_cons}
 use Rattle.lists.specs.Below.{numbers}
 use Rattle.lists.proofs.Range.{table_rest}
 use Rattle.table.specs.Rows.{rows_of}
-use Rattle.sequent.specs.declared.Form.TheVariants.{Written, Moves}
 use Rattle.select.specs.declared.Selection.TheVariants.{None, Tagged, Identifiers, Variables}
 use Rattle.select.specs.declared.Item.TheVariants.{A, C, Identifier}
 use Rattle.groups.specs.Groups.{when}
@@ -64,7 +63,7 @@ returns-in-1 c =
     let a = c.args in
     let t = rows_of a.table.now.words.now in
     let g : a.segment ≡ 1 = omega arith in
-    at_number t a.slot 1 g (c.formulas-in-1.ensures ∙ ap (λ b. segment_of (when b (Tagged 31)) (up_to t a.slot 1) Written A) c.has_abstract.ensures)
+    at_number t a.slot 1 g (c.formulas-in-1.ensures ∙ ap (λ b. segment_of (when b (Tagged 31)) (up_to t a.slot 1) 1 A) c.has_abstract.ensures)
 
 pub returns-in-2 : goal.returns-in-2
 unfolding segment_at numbers
@@ -72,7 +71,7 @@ returns-in-2 c =
     let a = c.args in
     let t = rows_of a.table.now.words.now in
     let g : a.segment ≡ 2 = omega arith in
-    at_number t a.slot 2 g (c.formulas-in-2.ensures ∙ ap (λ b. segment_of (when b (Tagged 32)) (up_to t a.slot 2) Written A) c.has_concrete.ensures)
+    at_number t a.slot 2 g (c.formulas-in-2.ensures ∙ ap (λ b. segment_of (when b (Tagged 32)) (up_to t a.slot 2) 1 A) c.has_concrete.ensures)
 
 pub returns-in-3 : goal.returns-in-3
 unfolding segment_at numbers
@@ -88,7 +87,7 @@ returns-in-4 c =
     let a = c.args in
     let t = rows_of a.table.now.words.now in
     let g : a.segment ≡ 4 = omega arith in
-    at_number t a.slot 4 g (c.moves.ensures ∙ ap₂ (λ b k. segment_of (when b (Variables k)) t.size Moves Identifier) c.has_moves.ensures c.own_kind.ensures)
+    at_number t a.slot 4 g (c.moves.ensures ∙ ap₂ (λ b k. segment_of (when b (Variables k)) t.size 4 Identifier) c.has_moves.ensures c.own_kind.ensures)
 
 pub returns-in-5 : goal.returns-in-5
 unfolding segment_at numbers
@@ -96,7 +95,7 @@ returns-in-5 c =
     let a = c.args in
     let t = rows_of a.table.now.words.now in
     let g : a.segment ≡ 5 = omega arith in
-    at_number t a.slot 5 g (c.new.ensures ∙ ap₂ (λ r n. segment_of r n Written C) c.witness_rows.ensures c.size.ensures)
+    at_number t a.slot 5 g (c.new.ensures ∙ ap₂ (λ r n. segment_of r n 1 C) c.witness_rows.ensures c.size.ensures)
 
 pub returns-in-6 : goal.returns-in-6
 unfolding segment_at numbers
@@ -104,12 +103,12 @@ returns-in-6 c =
     let a = c.args in
     let t = rows_of a.table.now.words.now in
     let g : a.segment ≡ 6 = omega arith in
-    at_number t a.slot 6 g (c.moves-in-6.ensures ∙ ap (λ b. segment_of (when b (Identifiers 2)) t.size Moves Identifier) c.has_abstract_moves.ensures)
+    at_number t a.slot 6 g (c.moves-in-6.ensures ∙ ap (λ b. segment_of (when b (Identifiers 2)) t.size 4 Identifier) c.has_abstract_moves.ensures)
 
 pub returns-in_default : goal.returns-in_default
 unfolding segment_at numbers
 returns-in_default c =
     let a = c.args in
     let rest = c.in_default.in_default-own.rest in
-    c.new-in_default.ensures ∙ sym (table_rest (segment_table (rows_of a.table.now.words.now) a.slot) (segment_of None 0 Written A) a.segment
+    c.new-in_default.ensures ∙ sym (table_rest (segment_table (rows_of a.table.now.words.now) a.slot) (segment_of None 0 1 A) a.segment
     (all_cons (λ p. absurd (rest.0.0.0.0.0.0.1 p)) (all_cons (λ p. absurd (rest.0.0.0.0.0.1 p)) (all_cons (λ p. absurd (rest.0.0.0.0.1 p)) (all_cons (λ p. absurd (rest.0.0.0.1 p)) (all_cons (λ p. absurd (rest.0.0.1 p)) (all_cons (λ p. absurd (rest.0.1 p)) (all_cons (λ p. absurd (rest.1 p)) all_nil))))))))

@@ -1,6 +1,5 @@
 -- By the event's class.
 use mathlib.Core.Path.{sym, ap, ◌∙◌}
-use Rattle.sequent.specs.declared.Form.TheVariants.{Moves}
 use Rattle.sequent.specs.Numbers.{numbers}
 use Rattle.segments.proofs.sim_goal.Goals as goal
 
@@ -11,4 +10,4 @@ returns-then-is_new c =
 pub returns : goal.returns
 returns c =
     let a = c.args in
-    rw (sym c.is_new.ensures ∙ c.if-is_new.false) (c.of_event.ensures ∙ ap (λ f. numbers Moves f a.x) c.matched_by.ensures)
+    rw (sym c.is_new.ensures ∙ c.if-is_new.false) (c.of_event.ensures ∙ ap (λ f. numbers 4 f a.x) c.matched_by.ensures)

@@ -11,7 +11,7 @@ pub spell_expression-spell_operands-operands-requires : goal.spell_expression-sp
 spell_expression-spell_operands-operands-requires t c =
     let a = c.args in
     let d = c.node_at-node in
-    omega (arith, above_falls (rows_of a.table.now.words.now) a.primed a.n d.result d.ensures, c.decreases)
+    (omega (arith, above_falls (rows_of a.table.now.words.now) a.primed a.n d.result d.ensures, c.decreases), tt)
 
 pub spell_expression-returns : goal.spell_expression-returns
 spell_expression-returns t c =
@@ -37,7 +37,7 @@ pub spell_predicate-spell_operands-operands-requires : goal.spell_predicate-spel
 spell_predicate-spell_operands-operands-requires t c =
     let a = c.args in
     let d = c.node_at-node in
-    omega (arith, above_falls (rows_of a.table.now.words.now) a.primed a.n d.result d.ensures, c.decreases)
+    (omega (arith, above_falls (rows_of a.table.now.words.now) a.primed a.n d.result d.ensures, c.decreases), tt)
 
 pub spell_predicate-returns : goal.spell_predicate-returns
 spell_predicate-returns t c =

@@ -1,6 +1,7 @@
 -- Of a WFIS, else the group's.
 use mathlib.Core.Path.{sym, ap, ◌∙◌}
 use Rattle.walk.specs.Headers.{header_kind}
+use borrow.Author.Rules.{rules}
 use Rattle.walk.proofs.header_kind.Goals as goal
 
 pub returns-then-is_wfis : goal.returns-then-is_wfis
