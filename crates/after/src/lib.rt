@@ -39,7 +39,9 @@ fn equal_after(table: &Counted, present: &[i64], root: u64) -> i64
     ensures { result ≡ answered (answer (stored_env (machine_of (rows_of table.now.words.now)).type present.now []) (tree_of (rows_of table.now.words.now) root)) }
 {
     let env = Env {
-        table,
+        words: table.words,
+        nodes: table.counts.nodes_start,
+        identifiers: table.counts.identifiers_start,
         present,
         after: &present[..0],
     };

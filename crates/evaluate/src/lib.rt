@@ -1,6 +1,8 @@
 // 02, request 5: what evaluating a formula in signed 64 bits gives, at values of the identifiers. Expressions and predicates call each other, with the node number falling.
 #![tactic(auto)]
 
+mod env;
+
 ghost use Rattle.std.specs.Prelude.{◌≡◌, ◌+◌, ◌*◌, ◌<◌, pos, get_or, Ok};
 ghost use Rattle.table.specs.Names.{identifier_tag, node_tag};
 ghost use Rattle.table.specs.Rows.{rows_of, start, row_of, type_of};
@@ -12,6 +14,7 @@ ghost use Rattle.answer.specs.Stored.{stored_value, stored_env};
 ghost use Rattle.signed.specs.Found.{found_of, answer_of};
 ghost use Rattle.evaluate.specs.Evaluate.{operator_at, is_leaf, leaf_answer, combined, has_truth, reads_right_of};
 
+pub use env::Env;
 use operands::{
     and_answer, as_truth, at_most_answer, bool_answer, equal_answer, iff_answer, implies_answer,
     less_answer, minus_answer, negation_answer, not_answer, or_answer, plus_answer,
@@ -19,7 +22,7 @@ use operands::{
 };
 use operators::find_operator;
 use signed::{Found, Value, of_word};
-use table::{Counted, Table, operand, operator, sort};
+use table::{Table, operand, operator, sort};
 
 // What an operator gives of its operands' answers, one by one in 01's order.
 fn combine(operator: u64, left: Found, right: Found) -> Found
@@ -119,26 +122,18 @@ pub fn value_at(values: &[i64], x: u64) -> i64
     if i < values.len() { values[i] } else { 0 }
 }
 
-// The values at which a table's formulas are read: identifiers' present values and after values, by number.
-#[derive(Clone, Copy)]
-pub struct Env<'a> {
-    pub table: &'a Counted<'a>,
-    pub present: &'a [i64],
-    pub after: &'a [i64],
-}
-
 // A leaf's answer. 01, Rows: "1 literal (b its value), 2 identifier (b), 3 after value of a variable (b), 4 TRUE, 5 FALSE", "30 ⊤, 31 ⊥".
 fn leaf(env: &Env, operator: u64, b: u64) -> Found
-    ensures { result ≡ found_of (leaf_answer (stored_env (machine_of (rows_of env.now.table.now.words.now)).type env.now.present.now env.now.after.now) (operator_numbered operator) b) }
+    ensures { result ≡ found_of (leaf_answer (stored_env (machine_of (rows_of env.now.words.now)).type env.now.present.now env.now.after.now) (operator_numbered operator) b) }
 {
     match operator {
         operator::LITERAL => Ok(Value::Number(of_word(b))),
         operator::IDENTIFIER => {
-            let sort = env.table.identifier_field(b, Table::TYPE);
+            let sort = env.identifier_field(b, Table::TYPE);
             Ok(stored_value(sort, value_at(env.present, b)))
         }
         operator::AFTER => {
-            let sort = env.table.identifier_field(b, Table::TYPE);
+            let sort = env.identifier_field(b, Table::TYPE);
             Ok(stored_value(sort, value_at(env.after, b)))
         }
         operator::TRUE | operator::TOP => Ok(Value::Truth(true)),
@@ -147,19 +142,19 @@ fn leaf(env: &Env, operator: u64, b: u64) -> Found
 }
 
 // The operator of node n; of node 0, which is none, that of ⊥.
-fn operator_at(table: &Counted, n: u64) -> u64
-    ensures { result ≡ operator_at (rows_of table.now.words.now) n }
+fn operator_at(env: &Env, n: u64) -> u64
+    ensures { result ≡ operator_at (rows_of env.now.words.now) n }
 {
     if n == 0 {
         return operator::BOTTOM;
     }
-    table.node_field(n, Table::OPERATOR)
+    env.node_field(n, Table::OPERATOR)
 }
 
 // The answer of node n, an expression.
 #[cycle(evaluate_expression_evaluate_node_evaluate_operand_evaluate_predicate)]
 pub fn evaluate_expression(env: &Env, n: u64) -> Found
-    ensures { result ≡ found_of (answer (stored_env (machine_of (rows_of env.now.table.now.words.now)).type env.now.present.now env.now.after.now) (tree_of (rows_of env.now.table.now.words.now) n)) }
+    ensures { result ≡ found_of (answer (stored_env (machine_of (rows_of env.now.words.now)).type env.now.present.now env.now.after.now) (tree_of (rows_of env.now.words.now) n)) }
 {
     evaluate_node(env, n)
 }
@@ -167,7 +162,7 @@ pub fn evaluate_expression(env: &Env, n: u64) -> Found
 // The answer of node n, a predicate.
 #[cycle(evaluate_expression_evaluate_node_evaluate_operand_evaluate_predicate)]
 pub fn evaluate_predicate(env: &Env, n: u64) -> Found
-    ensures { result ≡ found_of (answer (stored_env (machine_of (rows_of env.now.table.now.words.now)).type env.now.present.now env.now.after.now) (tree_of (rows_of env.now.table.now.words.now) n)) }
+    ensures { result ≡ found_of (answer (stored_env (machine_of (rows_of env.now.words.now)).type env.now.present.now env.now.after.now) (tree_of (rows_of env.now.words.now) n)) }
 {
     evaluate_node(env, n)
 }
@@ -175,7 +170,7 @@ pub fn evaluate_predicate(env: &Env, n: u64) -> Found
 // The answer of node n, an operand of this operator: a predicate or an expression, as the operator takes it.
 #[cycle(evaluate_expression_evaluate_node_evaluate_operand_evaluate_predicate)]
 fn evaluate_operand(env: &Env, operator: u64, n: u64) -> Found
-    ensures { result ≡ found_of (answer (stored_env (machine_of (rows_of env.now.table.now.words.now)).type env.now.present.now env.now.after.now) (tree_of (rows_of env.now.table.now.words.now) n)) }
+    ensures { result ≡ found_of (answer (stored_env (machine_of (rows_of env.now.words.now)).type env.now.present.now env.now.after.now) (tree_of (rows_of env.now.words.now) n)) }
 {
     let found = find_operator(operator);
     if found.operands == sort::PREDICATE {
@@ -187,10 +182,10 @@ fn evaluate_operand(env: &Env, operator: u64, n: u64) -> Found
 // The answer of node n by its operator, from those of its operands. The right one is evaluated only where it is read.
 #[cycle(evaluate_expression_evaluate_node_evaluate_operand_evaluate_predicate)]
 fn evaluate_node(env: &Env, n: u64) -> Found
-    ensures { result ≡ found_of (answer (stored_env (machine_of (rows_of env.now.table.now.words.now)).type env.now.present.now env.now.after.now) (tree_of (rows_of env.now.table.now.words.now) n)) }
+    ensures { result ≡ found_of (answer (stored_env (machine_of (rows_of env.now.words.now)).type env.now.present.now env.now.after.now) (tree_of (rows_of env.now.words.now) n)) }
 {
-    let operator = operator_at(env.table, n);
-    let b = env.table.node_field(n, Table::LEFT);
+    let operator = operator_at(env, n);
+    let b = env.node_field(n, Table::LEFT);
     if is_leaf(operator) {
         return leaf(env, operator, b);
     }
@@ -198,7 +193,7 @@ fn evaluate_node(env: &Env, n: u64) -> Found
     let left = evaluate_operand(env, operator, x);
     let mut right = left;
     if reads_right(operator, left) {
-        let c = env.table.node_field(n, Table::RIGHT);
+        let c = env.node_field(n, Table::RIGHT);
         let y = operand(n, c);
         right = evaluate_operand(env, operator, y);
     }

@@ -76,7 +76,9 @@ fn root_fault(table: &Counted, present: &[i64], root: u64) -> Result<(), StepFau
     ensures { fault_number result ≡ root_fault (rows_of table.now.words.now) present.now root }
 {
     let env = Env {
-        table,
+        words: table.words,
+        nodes: table.counts.nodes_start,
+        identifiers: table.counts.identifiers_start,
         present,
         after: &present[..0],
     };
@@ -142,7 +144,9 @@ fn action_fault(
     }
     let root = scanned.table.c_at(i);
     let env = Env {
-        table: &scanned.table,
+        words: scanned.table.words,
+        nodes: scanned.table.counts.nodes_start,
+        identifiers: scanned.table.counts.identifiers_start,
         present,
         after,
     };

@@ -9,7 +9,7 @@ ghost use Rattle.scan.specs.Spans.{span_words, tag_span};
 ghost use Rattle.nodes.specs.Notes.{Noted};
 
 use crate::fill_notes;
-use scan::{Scanned, Span};
+use scan::Span;
 use table::Counted;
 
 // A table's rows with their counts, and in lent numbers the spans of its tags, its actions and what is noted of its nodes and events.
@@ -29,16 +29,6 @@ impl<'a> Index<'a> {
         let table = Counted::of(words);
         fill_notes(&table, spans);
         Index { table, spans }
-    }
-
-    // The same without what is noted of nodes and events.
-    pub fn scanned(&self) -> Scanned<'a>
-        ensures { result.table.words ≡ self.now.table.words }
-    {
-        Scanned {
-            table: self.table,
-            spans: self.spans,
-        }
     }
 
     // The rows between which those of a tag stand; of 51, those of 51 and 52.

@@ -165,7 +165,10 @@ fn press_judged(
     ensures values_after { values.new ≡ kept_or (λ zs. zs) values.old (outcome_by (judge_of (rows_of index.now.table.words.now)) (press_on (rows_of index.now.table.words.now) step.now values.old sorts.now room)) }
 {
     judge_with(index)?;
-    let scanned = index.scanned();
+    let scanned = Scanned {
+        table: index.table,
+        spans: index.spans,
+    };
     press_state(&scanned, step, values, sorts, room)
 }
 

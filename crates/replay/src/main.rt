@@ -130,7 +130,13 @@ fn replay_judged<R: Read>(rt: &impl Print, index: &Index, log: &mut R) -> Result
 {
     match judge_with(index) {
         Err(refusal) => print(rt, Err(refusal)),
-        Ok(_) => replay_log(rt, &index.scanned(), log),
+        Ok(_) => {
+            let scanned = Scanned {
+                table: index.table,
+                spans: index.spans,
+            };
+            replay_log(rt, &scanned, log)
+        }
     }
 }
 

@@ -212,7 +212,10 @@ fn replay_judged(index: &Index, run: &[u8]) -> Result<u64, Refusal>
     ensures { result ≡ replay_by (judge_of (rows_of index.now.table.words.now)) (replay_log (rows_of index.now.table.words.now) run.now) }
 {
     judge_with(index)?;
-    let scanned = index.scanned();
+    let scanned = Scanned {
+        table: index.table,
+        spans: index.spans,
+    };
     replay_log(&scanned, run)
 }
 

@@ -15,7 +15,7 @@ use nodes::Index;
 use row::Row;
 use rule_missing::missing;
 use rules::Refusal;
-use scan::Span;
+use scan::{Scanned, Span};
 use table::Table;
 use walk::count;
 
@@ -53,7 +53,10 @@ pub fn judge_with(index: &Index) -> Result<u64, Refusal>
     requires { length index.now.table.words.now ≤ most_words }
     ensures { result ≡ judge_of (rows_of index.now.table.words.now) }
 {
-    let scanned = index.scanned();
+    let scanned = Scanned {
+        table: index.table,
+        spans: index.spans,
+    };
     let check = first_check(&scanned);
     if check < Refusal::MISSING {
         let row = first_row(&scanned, check) as u64 + 1;

@@ -17,7 +17,7 @@ use Rattle.evaluate.proofs.+evaluate_expression_evaluate_node_evaluate_operand_e
 pub evaluate_node-returns-then-is_leaf : goal.evaluate_node-returns-then-is_leaf
 evaluate_node-returns-then-is_leaf t c =
     let a = c.args in
-    let rows = rows_of a.env.now.table.now.words.now in
+    let rows = rows_of a.env.now.words.now in
     let ρ = stored_env (machine_of rows).type a.env.now.present.now a.env.now.after.now in
     c.leaf.ensures
     ∙ leaf_is rows a.n c.operator_at-operator.result c.node_field-b.result c.operator_at-operator.ensures c.node_field-b.ensures ρ (sym c.is_leaf.ensures ∙ c.if-is_leaf.true)
@@ -27,7 +27,7 @@ evaluate_node-evaluate_operand-left-requires t c =
     let a = c.args in
     let b = c.node_field-b.result in
     let below =
-    operand_below (rows_of a.env.now.table.now.words.now) a.n c.operator_at-operator.result b c.operator_at-operator.ensures c.node_field-b.ensures
+    operand_below (rows_of a.env.now.words.now) a.n c.operator_at-operator.result b c.operator_at-operator.ensures c.node_field-b.ensures
     c.operand-x.result b c.operand-x.ensures (sym c.is_leaf.ensures ∙ c.if-is_leaf.false) in
     omega (arith, below, c.decreases)
 
@@ -36,14 +36,14 @@ evaluate_node-evaluate_operand-right-requires t c =
     let a = c.args in
     let b = c.node_field-b.result in
     let below =
-    operand_below (rows_of a.env.now.table.now.words.now) a.n c.operator_at-operator.result b c.operator_at-operator.ensures c.node_field-b.ensures
+    operand_below (rows_of a.env.now.words.now) a.n c.operator_at-operator.result b c.operator_at-operator.ensures c.node_field-b.ensures
     c.operand-y.result c.node_field-c.result c.operand-y.ensures (sym c.is_leaf.ensures ∙ c.if-is_leaf.false) in
     omega (arith, below, c.decreases)
 
 pub evaluate_node-returns : goal.evaluate_node-returns
 evaluate_node-returns t c =
     let a = c.args in
-    let rows = rows_of a.env.now.table.now.words.now in
+    let rows = rows_of a.env.now.words.now in
     let ρ = stored_env (machine_of rows).type a.env.now.present.now a.env.now.after.now in
     let operator = c.operator_at-operator.result in
     let left = c.evaluate_operand-left.result in

@@ -12,7 +12,7 @@ use Rattle.evaluate.proofs.leaf.Goals as goal
 pub returns-in-1 : goal.returns-in-1
 returns-in-1 c =
     let a = c.args in
-    let rows = rows_of a.env.now.table.now.words.now in
+    let rows = rows_of a.env.now.words.now in
     let present = a.env.now.present.now in
     let after = a.env.now.after.now in
     let ρ = stored_env (machine_of rows).type present after in
@@ -22,7 +22,7 @@ returns-in-1 c =
 pub returns-in-2 : goal.returns-in-2
 returns-in-2 c =
     let a = c.args in
-    let rows = rows_of a.env.now.table.now.words.now in
+    let rows = rows_of a.env.now.words.now in
     let present = a.env.now.present.now in
     let after = a.env.now.after.now in
     let ρ = stored_env (machine_of rows).type present after in
@@ -33,7 +33,7 @@ returns-in-2 c =
 pub returns-in-3 : goal.returns-in-3
 returns-in-3 c =
     let a = c.args in
-    let rows = rows_of a.env.now.table.now.words.now in
+    let rows = rows_of a.env.now.words.now in
     let present = a.env.now.present.now in
     let after = a.env.now.after.now in
     let ρ = stored_env (machine_of rows).type present after in
@@ -44,9 +44,9 @@ returns-in-3 c =
 pub returns-in-4 : goal.returns-in-4
 returns-in-4 c =
     let a = c.args in
-    true_leaves (stored_env (machine_of (rows_of a.env.now.table.now.words.now)).type a.env.now.present.now a.env.now.after.now) a.operator a.b c.in-4.is
+    true_leaves (stored_env (machine_of (rows_of a.env.now.words.now)).type a.env.now.present.now a.env.now.after.now) a.operator a.b c.in-4.is
 
 pub returns-in_default : goal.returns-in_default
 returns-in_default c =
     let a = c.args in
-    false_leaves (stored_env (machine_of (rows_of a.env.now.table.now.words.now)).type a.env.now.present.now a.env.now.after.now) a.operator a.b c.in_default.in_default-own.rest
+    false_leaves (stored_env (machine_of (rows_of a.env.now.words.now)).type a.env.now.present.now a.env.now.after.now) a.operator a.b c.in_default.in_default-own.rest

@@ -6,6 +6,7 @@ use Rattle.formula.specs.Values.{truth}
 use Rattle.answer.specs.Answer.{answer}
 use Rattle.answer.specs.Stored.{stored_env}
 use Rattle.table.specs.Rows.{rows_of}
+use Rattle.table.proofs.Counts.{starts_nodes, starts_identifiers}
 use Rattle.machine.specs.Described.{tree_of, machine_of}
 use Rattle.signed.specs.Found.{answer_of}
 use Rattle.signed.proofs.Answers.{answer_found}
@@ -13,6 +14,18 @@ use Rattle.recording.specs.Faults.{differs, fault_of}
 use Rattle.judge.proofs.Stored.{stored_value_is}
 use Rattle.judge.proofs.Steps.{unassigned_fault, equal_fault, such_fault}
 use Rattle.judge.proofs.action_fault.Goals as goal
+
+pub invariant_of-env : goal.invariant_of-env
+invariant_of-env c =
+    let table = c.args.scanned.now.table in
+    let t = rows_of table.words.now in
+    record { nodes_start = starts_nodes t table.counts table.counted; identifiers_start = starts_identifiers t table.counts table.counted }
+
+pub invariant_of-env-2 : goal.invariant_of-env-2
+invariant_of-env-2 c =
+    let table = c.args.scanned.now.table in
+    let t = rows_of table.words.now in
+    record { nodes_start = starts_nodes t table.counts table.counted; identifiers_start = starts_identifiers t table.counts table.counted }
 
 pub returns-then-size-i : goal.returns-then-size-i
 returns-then-size-i c =
