@@ -95,6 +95,7 @@ fn seek_entry(index: &Index, slot: Slot, from: Cursor) -> Cursor
     ensures { SoughtEntry (rows_of index.now.table.words.now) slot from result }
 {
     let mut cursor = from;
+    // not counted: a turn goes on to another row or the next segment
     while cursor.segment < Segment::COUNT {
         let part = segment_at(&index.table, slot, cursor.segment);
         let rows = part.rows;
@@ -165,6 +166,7 @@ fn write_hypotheses(index: &Index, slot: Slot, out: &mut [u8]) -> usize
 {
     let mut cursor = seek_entry(index, slot, Cursor::start(0));
     let mut at = 0;
+    // not counted: a turn goes on to another row or the next segment
     while cursor.segment < Segment::COUNT {
         let entry = segment_entry(index, slot, cursor.segment, cursor.row);
         entry_row(tags::HYPOTHESIS, entry).write(&mut out[at..]);

@@ -58,7 +58,7 @@ pub struct Group {
 }
 
 impl Group {
-    // The groups in their order; a witness has its WD and its WFIS in one.
+    // The groups in their order; a witness has its WD and its WFIS in one. Numbers, not an enum: the walk counts on from one to the next, and `group_at` is a list.
     pub const AXIOM: u64 = 0;
 
     pub const ABSTRACT_INVARIANT: u64 = 1;

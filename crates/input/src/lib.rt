@@ -14,6 +14,7 @@ pub fn read_full<R: Read>(reader: &mut R, buf: &mut [u8]) -> io::Result<usize>
     ensures full { IfOk result (λ n. n < length buf.new → IsAtEnd (R.remaining reader.new)) }
 {
     let mut done = 0;
+    // not counted: a read gives as many bytes as it has
     while done < buf.len() {
         let n = reader.read(&mut buf[done..])?;
         if n == 0 {

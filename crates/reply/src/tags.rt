@@ -1,4 +1,5 @@
 // 01, Sequents: "row 80 (kind, event or 0, item), rows 81 (hypotheses), row 82 (goal)", "rows 83", "one row 89 (refusal, row, 0)".
+// Numbers, not an enum: they are columns of the rows that are written.
 pub const SEQUENT: u64 = 80;
 
 pub const HYPOTHESIS: u64 = 81;

@@ -23,7 +23,7 @@ pub struct Place {
     pub at: usize,
 }
 
-// What a read finds: a row and the place after it, bytes that are no row (a torn one among them), or the end.
+// What a read finds, three outcomes that every caller tells apart: a row and the place after it, bytes that are no row (a torn one among them), or the end.
 #[derive(Clone, Copy)]
 pub enum Read {
     Next(Row, Place),

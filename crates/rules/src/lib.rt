@@ -9,6 +9,7 @@ pub struct Refusal {
 }
 
 impl Refusal {
+    // Numbers, not an enum: "Checks run by number", and so do the definitions `offends` and `first_check`.
     // Of a table: the checks from 3 on, by 01's words for their refusals; the last concerns no row.
     pub const TAG: u64 = 3;
 

@@ -108,7 +108,7 @@ pub struct Segment {
 }
 
 impl Segment {
-    // The segments in the order of the hypotheses.
+    // The segments in the order of the hypotheses. Numbers, not an enum: the walk counts on from one to the next, and `segment_at` is a list.
     pub const AXIOMS: u64 = 0;
 
     pub const ABSTRACT_INVARIANTS: u64 = 1;

@@ -1,4 +1,5 @@
 // 01, Sequents: the forms of entries by number.
+// Numbers, not an enum: `spell` and `mentioned_row` answer for every number that an entry has.
 pub const WRITTEN: u64 = 1;
 
 pub const PRIMED: u64 = 2;

@@ -158,6 +158,7 @@ pub fn replay_part(
 {
     let mut place = Place::start();
     let mut n = n;
+    // not counted: a step has as many rows as its event asks for
     while last
         | (scanned.table.counts.identifiers < ((part.len() - place.at) / Row::LENGTH) as u64)
     {

@@ -1,4 +1,5 @@
 // 01, Rows: the operators by number. "1 literal (b its value), 2 identifier (b), 3 after value of a variable (b), 4 TRUE, 5 FALSE, 6 bool"
+// Numbers, not an enum: they are compared with the words of a table, which may hold any number.
 pub const LITERAL: u64 = 1;
 
 pub const IDENTIFIER: u64 = 2;

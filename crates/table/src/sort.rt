@@ -1,4 +1,5 @@
 // 01, Rows: the sorts of formulas, integer and boolean by the numbers of the types.
+// Numbers, not an enum: a type is the number in an identifier's row.
 use crate::identifier;
 
 pub const INTEGER: u64 = identifier::INTEGER;

@@ -1,4 +1,5 @@
 // 01, Rows: "A tag is one of 10, 20, 30 to 32, 40, 50 to 52, 60, 70".
+// Numbers, not an enum: they are compared with the words of a table, which may hold any number.
 pub const IDENTIFIER: u64 = 10;
 
 pub const NODE: u64 = 20;

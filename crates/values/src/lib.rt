@@ -1,5 +1,5 @@
 // 02, request 5: the rows of a step: row 90, and its values, "rows 91 (identifier, value; booleans 0 or 1) .. in identifier order", read from a run and stored by
-// identifier.
+// identifier. Present and after values are two slices, not one struct of arrays: `replay_part` promises of lists of any length.
 #![tactic(auto)]
 
 ghost use Rattle.std.specs.Prelude.{◌≡◌, ◌+◌, ◌*◌, ◌≤◌, pos, length, get_or, set};

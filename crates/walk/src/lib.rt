@@ -143,6 +143,7 @@ pub fn seek(index: &Index, from: Slot) -> Slot
 {
     let rows = index.table.size();
     let mut slot = from;
+    // not counted: a turn goes on to another row, the next group or the next event
     while slot.event <= index.table.counts.events {
         let found = seek_in_group(index, slot);
         if found.row < rows {
