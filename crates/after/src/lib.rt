@@ -1,12 +1,10 @@
 // 02, request 6: the after values of a step that is pressed, and the values of the state that it leaves.
 #![tactic(auto)]
 
-ghost use Rattle.std.specs.Prelude.{◌≡◌, ◌+◌, ◌≤◌, ◌<◌, length, set, []};
+ghost use Rattle.std.specs.Prelude.{◌≡◌, ◌≤◌, length, set, []};
 ghost use Rattle.lists.specs.Choice.{pick};
 ghost use Rattle.table.specs.Names.{identifier_tag};
 ghost use Rattle.table.specs.Rows.{rows_of, count};
-ghost use Rattle.table.specs.Counts.{counts_of};
-ghost use Rattle.scan.specs.Spans.{Spanned};
 ghost use Rattle.answer.specs.Answer.{answer};
 ghost use Rattle.answer.specs.Stored.{stored_env};
 ghost use Rattle.machine.specs.Described.{tree_of, machine_of};

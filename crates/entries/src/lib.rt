@@ -6,8 +6,6 @@ ghost use Rattle.std.specs.Prelude.{◌≡◌, ◌+◌, ◌*◌, ◌≤◌, ◌<
 ghost use Rattle.lists.specs.Over.{over};
 ghost use Rattle.row.specs.Row.{width, row_length};
 ghost use Rattle.table.specs.Rows.{rows_of};
-ghost use Rattle.table.specs.Counts.{counts_of};
-ghost use Rattle.nodes.specs.Notes.{Noted};
 ghost use Rattle.sequent.specs.Numbers.{numbers_of};
 ghost use Rattle.reply.specs.Printed.{rows_bytes};
 ghost use Rattle.segments.specs.Segments.{segments};

@@ -3,9 +3,8 @@
 
 mod env;
 
-ghost use Rattle.std.specs.Prelude.{◌≡◌, ◌+◌, ◌*◌, ◌<◌, pos, get_or, Ok};
-ghost use Rattle.table.specs.Names.{identifier_tag, node_tag};
-ghost use Rattle.table.specs.Rows.{rows_of, start, row_of, type_of};
+ghost use Rattle.std.specs.Prelude.{◌≡◌, pos, get_or, Ok};
+ghost use Rattle.table.specs.Rows.{rows_of};
 ghost use Rattle.formula.specs.Values.{wrap};
 ghost use Rattle.machine.specs.Operator.{operator_numbered};
 ghost use Rattle.machine.specs.Described.{type_numbered, tree_of, machine_of};

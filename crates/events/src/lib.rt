@@ -4,7 +4,6 @@
 ghost use Rattle.std.specs.Prelude.{◌≡◌};
 ghost use Rattle.lists.specs.Choice.{pick};
 ghost use Rattle.table.specs.Rows.{rows_of};
-ghost use Rattle.table.specs.Counts.{counts_of};
 ghost use Rattle.events.specs.Events.{is_abstract, is_initial, is_refining, is_matched, is_convergent, is_new, keeps_all, matched_by, own_kind, own_invariant_tag};
 
 use table::{Counted, Table, event, identifier, tag};

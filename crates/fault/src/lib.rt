@@ -3,9 +3,7 @@
 
 ghost use Rattle.std.specs.Prelude.{◌≡◌, ◌≤◌, ◌<◌, length};
 ghost use Rattle.table.specs.Rows.{rows_of};
-ghost use Rattle.table.specs.Counts.{counts_of};
 ghost use Rattle.table.specs.Lookups.{most_words};
-ghost use Rattle.scan.specs.Spans.{Spanned};
 ghost use Rattle.rules.specs.Rules.{offends};
 ghost use Rattle.rules.specs.Verdict.{first_row, first_check, PassedBefore};
 

@@ -4,7 +4,6 @@
 ghost use Rattle.std.specs.Prelude.{◌≡◌};
 ghost use Rattle.table.specs.Names.{guard_tag, variant_tag};
 ghost use Rattle.table.specs.Rows.{rows_of, refined_by};
-ghost use Rattle.table.specs.Counts.{counts_of};
 ghost use Rattle.sequent.specs.Sequent.{WD};
 ghost use Rattle.select.specs.declared.Selection.TheVariants.{Tagged, OfEvent, Assigned, SuchThat};
 ghost use Rattle.select.specs.declared.Each.TheVariants.{One, Defined};

@@ -5,8 +5,6 @@
 ghost use Rattle.std.specs.Prelude.{◌≡◌, ◌≤◌};
 ghost use Rattle.lists.specs.Choice.{pick};
 ghost use Rattle.table.specs.Rows.{rows_of};
-ghost use Rattle.table.specs.Counts.{counts_of};
-ghost use Rattle.scan.specs.Spans.{Spanned};
 ghost use Rattle.signed.specs.Found.{answer_of};
 ghost use Rattle.operands.specs.Operands.{value_of};
 ghost use Rattle.recording.specs.Rows.{is_initial};

@@ -6,7 +6,6 @@ ghost use Rattle.lists.specs.All.{All};
 ghost use Rattle.sets.specs.Set.{set_of, Identifier};
 ghost use Rattle.table.specs.Rows.{rows_of};
 ghost use Rattle.sequent.specs.Forms.{entry_of};
-ghost use Rattle.nodes.specs.Notes.{Noted};
 ghost use Rattle.reply.specs.Printed.{mentioned_row};
 ghost use Rattle.spell.specs.Spell.{witness_node};
 ghost use Rattle.mentioned.specs.Mentioned.{action_set, witness_set, entry_set};

@@ -6,7 +6,6 @@ mod index;
 
 ghost use Rattle.std.specs.Prelude.{◌≡◌, ◌&&◌, ◌+◌, ◌≤◌, ◌<◌, leb, length};
 ghost use Rattle.table.specs.Rows.{rows_of, is_action};
-ghost use Rattle.table.specs.Counts.{counts_of};
 ghost use Rattle.machine.specs.Described.{tree_of};
 ghost use Rattle.scan.specs.Spans.{event_limit, events_at, span_words};
 ghost use Rattle.notes.specs.Notes.{note_of};

@@ -6,8 +6,6 @@ mod output;
 ghost use Rattle.std.specs.Prelude.{◌≡◌, ◌+◌, ◌≤◌, ◌<◌, length, Ok, Err, IfOk};
 ghost use Rattle.table.specs.Lookups.{most_rows, most_words};
 ghost use Rattle.table.specs.Rows.{rows_of};
-ghost use Rattle.table.specs.Counts.{counts_of};
-ghost use Rattle.nodes.specs.Notes.{Noted};
 ghost use Rattle.rules.specs.Decoded.{words_of};
 ghost use Rattle.rules.specs.Verdict.{judge as judge_of, verdict as verdict_of};
 ghost use Rattle.reply.specs.Replies.{output};

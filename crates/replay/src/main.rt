@@ -5,11 +5,7 @@
 mod failure;
 
 ghost use Rattle.std.specs.Prelude.{◌≡◌, ◌++◌, ◌-◌, ◌≤◌, length, take, drop, IfOk};
-ghost use Rattle.table.specs.Rows.{rows_of};
-ghost use Rattle.table.specs.Counts.{counts_of};
 ghost use Rattle.table.specs.Lookups.{most_words};
-ghost use Rattle.scan.specs.Spans.{Spanned};
-ghost use Rattle.nodes.specs.Notes.{Noted};
 ghost use Rattle.replay.specs.Reply.{reply_row};
 
 use failure::Failure;

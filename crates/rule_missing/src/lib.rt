@@ -4,8 +4,6 @@
 ghost use Rattle.std.specs.Prelude.{◌≡◌, not, ◌&&◌, ◌<◌, ◌^◌};
 ghost use Rattle.lists.specs.Below.{some_below};
 ghost use Rattle.table.specs.Rows.{rows_of};
-ghost use Rattle.table.specs.Counts.{counts_of};
-ghost use Rattle.scan.specs.Spans.{Spanned};
 ghost use Rattle.rules.specs.Rules.{action_wanted, witness_wanted, lacks_for, assigned, has_witness, event_lacks, missing};
 
 use scan::{Query, Scanned};

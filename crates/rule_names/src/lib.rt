@@ -3,8 +3,6 @@
 
 ghost use Rattle.std.specs.Prelude.{◌≡◌, ◌≤◌};
 ghost use Rattle.table.specs.Rows.{rows_of};
-ghost use Rattle.scan.specs.Spans.{Spanned};
-ghost use Rattle.table.specs.Counts.{counts_of};
 ghost use Rattle.rules.specs.Rules.{abstract_ordinary_event, good_refined, out_of_order, event_offends, owner_event, good_owner, identifier_offends};
 
 use scan::{Query, Scanned};

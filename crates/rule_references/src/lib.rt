@@ -3,7 +3,6 @@
 
 ghost use Rattle.std.specs.Prelude.{◌≡◌};
 ghost use Rattle.table.specs.Rows.{rows_of};
-ghost use Rattle.table.specs.Counts.{counts_of};
 ghost use Rattle.rules.specs.Rules.{earlier_node, named_variable, good_columns, guard_event, action_target, witness_target, root_at, names_root, good_target, reference_offends};
 ghost use Rattle.operators.specs.Operator.{meant_shape};
 

@@ -3,7 +3,6 @@
 
 ghost use Rattle.std.specs.Prelude.{◌≡◌};
 ghost use Rattle.table.specs.Rows.{rows_of};
-ghost use Rattle.table.specs.Counts.{counts_of};
 ghost use Rattle.rules.specs.Sight.{event_sees, may_mention, may_mention_after, sees_only};
 ghost use Rattle.rules.specs.Rules.{sight_offends};
 

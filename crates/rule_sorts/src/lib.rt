@@ -5,7 +5,6 @@
 ghost use Rattle.std.specs.Prelude.{◌≡◌, ℕ, ◌+◌, ◌^◌, ◌≤◌, ◌<◌, length, get_or, ◌||◌, eqb};
 ghost use Rattle.table.specs.Names.{node_tag};
 ghost use Rattle.table.specs.Rows.{rows_of, tagged};
-ghost use Rattle.table.specs.Counts.{counts_of};
 ghost use Rattle.table.specs.Lookups.{most_rows, most_words};
 ghost use Rattle.machine.specs.Operator.{result_sort};
 ghost use Rattle.rules.specs.Sorts.{shape_of, operand_count, sort_of};

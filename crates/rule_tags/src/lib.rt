@@ -4,7 +4,6 @@
 ghost use Rattle.std.specs.Prelude.{◌≡◌, ◌&&◌, ◌-◌, ◌≤◌, ◌<◌, ltb};
 ghost use Rattle.table.specs.Names.{variant_tag};
 ghost use Rattle.table.specs.Rows.{rows_of, Rising};
-ghost use Rattle.scan.specs.Spans.{Spanned};
 ghost use Rattle.rules.specs.Tags.{columns_used, row_limit};
 ghost use Rattle.rules.specs.Rules.{tag_offends, full_offends, twice_offends};
 

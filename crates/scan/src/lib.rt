@@ -3,7 +3,7 @@
 
 mod scanned;
 
-ghost use Rattle.std.specs.Prelude.{◌≡◌, ℕ, ◌+◌, ◌-◌, ◌^◌, ◌≤◌, ◌<◌, length, get_or, ◌&&◌, eqb, ltb, leb};
+ghost use Rattle.std.specs.Prelude.{◌≡◌, ℕ, ◌+◌, ◌-◌, ◌^◌, ◌≤◌, ◌<◌, length, get_or, ◌&&◌, eqb, leb};
 ghost use Rattle.table.specs.Names.{variant_tag};
 ghost use Rattle.lists.specs.Below.{NoneBelow, some_below, first};
 ghost use Rattle.table.specs.Rows.{rows_of, is_action};

@@ -3,9 +3,7 @@
 
 ghost use Rattle.std.specs.Prelude.{◌≡◌, ◌<◌, not};
 ghost use Rattle.table.specs.Rows.{rows_of};
-ghost use Rattle.table.specs.Counts.{counts_of};
 ghost use Rattle.table.specs.Names.{guard_tag};
-ghost use Rattle.nodes.specs.Notes.{Noted};
 ghost use Rattle.select.specs.declared.Selection.TheVariants.{Tagged, OfEvent};
 ghost use Rattle.sequent.specs.Numbers.{numbers, numbers_of, written_form, moves_form};
 ghost use Rattle.select.specs.declared.Item.TheVariants.{A as column_a, B as column_b, Identifier};

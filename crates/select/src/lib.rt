@@ -3,8 +3,6 @@
 
 ghost use Rattle.std.specs.Prelude.{◌≡◌, ◌+◌, ◌≤◌, ◌<◌, ◌&&◌};
 ghost use Rattle.table.specs.Rows.{rows_of, count};
-ghost use Rattle.table.specs.Counts.{counts_of};
-ghost use Rattle.nodes.specs.Notes.{Noted};
 ghost use Rattle.select.specs.Selection.{row_of_event, parameter_witness, identifier_at, variable_at, action_row, is_assigned, becomes_such, selects, between, section_span, selected_span};
 ghost use Rattle.select.specs.Each.{item_at, divisions, weight, count_at};
 ghost use Rattle.select.specs.Sought.{Passed};

@@ -6,8 +6,6 @@ ghost use Rattle.lists.specs.Over.{over};
 ghost use Rattle.row.specs.Row.{width, row_length};
 ghost use Rattle.table.specs.Lookups.{most_words};
 ghost use Rattle.table.specs.Rows.{rows_of};
-ghost use Rattle.table.specs.Counts.{counts_of};
-ghost use Rattle.nodes.specs.Notes.{Noted};
 ghost use Rattle.machine.specs.Described.{machine_of};
 ghost use Rattle.sequent.specs.Listed.{sequents};
 ghost use Rattle.entries.specs.Sequent.{slot_sequent, hypothesis_count};

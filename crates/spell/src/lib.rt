@@ -6,7 +6,6 @@ ghost use Rattle.std.specs.Prelude.{◌≡◌, ◌+◌, ◌≤◌, true, false, 
 ghost use Rattle.lists.specs.Choice.{pick};
 ghost use Rattle.table.specs.Rows.{rows_of};
 ghost use Rattle.table.specs.Lookups.{is_variable_number};
-ghost use Rattle.table.specs.Counts.{counts_of};
 ghost use Rattle.operators.specs.Operator.{meant_shape};
 ghost use Rattle.reply.specs.Spelled.{spelled, some_value_number, some_after_value_number};
 ghost use Rattle.spell.specs.Operators.{literal_number, identifier_number, after_number, equals_number};

@@ -6,7 +6,6 @@ ghost use Rattle.lists.specs.Below.{numbers};
 ghost use Rattle.lists.specs.Different.{some_of};
 ghost use Rattle.table.specs.Names.{identifier_tag};
 ghost use Rattle.table.specs.Rows.{rows_of, count};
-ghost use Rattle.table.specs.Counts.{counts_of};
 ghost use Rattle.bench.specs.State.{is_of_type, is_wrong, is_state, laid};
 
 use evaluate::value_at;

@@ -5,10 +5,7 @@
 ghost use Rattle.std.specs.Prelude.{◌≡◌, ◌+◌, ◌^◌, ◌≤◌, ◌<◌, length};
 ghost use Rattle.row.specs.Row.{width, row_length};
 ghost use Rattle.table.specs.Rows.{rows_of};
-ghost use Rattle.table.specs.Counts.{counts_of};
 ghost use Rattle.table.specs.Lookups.{most_words};
-ghost use Rattle.scan.specs.Spans.{Spanned};
-ghost use Rattle.nodes.specs.Notes.{Noted};
 ghost use Rattle.rules.specs.Verdict.{judge as judge_of};
 ghost use Rattle.recording.specs.Lines.{lines};
 ghost use Rattle.recording.specs.Replay.{replay_log, replay_by, replay as replay_of};

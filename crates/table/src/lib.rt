@@ -11,8 +11,8 @@ pub mod tag;
 ghost use Rattle.std.specs.Prelude.{◌≡◌, ◌+◌, ◌*◌, ◌-◌, ◌^◌, ◌<◌, ◌≤◌, ◌&&◌, leb, length, get_or};
 ghost use Rattle.lists.specs.Below.{one_if};
 ghost use Rattle.table.specs.Names.{is_variable_of};
-ghost use Rattle.table.specs.Rows.{rows_of, named, row_of};
-ghost use Rattle.table.specs.Lookups.{is_variable_number, operand_node};
+ghost use Rattle.table.specs.Rows.{rows_of};
+ghost use Rattle.table.specs.Lookups.{operand_node};
 ghost use Rattle.table.specs.Counts.{empty_counts, counted_row, counts_of, Small};
 
 pub use counted::Counted;

@@ -7,8 +7,6 @@ ghost use Rattle.lists.specs.Below.{one_if};
 ghost use Rattle.lists.specs.Choice.{pick};
 ghost use Rattle.row.specs.Row.{width, row_length};
 ghost use Rattle.table.specs.Rows.{rows_of, kind_of};
-ghost use Rattle.table.specs.Counts.{counts_of};
-ghost use Rattle.scan.specs.Spans.{Spanned};
 ghost use Rattle.machine.specs.Described.{action_of};
 ghost use Rattle.recording.specs.Rows.{is_state_variable, is_initial, is_given, is_logged, is_step_row, is_value_row};
 ghost use Rattle.recording.specs.Replay.{store_by, moved};

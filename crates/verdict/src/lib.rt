@@ -4,8 +4,6 @@
 ghost use Rattle.std.specs.Prelude.{◌≡◌, ◌^◌, ◌≤◌, ◌<◌, length};
 ghost use Rattle.table.specs.Lookups.{most_words};
 ghost use Rattle.table.specs.Rows.{rows_of};
-ghost use Rattle.table.specs.Counts.{counts_of};
-ghost use Rattle.nodes.specs.Notes.{Noted};
 ghost use Rattle.rules.specs.Verdict.{judge as judge_of, verdict as verdict_of};
 ghost use Rattle.verdict.specs.Loaded.{end_row, loaded_rows, loaded_of, loaded_words};
 

@@ -4,10 +4,8 @@
 ghost use Rattle.std.specs.Prelude.{◌≡◌, ◌+◌, ◌≤◌, ◌<◌, ◌^◌, length};
 ghost use Rattle.table.specs.Lookups.{most_words};
 ghost use Rattle.table.specs.Rows.{rows_of};
-ghost use Rattle.table.specs.Counts.{counts_of};
 ghost use Rattle.machine.specs.Described.{machine_of};
 ghost use Rattle.sequent.specs.Listed.{sequents};
-ghost use Rattle.nodes.specs.Notes.{Noted};
 ghost use Rattle.rules.specs.Verdict.{Passes};
 ghost use Rattle.select.specs.Sought.{Passed};
 ghost use Rattle.groups.specs.Groups.{groups};
