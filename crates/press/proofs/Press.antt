@@ -3,7 +3,6 @@ use mathlib.Core.Path.{◌≡◌, refl, sym, ap, ap₂, ◌∙◌}
 use mathlib.Core.Bool.{Bool, true, false, ◌&&◌}
 use mathlib.Core.List.{List}
 use Prim.Native.Nat.{ℕ, ◌≤◌}
-use borrow.Author.Tests.{eq-eqb, ne_eqb}
 use lib.Dec.{eqb}
 use lib.IntN.{ℤ}
 use lib.ListN.{length}
@@ -17,14 +16,12 @@ use Rattle.rules.specs.Verdict.{judge, verdict as verdict_of}
 use Rattle.rules.proofs.Cases.{judge_passes}
 use Rattle.rules.proofs.Obeys.{passes_obeys}
 use Rattle.rules.proofs.Full.{few_identifiers}
-use Rattle.recording.specs.Faults.{no_fault, log_fault}
+use Rattle.recording.specs.Faults.{log_fault}
 use Rattle.recording.specs.Lines.{lines}
-use Rattle.recording.specs.Replay.{Values}
-use Rattle.values.specs.Values.{values_of}
-use Rattle.bench.specs.State.{is_state, updated}
-use Rattle.bench.specs.Choice.{chosen, choice}
+use Rattle.bench.specs.State.{is_state}
+use Rattle.bench.specs.Choice.{choice}
 use Rattle.bench.proofs.State.{and_true, state_right}
-use Rattle.bench.specs.Press.{Outcome, made, refused, reply_of, kept_or, completed, press_fault, press_choice, at_hand, press_on, outcome_by, outcome}
+use Rattle.bench.specs.Press.{Outcome, refused, reply_of, kept_or, press_choice, at_hand, press_on, outcome_by, outcome}
 
 -- a reply and the values then, by an outcome
 abbrev pub Answers : Outcome → List ℤ → Result (Unit {0}) Refusal → List ℤ → Type 0
@@ -33,28 +30,8 @@ Answers o zs r ys = (r ≡ reply_of o) × (ys ≡ kept_or (λ us. us) zs o)
 pub refused_answers : {o : Outcome} {n row : ℕ} (zs : List ℤ) → o ≡ refused n row → Answers o zs (Err (refusal n row)) zs
 refused_answers zs e = (sym (ap reply_of e), sym (ap (kept_or (λ us. us) zs) e))
 
-pub made_answers : {o : Outcome} {us ys : List ℤ} (zs : List ℤ) → o ≡ made us → ys ≡ us → Answers o zs (Ok tt) ys
-made_answers zs e q = (sym (ap reply_of e), q ∙ sym (ap (kept_or (λ us. us) zs) e))
-
 pub as_answers : {o p : Outcome} {ys : List ℤ} {r : Result (Unit {0}) Refusal} (zs : List ℤ) → o ≡ p → Answers p zs r ys → Answers o zs r ys
 as_answers zs e (a, b) = (a ∙ sym (ap reply_of e), b ∙ sym (ap (kept_or (λ us. us) zs) e))
-
--- ---- a step of the event e, by its first fault
-module _ (t : Rows) (e : ℕ) (zs present after us : List ℤ) (done : values_of present us ≡ completed t e (values_of present after)) {f : ℕ} (is : f ≡ press_fault t e present us) where
-  abbrev by : Values → Outcome
-  by ws = pick (eqb (press_fault t e ws.present ws.after) no_fault) (made (updated t ws.after zs)) (refused (press_fault t e ws.present ws.after) 0)
-
-  abbrev pressed : Outcome
-  pressed = press_choice t zs (chosen e (values_of present after))
-
-  by_fault : (b : Bool) → eqb (press_fault t e present us) no_fault ≡ b → pressed ≡ pick b (made (updated t us zs)) (refused (press_fault t e present us) 0)
-  by_fault b h = ap by (sym done) ∙ ap (λ b. pick b (made (updated t us zs)) (refused (press_fault t e present us) 0)) h
-
-  pub event_refused : (f ≡ 0 → ⊥) → Answers pressed zs (Err (refusal f 0)) zs
-  event_refused h = refused_answers zs (by_fault false (ne_eqb (press_fault t e present us) no_fault (λ z. h (is ∙ z))) ∙ ap (λ n. refused n 0) (sym is))
-
-  pub event_performed : {ys : List ℤ} → f ≡ 0 → ys ≡ updated t us zs → Answers pressed zs (Ok tt) ys
-  event_performed h q = made_answers zs (by_fault true (eq-eqb (press_fault t e present us) no_fault (sym is ∙ h))) q
 
 -- ---- a state
 module _ (t : Rows) (step : List ℕ) (zs : List ℤ) (types : List ℕ) (room : ℕ) {good : Bool} {n : ℕ} (is : good ≡ is_state t zs types) (counted : n ≡ count t 10) where

@@ -5,7 +5,6 @@ use mathlib.Core.List.{List, [], ◌++◌}
 use mathlib.Core.Logic.{inl, inr}
 use Prim.Native.Nat.{ℕ, suc, ◌+◌, ◌-◌, ◌*◌, ◌≤◌}
 use native.Mathlib.Omega.{arith}
-use borrow.Author.Tests.{eq-eqb, ne_eqb}
 use lib.Dec.{eqb}
 use lib.ListN.{length}
 use Rattle.std.specs.Prelude.{Result, Ok, Err}
@@ -32,21 +31,6 @@ use Rattle.steps.specs.declared.Progress.TheVariants.{Going, Ended}
 use Rattle.steps.specs.Steps.{ended_after, step_progress, step_values, replay_on, TakesStep, ReplaysStep, BeginsWithin}
 
 module _ (t : Rows) where
-  -- ---- a step that is judged
-  module _ (e i : ℕ) (next : Place) (vs : Values) {f : ℕ} (is : f ≡ step_fault t e vs.present vs.after) where
-    abbrev fault : ℕ
-    fault = step_fault t e vs.present vs.after
-
-    pub step_refused : (f ≡ 0 → ⊥) → (Err (refused f i) ≡ step_progress t e i next vs) × (vs ≡ step_values t e vs)
-    step_refused h =
-        let z = ne_eqb fault no_fault (λ q. h (is ∙ q)) in
-        (ap (λ f. Err (refused f i)) is ∙ sym (ap (λ b. pick b (Ok (Going next)) (Err (refused fault i))) z), sym (ap (λ b. pick b (moved t vs) vs) z))
-
-    pub step_allowed : {ws : Values} → f ≡ 0 → ws ≡ moved t vs → (Ok (Going next) ≡ step_progress t e i next vs) × (ws ≡ step_values t e vs)
-    step_allowed h m =
-        let z = eq-eqb fault no_fault (sym is ∙ h) in
-        (sym (ap (λ b. pick b (Ok (Going next)) (Err (refused fault i))) z), m ∙ sym (ap (λ b. pick b (moved t vs) vs) z))
-
   -- ---- a step whose rows are read
   module _ (e i : ℕ) (run : List ℕ) (at : ℕ) (vs us : Values) (r : Reached) (told : ReadsValues t e (wanted t false e) run at vs r us)
       (end : Reaches r run (at + row_length width * length (wanted t false e))) where
