@@ -56,7 +56,7 @@ impl From<Fault> for StepFault {
 fn differs(expected: Value, found: Value) -> Result<(), StepFault>
     ensures { fault_number result ≡ differs (value_of expected) (value_of found) }
 {
-    if equal_values(expected, found) {
+    if equal_values(Ok(expected), Ok(found)) {
         return Ok(());
     }
     Err(StepFault::NotAllowed)

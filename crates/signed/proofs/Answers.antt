@@ -12,3 +12,9 @@ answer_found (value (number z)) = refl
 answer_found (value (truth b)) = refl
 answer_found outside = refl
 answer_found undefined = refl
+
+pub found_answer : (f : Found) → found_of (answer_of f) ≡ f
+found_answer (Ok (Number z)) = refl
+found_answer (Ok (Truth b)) = refl
+found_answer (Err Outside) = refl
+found_answer (Err Undefined) = refl

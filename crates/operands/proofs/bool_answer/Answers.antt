@@ -8,4 +8,4 @@ pub returns-in_err-operand : goal.returns-in_err-operand
 returns-in_err-operand c = operand_fault bool c.in_err-operand.was c.from_residual.ensures.1
 
 pub returns : goal.returns
-returns c = one_truth bool c.in_ok-operand.was refl c.as_truth.ensures
+returns c = one_truth bool c.in_ok-operand.was refl c.truth_in.ensures

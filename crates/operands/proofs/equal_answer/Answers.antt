@@ -11,4 +11,4 @@ pub returns-in_err-w : goal.returns-in_err-w
 returns-in_err-w c = right_fault c.in_ok-v.was c.in_err-w.was c.from_residual-in_err-w.ensures.1 equal
 
 pub returns : goal.returns
-returns c = both_truths c.in_ok-v.was c.in_ok-w.was equal refl c.equal_values.ensures
+returns c = both_truths c.in_ok-v.was c.in_ok-w.was equal refl c.same.ensures

@@ -12,4 +12,4 @@ pub returns-in_err-q : goal.returns-in_err-q
 returns-in_err-q c = right_fault c.in_ok-p.was c.in_err-q.was c.from_residual-in_err-q.ensures.1 iff
 
 pub returns : goal.returns
-returns c = both_truths c.in_ok-p.was c.in_ok-q.was iff refl (ap₂ beq c.as_truth.ensures c.as_truth-2.ensures)
+returns c = both_truths c.in_ok-p.was c.in_ok-q.was iff refl (ap₂ beq c.truth_in.ensures c.truth_in-2.ensures)

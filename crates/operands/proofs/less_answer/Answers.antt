@@ -13,4 +13,4 @@ pub returns-in_err-right : goal.returns-in_err-right
 returns-in_err-right c = right_fault c.in_ok-left.was c.in_err-right.was c.from_residual-in_err-right.ensures.1 less
 
 pub returns : goal.returns
-returns c = both_truths c.in_ok-left.was c.in_ok-right.was less refl (less_is c.as_number.result c.as_number-2.result (record { sfits = c.as_number.type_inv }) (record { sfits = c.as_number-2.type_inv }) ∙ ap₂ lessℤ c.as_number.ensures c.as_number-2.ensures)
+returns c = both_truths c.in_ok-left.was c.in_ok-right.was less refl (less_is c.number_in.result c.number_in-2.result (record { sfits = c.number_in.type_inv }) (record { sfits = c.number_in-2.type_inv }) ∙ ap₂ lessℤ c.number_in.ensures c.number_in-2.ensures)

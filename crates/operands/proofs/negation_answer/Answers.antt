@@ -11,5 +11,5 @@ returns-in_err-operand c = operand_fault negation c.in_err-operand.was c.from_re
 
 pub returns : goal.returns
 returns c =
-    let m = seen_is c.as_number.result c.as_number.type_inv c.as_number.ensures in
+    let m = seen_is c.number_in.result c.number_in.type_inv c.number_in.ensures in
     one_value negation c.in_ok-operand.was (c.negate.ensures ∙ ap (λ m. number_found (neg_ℤ m)) m)

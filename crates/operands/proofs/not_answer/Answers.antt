@@ -9,4 +9,4 @@ pub returns-in_err-operand : goal.returns-in_err-operand
 returns-in_err-operand c = operand_fault logicalNot c.in_err-operand.was c.from_residual.ensures.1
 
 pub returns : goal.returns
-returns c = one_truth logicalNot c.in_ok-operand.was refl (ap not c.as_truth.ensures)
+returns c = one_truth logicalNot c.in_ok-operand.was refl (ap not c.truth_in.ensures)

@@ -7,8 +7,8 @@ use Rattle.operands.proofs.or_answer.Goals as goal
 pub returns-in_err-left : goal.returns-in_err-left
 returns-in_err-left c = side_fault c.args.right or c.in_err-left.was c.from_residual.ensures.1
 
-pub returns-then-as_truth : goal.returns-then-as_truth
-returns-then-as_truth c = or_true c.args.right c.in_ok-left.was c.as_truth.ensures c.if-as_truth.true
+pub returns-then-truth_in : goal.returns-then-truth_in
+returns-then-truth_in c = or_true c.args.right c.in_ok-left.was c.truth_in.ensures c.if-truth_in.true
 
 pub returns : goal.returns
-returns c = c.bool_answer.ensures ∙ or_false c.args.right c.in_ok-left.was c.as_truth.ensures c.if-as_truth.false
+returns c = c.bool_answer.ensures ∙ or_false c.args.right c.in_ok-left.was c.truth_in.ensures c.if-truth_in.false

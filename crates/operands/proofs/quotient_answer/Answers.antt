@@ -13,12 +13,12 @@ returns-in_err-dividend c = dividend_fault c.args.right c.in_err-dividend.was c.
 pub returns-in_err-divisor : goal.returns-in_err-divisor
 returns-in_err-divisor c = divisor_fault c.in_ok-dividend.was c.in_err-divisor.was c.from_residual-in_err-divisor.ensures.1 quotient
 
-pub returns-then-equal_values : goal.returns-then-equal_values
-returns-then-equal_values c =
-    not_divided c.in_ok-dividend.was c.in_ok-divisor.was quotient (ap not (sym c.equal_values.ensures ∙ c.if-equal_values.true))
+pub returns-then-same : goal.returns-then-same
+returns-then-same c =
+    not_divided c.in_ok-dividend.was c.in_ok-divisor.was quotient (ap not (sym c.same.ensures ∙ c.if-same.true))
 
 pub returns : goal.returns
 returns c =
-    let m = seen_is c.as_number.result c.as_number.type_inv c.as_number.ensures in
-    let n = seen_is c.as_number-2.result c.as_number-2.type_inv c.as_number-2.ensures in
-    divided c.in_ok-dividend.was c.in_ok-divisor.was quotient (ap not (sym c.equal_values.ensures ∙ c.if-equal_values.false)) (c.divide.ensures ∙ ap₂ (λ m n. number_found (quotientℤ m n)) m n)
+    let m = seen_is c.number_in.result c.number_in.type_inv c.number_in.ensures in
+    let n = seen_is c.number_in-2.result c.number_in-2.type_inv c.number_in-2.ensures in
+    divided c.in_ok-dividend.was c.in_ok-divisor.was quotient (ap not (sym c.same.ensures ∙ c.if-same.false)) (c.divide.ensures ∙ ap₂ (λ m n. number_found (quotientℤ m n)) m n)

@@ -14,8 +14,8 @@ returns-in_err-n c = divisor_fault c.in_ok-m.was c.in_err-n.was c.from_residual-
 
 pub returns-then-remainder_defined : goal.returns-then-remainder_defined
 returns-then-remainder_defined c =
-    let m = seen_is c.as_number.result c.as_number.type_inv c.as_number.ensures in
-    let n = seen_is c.as_number-then-remainder_defined.result c.as_number-then-remainder_defined.type_inv c.as_number-then-remainder_defined.ensures in
+    let m = seen_is c.number_in.result c.number_in.type_inv c.number_in.ensures in
+    let n = seen_is c.number_in-then-remainder_defined.result c.number_in-then-remainder_defined.type_inv c.number_in-then-remainder_defined.ensures in
     divided c.in_ok-m.was c.in_ok-n.was remainder (sym c.remainder_defined.ensures ∙ c.if-remainder_defined.true) (c.remainder.ensures ∙ ap₂ (λ m n. number_found (remainderℤ m n)) m n)
 
 pub returns : goal.returns

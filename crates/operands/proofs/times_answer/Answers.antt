@@ -14,6 +14,6 @@ returns-in_err-right c = right_fault c.in_ok-left.was c.in_err-right.was c.from_
 
 pub returns : goal.returns
 returns c =
-    let m = seen_is c.as_number.result c.as_number.type_inv c.as_number.ensures in
-    let n = seen_is c.as_number-2.result c.as_number-2.type_inv c.as_number-2.ensures in
+    let m = seen_is c.number_in.result c.number_in.type_inv c.number_in.ensures in
+    let n = seen_is c.number_in-2.result c.number_in-2.type_inv c.number_in-2.ensures in
     both_values c.in_ok-left.was c.in_ok-right.was times (c.multiply.ensures ∙ ap₂ (λ m n. number_found (m *ℤ n)) m n)
