@@ -14,11 +14,15 @@ use Rattle.formula.specs.Evaluate.{Env, reads_right}
 use Rattle.machine.specs.Operator.{Operator, literalOf, identifierOf, after_of, constant_of, unary_of, binary_of, division_of, connective_of, unknown, operator_numbered}
 use Rattle.machine.specs.Described.{node, tree_to, tree_of}
 use Rattle.machine.proofs.Described.{operand_falls, tree_step}
-use Rattle.answer.specs.Answer.{Answer, answer, right_of as right_answer, operands, binary_answer, connective_answer}
+use Rattle.answer.specs.Answer.{Answer, answer, right_of as right_answer, operands, unary_answer, binary_answer, division_answer, connective_answer}
 use Rattle.std.specs.Prelude.{Ok, Err}
+use Rattle.std.specs.Result.{IsErrAnd}
+use Rattle.std.proofs.lemmas.Result.{err_from_is_err_and}
 use Rattle.signed.specs.Found.{Found, found_of, answer_of}
-use Rattle.signed.proofs.Answers.{answer_found}
+use Rattle.signed.proofs.Answers.{answer_found, found_answer}
+use Rattle.signed.specs.declared.Value.{Value}
 use Rattle.signed.specs.declared.Value.TheVariants.{Number, Truth}
+use Rattle.signed.specs.declared.Fault.{Fault}
 use Rattle.signed.specs.declared.Fault.TheVariants.{Outside, Undefined}
 use Rattle.evaluate.specs.Evaluate.{bottom_number, operator_at, is_leaf, leaf_answer, combined, reads_right_of}
 
@@ -49,6 +53,51 @@ right_unread (connective_of o) (Ok (Truth b)) e r s = unread o (truth b) e r s
 right_unread (connective_of o) (Err Outside) e r s = refl
 right_unread (connective_of o) (Err Undefined) e r s = refl
 right_unread unknown l e r s = refl
+
+-- the fault that is handed on
+handed_on : {f : Found} {e : Fault} → IsErrAnd f (λ y. y ≡ e) → f ≡ Err e
+handed_on {f} h = let p = err_from_is_err_and f h in p.1 ∙ ap (λ e. Err e) p.2
+
+-- the fault of a left side, and of a right side that is read, is the answer
+left_faulty : (o : Operator) (e : Fault) (r : Answer) → is_leaf o ≡ false → combined o (answer_of (Err e)) r ≡ answer_of (Err e)
+unfolding unary_answer binary_answer division_answer operands connective_answer
+left_faulty literalOf e r h = absurd (true≢false h)
+left_faulty identifierOf e r h = absurd (true≢false h)
+left_faulty after_of e r h = absurd (true≢false h)
+left_faulty (constant_of c) e r h = absurd (true≢false h)
+left_faulty (unary_of o) Outside r h = refl
+left_faulty (unary_of o) Undefined r h = refl
+left_faulty (binary_of o) Outside r h = refl
+left_faulty (binary_of o) Undefined r h = refl
+left_faulty (division_of o) Outside r h = refl
+left_faulty (division_of o) Undefined r h = refl
+left_faulty (connective_of o) Outside r h = refl
+left_faulty (connective_of o) Undefined r h = refl
+left_faulty unknown e r h = absurd (true≢false h)
+
+-- a right side that is read
+read : (o : Connective) (v : AnyValue) → reads_right o (as_truth v) ≡ true → (e : Fault) → right_answer o v (answer_of (Err e)) ≡ answer_of (Err e)
+read o v h Outside = chosen (reads_right o (as_truth v)) _ _ h
+read o v h Undefined = chosen (reads_right o (as_truth v)) _ _ h
+
+right_faulty : (o : Operator) (v : Value) (e : Fault) → reads_right_of o (Ok v) ≡ true → combined o (answer_of (Ok v)) (answer_of (Err e)) ≡ answer_of (Err e)
+unfolding binary_answer division_answer operands connective_answer
+right_faulty literalOf v e h = absurd (true≢false (sym h))
+right_faulty identifierOf v e h = absurd (true≢false (sym h))
+right_faulty after_of v e h = absurd (true≢false (sym h))
+right_faulty (constant_of c) v e h = absurd (true≢false (sym h))
+right_faulty (unary_of o) v e h = absurd (true≢false (sym h))
+right_faulty (binary_of o) (Number z) Outside h = refl
+right_faulty (binary_of o) (Number z) Undefined h = refl
+right_faulty (binary_of o) (Truth b) Outside h = refl
+right_faulty (binary_of o) (Truth b) Undefined h = refl
+right_faulty (division_of o) (Number z) Outside h = refl
+right_faulty (division_of o) (Number z) Undefined h = refl
+right_faulty (division_of o) (Truth b) Outside h = refl
+right_faulty (division_of o) (Truth b) Undefined h = refl
+right_faulty (connective_of o) (Number z) e h = read o (number z) h e
+right_faulty (connective_of o) (Truth b) e h = read o (truth b) h e
+right_faulty unknown v e h = absurd (true≢false (sym h))
 
 module _ {type : ℕ → ValueType} (ρ : Env type) where
   abbrev by_operator : Operator → ℕ → Answer → Answer → Answer
@@ -124,6 +173,20 @@ module _ (t : Rows) (n operator b : ℕ) (so : operator ≡ operator_at t n) (sb
           node_combined (answer_of r)
           (ap (combined (operator_numbered operator) (answer_of l))
           (ap answer_of sr ∙ answer_found (answer ρ (tree_of t y)) ∙ ap (λ y. answer ρ (tree_of t y)) (sy ∙ ap (operand_node n) sc)))
+
+      pub left_is_faulty : {k : Fault} → l ≡ Err k → {f : Found} → IsErrAnd f (λ y. y ≡ k) → f ≡ found_of (answer ρ (tree_of t n))
+      left_is_faulty {k} q p =
+          let r = answer ρ (tree_of t (operand_node n (right_of t n))) in
+          handed_on p ∙ sym (found_answer (Err k)) ∙ ap found_of (sym (left_faulty (operator_numbered operator) k r e) ∙ ap (λ l. combined (operator_numbered operator) (answer_of l) r) (sym q))
+          ∙ node_combined r refl
+
+      pub right_is_faulty : (v : Value) → l ≡ Ok v → reads_right_of (operator_numbered operator) (Ok v) ≡ true
+          → (c y : ℕ) → c ≡ right_of t n → y ≡ operand_node n c → (r : Found) → r ≡ found_of (answer ρ (tree_of t y)) → {k : Fault} → r ≡ Err k
+          → {f : Found} → IsErrAnd f (λ y. y ≡ k) → f ≡ found_of (answer ρ (tree_of t n))
+      right_is_faulty v q reads c y sc sy r sr {k} fault p =
+          handed_on p ∙ sym (found_answer (Err k))
+          ∙ ap found_of (sym (right_faulty (operator_numbered operator) v k reads) ∙ ap (λ l. combined (operator_numbered operator) (answer_of l) (answer_of (Err k))) (sym q))
+          ∙ both_read c y sc sy (Err k) (sym fault ∙ sr)
 
       pub left_read : reads_right_of (operator_numbered operator) l ≡ false → found_of (combined (operator_numbered operator) (answer_of l) (answer_of l)) ≡ found_of (answer ρ (tree_of t n))
       left_read f = node_combined (answer_of l) (right_unread (operator_numbered operator) l f _ _)

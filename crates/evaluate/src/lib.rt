@@ -76,7 +76,7 @@ fn has_truth(side: Found, truth: bool) -> bool
     ensures { result ≡ has_truth side truth }
 {
     match side {
-        Ok(v) => as_truth(v) == truth,
+        Ok(_) => as_truth(side) == truth,
         Err(_) => false,
     }
 }
@@ -178,7 +178,7 @@ fn evaluate_operand(env: &Env, operator: u64, n: u64) -> Found
     evaluate_expression(env, n)
 }
 
-// The answer of node n by its operator, from those of its operands. The right one is evaluated only where it is read.
+// The answer of node n by its operator, from the values of its operands, of which a fault is the answer. The right one is evaluated only where it is read.
 #[cycle(evaluate_expression_evaluate_node_evaluate_operand_evaluate_predicate)]
 fn evaluate_node(env: &Env, n: u64) -> Found
     ensures { result ≡ found_of (answer (stored_env (machine_of (rows_of env.now.words.now)).type env.now.present.now env.now.after.now) (tree_of (rows_of env.now.words.now) n)) }
@@ -189,12 +189,12 @@ fn evaluate_node(env: &Env, n: u64) -> Found
         return leaf(env, operator, b);
     }
     let x = operand(n, b);
-    let left = evaluate_operand(env, operator, x);
+    let left = evaluate_operand(env, operator, x)?;
     let mut right = left;
-    if reads_right(operator, left) {
+    if reads_right(operator, Ok(left)) {
         let c = env.node_field(n, Table::RIGHT);
         let y = operand(n, c);
-        right = evaluate_operand(env, operator, y);
+        right = evaluate_operand(env, operator, y)?;
     }
-    combine(operator, left, right)
+    combine(operator, Ok(left), Ok(right))
 }
