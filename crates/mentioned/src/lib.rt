@@ -10,71 +10,68 @@ ghost use Rattle.reply.specs.Printed.{mentioned_row};
 ghost use Rattle.spell.specs.Spell.{witness_node};
 ghost use Rattle.mentioned.specs.Mentioned.{action_set, witness_set, entry_set};
 
-use nodes::{Index, note_at};
+use nodes::{NotedRows, note_at};
 use reply::tags;
 use row::Row;
-use scan::{Query, find_within};
-use select::action_row;
+use scan::{Query, action_row, find_within, span_at};
 use sequent::{Entry, form};
 use sets::{count, highest, lowest, single};
-use table::tag;
+use table::{c_at, size, tag, tag_at};
 
 // The identifiers of form 4: the action of an event for a variable.
-fn action_set(index: &Index, event: u64, x: u64) -> u64
-    ensures { result ≡ action_set (rows_of index.now.table.words.now) event x }
+fn action_set(rows: &NotedRows, event: u64, x: u64) -> u64
+    ensures { result ≡ action_set (rows_of rows.now.words.now) event x }
 {
-    let row = action_row(index, event, x);
-    if index.table.size() <= row {
+    let row = action_row(rows.words, rows.spans, event, x);
+    if size(rows.words) <= row {
         return single(x);
     }
-    let note = note_at(index, index.table.c_at(row));
-    if index.table.tag_at(row) == tag::BECOMES_EQUAL {
+    let note = note_at(rows, c_at(rows.words, row));
+    if tag_at(rows.words, row) == tag::BECOMES_EQUAL {
         return single(x) | note.mentioned;
     }
     note.mentioned
 }
 
 // The root of the witness of an event for an identifier; 0 where there is none.
-fn witness_root(index: &Index, event: u64, x: u64) -> u64
-    ensures { result ≡ witness_node (rows_of index.now.table.words.now) event x }
+fn witness_root(rows: &NotedRows, event: u64, x: u64) -> u64
+    ensures { result ≡ witness_node (rows_of rows.now.words.now) event x }
 {
     let query = Query::Witnesses { event, target: x };
-    let witnesses = index.span_at(tag::WITNESS);
-    index
-        .table
-        .c_at(find_within(index.table.words, query, witnesses))
+    let witnesses = span_at(rows.words, rows.spans, tag::WITNESS);
+    c_at(rows.words, find_within(rows.words, query, witnesses))
 }
 
 // Those of form 6: the witness of an event for an identifier, and this.
-fn witness_set(index: &Index, event: u64, x: u64) -> u64
-    ensures { result ≡ witness_set (rows_of index.now.table.words.now) event x }
+fn witness_set(rows: &NotedRows, event: u64, x: u64) -> u64
+    ensures { result ≡ witness_set (rows_of rows.now.words.now) event x }
 {
-    let note = note_at(index, witness_root(index, event, x));
+    let note = note_at(rows, witness_root(rows, event, x));
     single(x) | note.mentioned
 }
 
 // Those of an entry, by its form.
-fn entry_set(index: &Index, entry: Entry) -> u64
-    ensures { result ≡ entry_set (rows_of index.now.table.words.now) (entry_of entry) }
+fn entry_set(rows: &NotedRows, entry: Entry) -> u64
+    ensures { result ≡ entry_set (rows_of rows.now.words.now) (entry_of entry) }
 {
     let form = entry.form;
     let first = entry.first;
     let second = entry.second;
     match form {
-        form::DEFINED => note_at(index, first).defined,
-        form::MOVES => action_set(index, first, second),
-        form::FEASIBLE => single(second) | action_set(index, first, second),
-        form::WITNESSED => witness_set(index, first, second),
+        form::DEFINED => note_at(rows, first).defined,
+        form::MOVES => action_set(rows, first, second),
+        form::FEASIBLE => single(second) | action_set(rows, first, second),
+        form::WITNESSED => witness_set(rows, first, second),
         form::UNCHANGED => single(first),
-        _ => note_at(index, first).mentioned,
+        _ => note_at(rows, first).mentioned,
     }
 }
 
 // "how many identifiers it mentions and the lowest and highest (0 when there are none)"
-pub fn mentioned_row(index: &Index, entry: Entry) -> Row
-    ensures { (xs : List ℕ) → All Identifier xs → entry_set (rows_of index.now.table.words.now) (entry_of entry) ≡ set_of xs → result ≡ mentioned_row xs }
+pub fn mentioned_row(rows: &NotedRows, entry: Entry) -> Row
+    ensures { (xs : List ℕ) → All Identifier xs → entry_set (rows_of rows.now.words.now) (entry_of entry) ≡ set_of xs → result ≡ mentioned_row xs }
 {
-    let set = entry_set(index, entry);
+    let set = entry_set(rows, entry);
     Row {
         tag: tags::MENTIONED,
         a: count(set),

@@ -12,7 +12,15 @@ use crate::fill_notes;
 use scan::Span;
 use table::Counted;
 
-// A table's rows with their counts, and in lent numbers the spans of its tags, its actions and what is noted of its nodes and events.
+// A table's rows, and in lent numbers the spans of its tags, its actions and what is noted of its nodes and events.
+#[derive(Clone, Copy)]
+pub struct NotedRows<'a> {
+    pub words: &'a [u64],
+    pub spans: &'a [usize],
+    pub ghost noted: { Noted (rows_of words.now) spans.now },
+}
+
+// The same with the counts of the rows.
 #[derive(Clone, Copy)]
 pub struct Index<'a> {
     pub table: Counted<'a>,
@@ -29,6 +37,16 @@ impl<'a> Index<'a> {
         let table = Counted::of(words);
         fill_notes(&table, spans);
         Index { table, spans }
+    }
+
+    // The same without the counts.
+    pub fn rows(&self) -> NotedRows<'a>
+        ensures { (result.words ≡ self.now.table.words) × (result.spans ≡ self.now.spans) }
+    {
+        NotedRows {
+            words: self.table.words,
+            spans: self.spans,
+        }
     }
 
     // The rows between which those of a tag stand; of 51, those of 51 and 52.

@@ -13,7 +13,7 @@ ghost use Rattle.nodes.specs.Notes.{node_limit, note_in, noted_tree, assigned_se
 ghost use Rattle.nodes.specs.Steps.{stored, Cleared, NotedTo};
 
 use conditions::find_condition;
-pub use index::Index;
+pub use index::{Index, NotedRows};
 use notes::{Note, empty_note, shaped_note};
 use operators::find_operator;
 use scan::{Span, fill_spans, span_at};
@@ -141,31 +141,31 @@ pub fn fill_notes(table: &Counted, spans: &mut [usize])
 }
 
 // What is noted of node n; above the limit, which no accepted table has, nothing.
-pub fn note_at(index: &Index, n: u64) -> Note
-    ensures { result ≡ note_of (noted_tree (rows_of index.now.table.words.now) n) }
+pub fn note_at(rows: &NotedRows, n: u64) -> Note
+    ensures { result ≡ note_of (noted_tree (rows_of rows.now.words.now) n) }
 {
     if Table::NODES < n {
         return empty_note();
     }
-    load(index.spans, n)
+    load(rows.spans, n)
 }
 
 // The set of the identifiers that an event assigns.
-pub fn assigned_by(index: &Index, event: u64) -> u64
-    ensures { result ≡ assigned_set (rows_of index.now.table.words.now) event }
+pub fn assigned_by(rows: &NotedRows, event: u64) -> u64
+    ensures { result ≡ assigned_set (rows_of rows.now.words.now) event }
 {
     if Table::EVENTS < event {
         return 0;
     }
     let at = event_at(event);
-    index.spans[at] as u64
+    rows.spans[at] as u64
 }
 
 // Whether an event assigns an identifier that the formula of node n mentions.
-pub fn touches(index: &Index, event: u64, n: u64) -> bool
-    ensures { result ≡ touches (rows_of index.now.table.words.now) event n }
+pub fn touches(rows: &NotedRows, event: u64, n: u64) -> bool
+    ensures { result ≡ touches (rows_of rows.now.words.now) event n }
 {
-    let noted = note_at(index, n);
-    let assigned = assigned_by(index, event);
+    let noted = note_at(rows, n);
+    let assigned = assigned_by(rows, event);
     meets(noted.mentioned, assigned)
 }

@@ -207,7 +207,7 @@ pub fn divisions(index: &Index, n: u64) -> u64
     ensures value { result ≡ divisions (rows_of index.now.table.words.now) n }
     ensures upper_bound { result ≤ 1 }
 {
-    let note = note_at(index, n);
+    let note = note_at(&index.rows(), n);
     one_if(note.divides)
 }
 
@@ -220,7 +220,7 @@ fn weight(index: &Index, each: Each, i: usize) -> u64
         Each::One => 1,
         Each::Defined { item, event } => { divisions(index, item_at(index, item, event, i)) }
         Each::Witness => divisions(index, index.table.c_at(i)) + 1,
-        Each::Touched(event) => one_if(touches(index, event, index.table.a_at(i))),
+        Each::Touched(event) => one_if(touches(&index.rows(), event, index.table.a_at(i))),
     }
 }
 

@@ -55,7 +55,7 @@ fn mentioned(index: &Index, slot: Slot) -> Row
     requires listed_slot { ListedSlot (rows_of index.now.table.words.now) slot }
     ensures { result ≡ goal_row (rows_of index.now.table.words.now) slot }
 {
-    mentioned_row(index, goal_at(index, slot))
+    mentioned_row(&index.rows(), goal_at(index, slot))
 }
 
 // Writes a slot's sequent without its row 80: row 84, then its entries into what is left of the buffer; and says how many bytes they are.

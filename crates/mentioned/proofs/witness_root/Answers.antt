@@ -11,11 +11,11 @@ use Rattle.mentioned.proofs.witness_root.Goals as goal
 pub find_within-requires : goal.find_within-requires
 find_within-requires c =
     let a = c.args in
-    let t = rows_of a.index.now.table.words.now in
+    let t = rows_of a.rows.now.words.now in
     let query = Witnesses a.event a.x in
     subst (Spans (passes_of t query) t.size) (sym c.span_at-witnesses.ensures) (query_spans t query)
 
 pub returns : goal.returns
 returns c =
     let a = c.args in
-    witness_found a.index.now.table.words.now a.event a.x c.find_within.result c.c_at.result c.find_within.ensures c.c_at.ensures
+    witness_found a.rows.now.words.now a.event a.x c.find_within.result c.c_at.result c.find_within.ensures c.c_at.ensures

@@ -8,5 +8,5 @@ use Rattle.mentioned.proofs.witness_set.Goals as goal
 
 pub returns : goal.returns
 returns c =
-    let t = rows_of c.args.index.now.table.words.now in
+    let t = rows_of c.args.rows.now.words.now in
     ap₂ bit_or c.single.ensures (ap (λ n. n.mentioned) (c.note_at-note.ensures ∙ ap (λ r. note_of (noted_tree t r)) c.witness_root.ensures))

@@ -9,15 +9,15 @@ use Rattle.nodes.proofs.assigned_by.Goals as goal
 pub returns-then-event-gt-EVENTS : goal.returns-then-event-gt-EVENTS
 returns-then-event-gt-EVENTS c =
     let a = c.args in
-    event_above (rows_of a.index.now.table.words.now) a.event c.if-event-gt-EVENTS.true
+    event_above (rows_of a.rows.now.words.now) a.event c.if-event-gt-EVENTS.true
 
-pub offset_bounds-index-at : goal.offset_bounds-index-at
-offset_bounds-index-at c = omega (arith, c.event_at-at.ensures.upper_bound)
+pub offset_bounds-rows-at : goal.offset_bounds-rows-at
+offset_bounds-rows-at c = omega (arith, c.event_at-at.ensures.upper_bound)
 
-pub bounds-index-at : goal.bounds-index-at
-bounds-index-at c =
-    omega (arith, c.event_at-at.ensures.upper_bound, c.args.index.now.noted.spanned.tags.size)
+pub bounds-rows-at : goal.bounds-rows-at
+bounds-rows-at c =
+    omega (arith, c.event_at-at.ensures.upper_bound, c.args.rows.now.noted.spanned.tags.size)
 
 pub returns : goal.returns
 returns c =
-    ap (λ k. get_or c.args.index.now.spans.now k 0) c.event_at-at.ensures.value ∙ c.args.index.now.noted.events c.args.event c.if-event-gt-EVENTS.false
+    ap (λ k. get_or c.args.rows.now.spans.now k 0) c.event_at-at.ensures.value ∙ c.args.rows.now.noted.events c.args.event c.if-event-gt-EVENTS.false

@@ -7,8 +7,8 @@ use Rattle.nodes.proofs.note_at.Goals as goal
 pub returns-then-n-gt-NODES : goal.returns-then-n-gt-NODES
 returns-then-n-gt-NODES c =
     let a = c.args in
-    c.empty_note.ensures ∙ node_above (rows_of a.index.now.table.words.now) a.n c.if-n-gt-NODES.true
+    c.empty_note.ensures ∙ node_above (rows_of a.rows.now.words.now) a.n c.if-n-gt-NODES.true
 
 pub returns : goal.returns
 returns c =
-    c.load.ensures ∙ c.args.index.now.noted.nodes c.args.n c.if-n-gt-NODES.false
+    c.load.ensures ∙ c.args.rows.now.noted.nodes c.args.n c.if-n-gt-NODES.false

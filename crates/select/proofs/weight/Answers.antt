@@ -11,4 +11,4 @@ returns-in-Witness c =
 
 pub returns-in-Touched : goal.returns-in-Touched
 returns-in-Touched c =
-    simp (c.one_if.ensures.value, c.touches.ensures, c.a_at.ensures, c.in-Touched.is)
+    simp (c.one_if.ensures.value, c.touches.ensures, c.rows.ensures.0, c.a_at.ensures, c.in-Touched.is)
