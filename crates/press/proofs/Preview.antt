@@ -1,6 +1,6 @@
 -- What a preview writes: what pressing makes of a copy of the first list's values, with its types, into lists that are as long; nothing where it is refused.
 use mathlib.Core.Path.{◌≡◌, refl, sym, ap, ◌∙◌}
-use mathlib.Core.Bool.{Bool, true, false}
+use mathlib.Core.Bool.{Bool, true, false, true≢false}
 use mathlib.Core.List.{List}
 use Prim.Native.Nat.{ℕ, min, ◌≤◌}
 use native.Mathlib.Omega.{arith}
@@ -9,7 +9,7 @@ use lib.Dec.{ltb, eqb, eqb→eq}
 use lib.IntN.{ℤ, pos}
 use lib.ListN.{length, take, drop, replicate, length-replicate}
 use lib.Seq.{take_all, take_at, length-take-le}
-use Rattle.std.specs.Prelude.{Result, Ok, Err}
+use Rattle.std.specs.Prelude.{Result, Ok, Err, is_ok}
 use Rattle.lists.specs.Choice.{pick}
 use Rattle.formula.proofs.Truth.{true_test}
 use Rattle.rules.specs.declared.Refusal.{Refusal}
@@ -69,6 +69,21 @@ module _ (table step : List ℕ) (copy : List ℤ) (sorts : List ℕ) (ss : List
           let k = room_says ss ts (length copy) m few in
           (ap (λ us. laid us ss) v ∙ laid_same zs ss (k.0 ∙ sym a), laid_same sorts ts (k.1 ∙ sym s))
       go (refused n row) e t v = absurd (performed_never (sym t))
+
+  -- by the test of the reply
+  pub kept_unless : is_ok r ≡ false → Writes found sorts ss ts r ss ts
+  kept_unless h = go r refl h
+    where
+      go : (s : Result (Unit {0}) Refusal) → r ≡ s → is_ok s ≡ false → Writes found sorts ss ts r ss ts
+      go (Ok u) e q = absurd (true≢false q)
+      go (Err x) e q = rw e (preview_kept e)
+
+  pub made_where : {ss' : List ℤ} {ts' : List ℕ} → is_ok r ≡ true → ss' ≡ laid us ss → ts' ≡ laid sorts ts → Writes found sorts ss ts r ss' ts'
+  made_where {ss'} {ts'} h p q = go r refl h
+    where
+      go : (s : Result (Unit {0}) Refusal) → r ≡ s → is_ok s ≡ true → Writes found sorts ss ts r ss' ts'
+      go (Ok u) e t = rw e (preview_made e p q)
+      go (Err x) e t = absurd (true≢false (sym t))
 
 -- ---- the copy that is pressed on: the first 65 values
 module _ (zs : List ℤ) {n : ℕ} (is : n ≡ min (length zs) 65) where

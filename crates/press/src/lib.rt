@@ -240,10 +240,12 @@ fn preview_copy(
     ensures types_after { types.new ≡ kept_or (λ zs. sorts.now) types.old (outcome table.now step.now copy.old sorts.now (room_for second.old types.old)) }
 {
     let room = room_of(second.len(), types.len());
-    press_to(table, step, copy, sorts, room)?;
-    copy_list(copy, second);
-    copy_list(sorts, types);
-    Ok(())
+    let reply = press_to(table, step, copy, sorts, room);
+    if reply.is_ok() {
+        copy_list(copy, second);
+        copy_list(sorts, types);
+    }
+    reply
 }
 
 // Writes what pressing would make of the values and the types of a state into second ones. No more than 65 values are copied: so many are no table's.
