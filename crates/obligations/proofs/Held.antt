@@ -31,6 +31,10 @@ module _ (bytes : List ℕ) where
     pub held_length : length (take b.held out) ≡ b.held
     held_length = length-take-le b.held out w.within
 
+    -- what is held ends in the output
+    pub written_within : written_to b ≤ length (output bytes)
+    written_within = omega (arith, w.stands.within, held_length)
+
     pub behind_waits : {ws part : List ℕ} {n : ℕ} → StandsAt bytes (written_to b) ws → length ws ≡ n → b.held + n ≤ length out
         → part ≡ over ws (take (length out - b.held) (drop b.held out))
         → Waits bytes (record { printer = b.printer; held = b.held + n }) (put_mid b.held (length out - b.held) out part)

@@ -18,7 +18,7 @@ use Rattle.rules.specs.Offence.{machine}
 use Rattle.walk.specs.declared.Slot.{Slot}
 use Rattle.walk.specs.Slots.{slot_at, Within, AtEnd, Holds, InWalk, position, SoughtSlot}
 use Rattle.walk.proofs.Find.{walk_count_lem, slot_at_most}
-use Rattle.walk.proofs.Counts.{start_position, passed_end}
+use Rattle.walk.proofs.Counts.{start_within, start_position, passed_end}
 use Rattle.entries.specs.Sequent.{hypothesis_count}
 use Rattle.verdict.proofs.Filled.{accepted_words}
 use Rattle.reply.specs.Printed.{sequent_rows, rows_bytes}
@@ -45,6 +45,10 @@ pub record Turn (bytes words : List ℕ) (n : ℕ) (s : Slot) (at p : ℕ) : Typ
   pub goes_on : {r : Slot} → r ≡ slot_at s.event s.group s.row (s.left + 1) → InWalk (rows_of words) r
   pub next : {r s' : Slot} {at' : ℕ} → r ≡ slot_at s.event s.group s.row (s.left + 1) → SoughtSlot (rows_of words) (position (rows_of words) r) s'
       → at' ≡ at + length (slot_bytes (rows_of words) s) → Walked bytes words n s' at' (p + 1)
+
+-- a search for the first sequent starts in the walk
+pub first_within : (t : Rows) {r : Slot} → r ≡ slot_at 0 0 0 0 → InWalk t r
+first_within t q = inl (subst (Within t) (sym q) (start_within t 0))
 
 -- how many bytes the rows of a slot's sequent are
 pub slot_length : (t : Rows) (s : Slot) → length (slot_bytes t s) ≡ 38 * (3 + hypothesis_count t s)
