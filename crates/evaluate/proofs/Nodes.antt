@@ -17,9 +17,8 @@ use Rattle.machine.proofs.Described.{operand_falls, tree_step}
 use Rattle.answer.specs.Answer.{Answer, answer, right_of as right_answer, operands, unary_answer, binary_answer, division_answer, connective_answer}
 use Rattle.std.specs.Prelude.{Ok, Err}
 use Rattle.std.specs.Result.{IsErrAnd}
-use Rattle.std.proofs.lemmas.Result.{err_from_is_err_and}
 use Rattle.signed.specs.Found.{Found, found_of, answer_of}
-use Rattle.signed.proofs.Answers.{answer_found, found_answer}
+use Rattle.signed.proofs.Answers.{answer_found, found_answer, handed_on}
 use Rattle.signed.specs.declared.Value.{Value}
 use Rattle.signed.specs.declared.Value.TheVariants.{Number, Truth}
 use Rattle.signed.specs.declared.Fault.{Fault}
@@ -54,10 +53,6 @@ right_unread (connective_of o) (Err Outside) e r s = refl
 right_unread (connective_of o) (Err Undefined) e r s = refl
 right_unread unknown l e r s = refl
 
--- the fault that is handed on
-handed_on : {f : Found} {e : Fault} → IsErrAnd f (λ y. y ≡ e) → f ≡ Err e
-handed_on {f} h = let p = err_from_is_err_and f h in p.1 ∙ ap (λ e. Err e) p.2
-
 -- the fault of a left side, and of a right side that is read, is the answer
 left_faulty : (o : Operator) (e : Fault) (r : Answer) → is_leaf o ≡ false → combined o (answer_of (Err e)) r ≡ answer_of (Err e)
 unfolding unary_answer binary_answer division_answer operands connective_answer
@@ -75,10 +70,9 @@ left_faulty (connective_of o) Outside r h = refl
 left_faulty (connective_of o) Undefined r h = refl
 left_faulty unknown e r h = absurd (true≢false h)
 
--- a right side that is read
-read : (o : Connective) (v : AnyValue) → reads_right o (as_truth v) ≡ true → (e : Fault) → right_answer o v (answer_of (Err e)) ≡ answer_of (Err e)
-read o v h Outside = chosen (reads_right o (as_truth v)) _ _ h
-read o v h Undefined = chosen (reads_right o (as_truth v)) _ _ h
+read_faulty : (o : Connective) (v : AnyValue) → reads_right o (as_truth v) ≡ true → (e : Fault) → right_answer o v (answer_of (Err e)) ≡ answer_of (Err e)
+read_faulty o v h Outside = chosen (reads_right o (as_truth v)) _ _ h
+read_faulty o v h Undefined = chosen (reads_right o (as_truth v)) _ _ h
 
 right_faulty : (o : Operator) (v : Value) (e : Fault) → reads_right_of o (Ok v) ≡ true → combined o (answer_of (Ok v)) (answer_of (Err e)) ≡ answer_of (Err e)
 unfolding binary_answer division_answer operands connective_answer
@@ -95,8 +89,8 @@ right_faulty (division_of o) (Number z) Outside h = refl
 right_faulty (division_of o) (Number z) Undefined h = refl
 right_faulty (division_of o) (Truth b) Outside h = refl
 right_faulty (division_of o) (Truth b) Undefined h = refl
-right_faulty (connective_of o) (Number z) e h = read o (number z) h e
-right_faulty (connective_of o) (Truth b) e h = read o (truth b) h e
+right_faulty (connective_of o) (Number z) e h = read_faulty o (number z) h e
+right_faulty (connective_of o) (Truth b) e h = read_faulty o (truth b) h e
 right_faulty unknown v e h = absurd (true≢false (sym h))
 
 module _ {type : ℕ → ValueType} (ρ : Env type) where

@@ -3,7 +3,6 @@ use mathlib.Core.Path.{◌≡◌, refl, sym, ap, ◌∙◌}
 use mathlib.Core.Bool.{Bool, true, false, true≢false}
 use Rattle.std.specs.Prelude.{Ok, Err}
 use Rattle.std.specs.Result.{IsErrAnd}
-use Rattle.std.proofs.lemmas.Result.{err_from_is_err_and}
 use Rattle.lists.specs.Choice.{pick}
 use Rattle.formula.specs.Values.{AnyValue, truth, as_truth}
 use Rattle.formula.specs.Tree.{Unary, bool, Binary, Division, Connective, and, or, implies}
@@ -14,16 +13,13 @@ use Rattle.signed.specs.declared.Value.{Value}
 use Rattle.signed.specs.declared.Value.TheVariants.{Number, Truth}
 use Rattle.signed.specs.declared.Fault.{Fault}
 use Rattle.signed.specs.declared.Fault.TheVariants.{Outside, Undefined}
+use Rattle.signed.proofs.Answers.{handed_on}
 use Rattle.operands.specs.Operands.{value_of}
 
 -- a truth value is in range
 truth_within : (b : Bool) → Ok (Truth b) ≡ found_of (within (truth b))
 unfolding within
 truth_within b = refl
-
--- the fault that is handed on
-handed_on : {k : Found} {e : Fault} → IsErrAnd k (λ y. y ≡ e) → k ≡ Err e
-handed_on {k} h = let p = err_from_is_err_and k h in p.1 ∙ ap (λ e. Err e) p.2
 
 -- ---- two operands
 module _ (defined : AnyValue → AnyValue → Bool) (f : AnyValue → AnyValue → AnyValue) where

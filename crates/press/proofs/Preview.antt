@@ -9,7 +9,7 @@ use lib.Dec.{ltb, eqb, eqb→eq}
 use lib.IntN.{ℤ, pos}
 use lib.ListN.{length, take, drop, replicate, length-replicate}
 use lib.Seq.{take_all, take_at, length-take-le}
-use Rattle.std.specs.Prelude.{Result, Ok, Err, is_ok}
+use Rattle.std.specs.Prelude.{Result, is_ok}
 use Rattle.lists.specs.Choice.{pick}
 use Rattle.formula.proofs.Truth.{true_test}
 use Rattle.rules.specs.declared.Refusal.{Refusal}
@@ -17,7 +17,6 @@ use Rattle.bench.specs.State.{laid}
 use Rattle.bench.specs.Press.{Outcome, made, refused, reply_of, kept_or, outcome}
 use Rattle.bench.proofs.State.{laid_size, laid_same}
 use Rattle.bench.proofs.Lengths.{outcome_length, outcome_long}
-use Rattle.bench.proofs.Exact.{performed_never}
 use Rattle.press.specs.Numbers.{room_for}
 
 -- there is room for at most 64 records only in lists of that length
@@ -48,42 +47,27 @@ module _ (table step : List ℕ) (copy : List ℤ) (sorts : List ℕ) (ss : List
   same : outcome table step copy sorts room ≡ found
   same = ap (outcome table step copy sorts) is
 
-  replied : {s : Result (Unit {0}) Refusal} → r ≡ s → s ≡ reply_of found
-  replied h = sym h ∙ reply ∙ ap reply_of same
+  replied : r ≡ reply_of found
+  replied = reply ∙ ap reply_of same
 
-  pub preview_kept : {x : Refusal} → r ≡ Err x → Writes found sorts ss ts (Err x) ss ts
-  preview_kept {x} h = (replied h, go found (replied h))
+  pub preview_kept : is_ok r ≡ false → Writes found sorts ss ts r ss ts
+  preview_kept h = (replied, go found (sym (ap is_ok replied) ∙ h))
     where
-      go : (o : Outcome) → Err x ≡ reply_of o → (ss ≡ kept_or (λ zs. zs) ss o) × (ts ≡ kept_or (λ zs. sorts) ts o)
-      go (made zs) q = absurd (performed_never q)
+      go : (o : Outcome) → is_ok (reply_of o) ≡ false → (ss ≡ kept_or (λ zs. zs) ss o) × (ts ≡ kept_or (λ zs. sorts) ts o)
+      go (made zs) q = absurd (true≢false q)
       go (refused n row) q = (refl, refl)
 
-  pub preview_made : {ss' : List ℤ} {ts' : List ℕ} → r ≡ Ok tt → ss' ≡ laid us ss → ts' ≡ laid sorts ts → Writes found sorts ss ts (Ok tt) ss' ts'
+  pub preview_made : {ss' : List ℤ} {ts' : List ℕ} → is_ok r ≡ true → ss' ≡ laid us ss → ts' ≡ laid sorts ts → Writes found sorts ss ts r ss' ts'
   preview_made {ss'} {ts'} h p q =
-      let w = go found refl (replied h) (values ∙ ap (kept_or (λ zs. zs) copy) same) in
-      (replied h, (p ∙ w.0, q ∙ w.1))
+      let w = go found refl (sym (ap is_ok replied) ∙ h) (values ∙ ap (kept_or (λ zs. zs) copy) same) in
+      (replied, (p ∙ w.0, q ∙ w.1))
     where
-      go : (o : Outcome) → found ≡ o → Ok tt ≡ reply_of o → us ≡ kept_or (λ zs. zs) copy o → (laid us ss ≡ kept_or (λ zs. zs) ss o) × (laid sorts ts ≡ kept_or (λ zs. sorts) ts o)
+      go : (o : Outcome) → found ≡ o → is_ok (reply_of o) ≡ true → us ≡ kept_or (λ zs. zs) copy o → (laid us ss ≡ kept_or (λ zs. zs) ss o) × (laid sorts ts ≡ kept_or (λ zs. sorts) ts o)
       go (made zs) e t v =
           let (a, s, m, few) = outcome_length table step copy sorts (room_for ss ts) zs e in
           let k = room_says ss ts (length copy) m few in
           (ap (λ us. laid us ss) v ∙ laid_same zs ss (k.0 ∙ sym a), laid_same sorts ts (k.1 ∙ sym s))
-      go (refused n row) e t v = absurd (performed_never (sym t))
-
-  -- by the test of the reply
-  pub kept_unless : is_ok r ≡ false → Writes found sorts ss ts r ss ts
-  kept_unless h = go r refl h
-    where
-      go : (s : Result (Unit {0}) Refusal) → r ≡ s → is_ok s ≡ false → Writes found sorts ss ts r ss ts
-      go (Ok u) e q = absurd (true≢false q)
-      go (Err x) e q = rw e (preview_kept e)
-
-  pub made_where : {ss' : List ℤ} {ts' : List ℕ} → is_ok r ≡ true → ss' ≡ laid us ss → ts' ≡ laid sorts ts → Writes found sorts ss ts r ss' ts'
-  made_where {ss'} {ts'} h p q = go r refl h
-    where
-      go : (s : Result (Unit {0}) Refusal) → r ≡ s → is_ok s ≡ true → Writes found sorts ss ts r ss' ts'
-      go (Ok u) e t = rw e (preview_made e p q)
-      go (Err x) e t = absurd (true≢false (sym t))
+      go (refused n row) e t v = absurd (true≢false (sym t))
 
 -- ---- the copy that is pressed on: the first 65 values
 module _ (zs : List ℤ) {n : ℕ} (is : n ≡ min (length zs) 65) where
